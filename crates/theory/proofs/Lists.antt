@@ -1,0 +1,106 @@
+-- Laws of `over`, `some`, `first`, `count`; and of a loop that stores from the front. Assumes nothing.
+use mathlib.Core.Path.{_≡_, refl, sym, ap, _∙_, subst}
+use mathlib.Core.Bool.{Bool, true, false, cond, true≢false}
+use mathlib.Core.Logic.{⊎-elim}
+use mathlib.Core.List.{List, [], _∷_, _++_, append-assoc}
+use Prim.Native.Nat.{ℕ, zero, suc, _+_, _-_, _≤_, _<_, zero-le}
+use native.Mathlib.Nat.{eq-or-lt-of-le, lt-irrefl, le-refl, not-suc-le-zero, le-of-suc-le-suc}
+use native.Mathlib.Numerals.{add-one}
+use native.Mathlib.Omega.{arith}
+use lib.ListN.{length, take, drop, getD, set, length-append, length-drop}
+use lib.Seq.{drop-cons, set-at, getD-set-same, getD-set-other}
+use Rattle.theory.specs.Lists.{over, count, some, first}
+
+-- ---- over
+
+pub over-more : {A : Type 0} (d vs : List A) (z : A) (n : ℕ) (v : A) → length vs ≡ n → n < length d → set (over d vs) n v ≡ over d (vs ++ (v ∷ []))
+over-more d vs z n v e h =
+    let k : length vs < length d = omega arith in
+    let m : length (vs ++ (v ∷ [])) ≡ suc (length vs) = length-append vs (v ∷ []) ∙ add-one (length vs) in
+    rw (drop-cons d (length vs) z k, set-at vs _ (drop (suc (length vs)) d) v n e, m) (sym (append-assoc vs (v ∷ []) (drop (suc (length vs)) d)))
+
+pub over-length : {A : Type 0} (d vs : List A) → length vs ≤ length d → length (over d vs) ≡ length d
+over-length d vs h = omega (arith, length-append vs (drop (length vs) d), length-drop (length vs) d)
+
+-- ---- count
+
+pub count-length : (a n : ℕ) → length (count a n) ≡ n
+count-length a zero = refl
+count-length a (suc n) = ap suc (count-length (suc a) n)
+
+pub count-at : (a n i d : ℕ) → i < n → getD (count a n) i d ≡ a + i
+count-at a zero i d h = absurd (not-suc-le-zero h)
+count-at a (suc n) zero d h = omega arith
+count-at a (suc n) (suc i) d h = omega (arith, count-at (suc a) n i d (le-of-suc-le-suc h))
+
+-- ---- some and first
+
+module _ {A : Type 0} (test : A → Bool) where
+  pub first-le : (xs : List A) → first test xs ≤ length xs
+  first-le [] = le-refl 0
+  first-le (x ∷ xs) = step (test x) (first-le xs)
+    where
+      step : (b : Bool) → first test xs ≤ length xs → cond b 0 (suc (first test xs)) ≤ suc (length xs)
+      step true h = zero-le
+      step false h = omega arith
+
+  -- some entry passes exactly where the first that passes is within the list
+  pub some-first : (xs : List A) → some test xs ≡ true → first test xs < length xs
+  some-first [] e = absurd (true≢false (sym e))
+  some-first (x ∷ xs) e = step (test x) e (some-first xs)
+    where
+      step : (b : Bool) → cond b true (some test xs) ≡ true → (some test xs ≡ true → first test xs < length xs) → cond b 0 (suc (first test xs)) < suc (length xs)
+      step true k ih = omega arith
+      step false k ih = omega (arith, ih k)
+
+  -- none before it passes
+  pub first-before : (xs : List A) (d : A) (i : ℕ) → i < first test xs → test (getD xs i d) ≡ false
+  first-before [] d i h = absurd (not-suc-le-zero h)
+  first-before (x ∷ xs) d i h = step (test x) refl i h (first-before xs d)
+    where
+      step : (b : Bool) → test x ≡ b → (i : ℕ) → i < cond b 0 (suc (first test xs)) → ((k : ℕ) → k < first test xs → test (getD xs k d) ≡ false) → test (getD (x ∷ xs) i d) ≡ false
+      step true e i k ih = absurd (not-suc-le-zero k)
+      step false e zero k ih = e
+      step false e (suc i) k ih = ih i (le-of-suc-le-suc k)
+
+  -- it passes itself
+  pub first-there : (xs : List A) (d : A) → first test xs < length xs → test (getD xs (first test xs) d) ≡ true
+  first-there [] d h = absurd (not-suc-le-zero h)
+  first-there (x ∷ xs) d h = step (test x) refl h (first-there xs d)
+    where
+      step : (b : Bool) → test x ≡ b → cond b 0 (suc (first test xs)) < suc (length xs) → (first test xs < length xs → test (getD xs (first test xs) d) ≡ true)
+          → test (getD (x ∷ xs) (cond b 0 (suc (first test xs))) d) ≡ true
+      step true e k ih = e
+      step false e k ih = ih (le-of-suc-le-suc k)
+
+  -- no entry passes
+  pub some-none : (xs : List A) (d : A) → some test xs ≡ false → (i : ℕ) → i < length xs → test (getD xs i d) ≡ false
+  some-none [] d e i h = absurd (not-suc-le-zero h)
+  some-none (x ∷ xs) d e i h = step (test x) refl e i h (some-none xs d)
+    where
+      step : (b : Bool) → test x ≡ b → cond b true (some test xs) ≡ false → (i : ℕ) → i < suc (length xs) → (some test xs ≡ false → (k : ℕ) → k < length xs → test (getD xs k d) ≡ false)
+          → test (getD (x ∷ xs) i d) ≡ false
+      step true e k i h ih = absurd (true≢false k)
+      step false e k zero h ih = e
+      step false e k (suc i) h ih = ih k i (le-of-suc-le-suc h)
+
+  -- an entry that passes
+  pub some-at : (xs : List A) (d : A) (i : ℕ) → i < length xs → test (getD xs i d) ≡ true → some test xs ≡ true
+  some-at [] d i h e = absurd (not-suc-le-zero h)
+  some-at (x ∷ xs) d zero h e = rw e
+  some-at (x ∷ xs) d (suc i) h e = step (test x) (some-at xs d i (le-of-suc-le-suc h) e)
+    where
+      step : (b : Bool) → some test xs ≡ true → cond b true (some test xs) ≡ true
+      step true k = refl
+      step false k = k
+
+-- ---- a loop that stores from the front: what holds of each entry stored
+
+module _ {A : Type 0} (P : ℕ → A → Type 0) (l : List A) (i : ℕ) (v d : A) where
+  pub stored-more : ((k : ℕ) → k < i → P k (getD l k d)) → i < length l → P i v → (k : ℕ) → k < i + 1 → P k (getD (set l i v) k d)
+  stored-more all h here k lt =
+      let m : k ≤ i = omega arith in
+      ⊎-elim
+      (λ e. subst (λ (n : ℕ). P n (getD (set l i v) n d)) (sym e) (subst (P i) (sym (getD-set-same l i v d h)) here))
+      (λ n. subst (P k) (sym (getD-set-other l i k v d (λ e. lt-irrefl i (subst (λ (x : ℕ). x < i) e n)))) (all k n))
+      (eq-or-lt-of-le m)

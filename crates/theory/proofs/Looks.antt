@@ -1,0 +1,34 @@
+-- The looks of a page: with the looks of what is left they are those of the whole list, and a bound on each look bounds
+-- them all. Assumes nothing.
+use mathlib.Core.Path.{_≡_, refl, sym, ap, _∙_}
+use mathlib.Core.Bool.{Bool, true, false, cond}
+use mathlib.Core.List.{List, [], _∷_, _++_, map}
+use Prim.Native.Nat.{ℕ, zero, suc, _+_, _*_, _≤_, _<_, zero-le}
+use native.Mathlib.Nat.{zero-add, suc-mul}
+use native.Mathlib.Omega.{arith}
+use lib.ListN.{length}
+use Rattle.theory.specs.Lists.{sum}
+use Rattle.theory.specs.Pages.{pageLooks, rest}
+
+module _ {A : Type 0} (hit : A → Bool) (looks : A → ℕ) where
+  -- a page and what is left after it take the looks of the whole
+  pub looks-split : (r : ℕ) (xs : List A) → pageLooks hit looks r xs + sum (map looks (rest hit r xs)) ≡ sum (map looks xs)
+  looks-split zero xs = zero-add _
+  looks-split (suc r) [] = refl
+  looks-split (suc r) (x ∷ xs) = step (hit x) (looks-split r xs) (looks-split (suc r) xs)
+    where
+      step : (b : Bool) → pageLooks hit looks r xs + sum (map looks (rest hit r xs)) ≡ sum (map looks xs)
+          → pageLooks hit looks (suc r) xs + sum (map looks (rest hit (suc r) xs)) ≡ sum (map looks xs)
+          → looks x + cond b (pageLooks hit looks r xs) (pageLooks hit looks (suc r) xs) + sum (map looks (cond b (rest hit r xs) (rest hit (suc r) xs)))
+          ≡ looks x + sum (map looks xs)
+      step true p q = omega arith
+      step false p q = omega arith
+
+-- looks of at most b each
+pub sum-le : {A : Type 0} (looks : A → ℕ) (b : ℕ) → ((x : A) → looks x ≤ b) → (xs : List A) → sum (map looks xs) ≤ length xs * b
+sum-le looks b f [] = zero-le
+sum-le looks b f (x ∷ xs) = omega (arith, f x, sum-le looks b f xs, suc-mul (length xs) b)
+
+pub sum-append : {A : Type 0} (looks : A → ℕ) (xs ys : List A) → sum (map looks (xs ++ ys)) ≡ sum (map looks xs) + sum (map looks ys)
+sum-append looks [] ys = sym (zero-add _)
+sum-append looks (x ∷ xs) ys = omega (arith, sum-append looks xs ys)

@@ -1,0 +1,58 @@
+-- A number with a sign and its code, which is its bias more, as 127 more: at any bias, and read from any width.
+-- Assumes nothing.
+use mathlib.Core.Path.{_≡_, refl, sym, ap, _∙_, subst}
+use mathlib.Core.Bool.{Bool, true, false, cond}
+use Prim.Native.Nat.{ℕ, zero, suc, _+_, _-_, _^_, _≤_, _<_}
+use native.Mathlib.Omega.{arith}
+use lib.Dec.{ltb, leb→le}
+use lib.IntN.{ℤ, pos, negsuc, subℕ, _+ℤ_, _-ℤ_, +ℤ-negℤ-cancel}
+use lib.Signed.{mag, _≤ℤ_}
+use borrow.Author.Tests.{ltb-true, ltb-false, le-ltb}
+use mir.Syntax.{Width}
+use mir.Val.{SFits, toZ, ofZ, hbits}
+use mir.Facts.{toZ-ofZ, toZ-pos}
+
+-- ---- a difference of two naturals
+
+mag-cond : (t : Bool) (p q H : ℕ) → (t ≡ true → p < H) → (t ≡ false → q < H) → mag (cond t (negsuc p) (pos q)) < H
+mag-cond true p q H f g = f refl
+mag-cond false p q H f g = g refl
+
+-- its size is below a bound that both keep
+pub mag-sub : (a b H : ℕ) → a < H → b ≤ H → mag (subℕ a b) < H
+mag-sub a b H h k =
+    mag-cond (ltb a b) (b - suc a) (a - b) H
+    (λ e. let l : a < b = ltb-true a b e in omega arith) (λ e. omega arith)
+
+pub sub-pos : (a b : ℕ) → b ≤ a → subℕ a b ≡ pos (a - b)
+sub-pos a b h = ap (λ (t : Bool). cond t (negsuc (b - suc a)) (pos (a - b))) (le-ltb a b h)
+
+-- ---- the code of a number
+
+-- n is the code of z at the bias b
+pub record Coded (b : ℕ) (z : ℤ) (n : ℕ) : Type 0 where
+  pub up : z +ℤ pos b ≡ pos n
+  pub down : z ≡ pos n -ℤ pos b
+
+coded : (b : ℕ) (z : ℤ) (n : ℕ) → z +ℤ pos b ≡ pos n → Coded b z n
+coded b z n e = record { up = e; down = sym (+ℤ-negℤ-cancel z (pos b)) ∙ ap (λ (y : ℤ). y -ℤ pos b) e }
+
+-- from -(b + 1) to h there is a code at the bias b + 1, of at most h + b + 1
+pub code : (b h : ℕ) (z : ℤ) → negsuc b ≤ℤ z → z ≤ℤ pos h → (n : ℕ) × (n ≤ h + suc b) × Coded (suc b) z n
+code b h (pos a) lo hi = (a + suc b, (let l : a ≤ h = leb→le a h (hi .le) in omega arith), coded (suc b) (pos a) (a + suc b) refl)
+code b h (negsuc a) lo hi =
+    let l : a ≤ b = leb→le a b (lo .le) in
+    (suc b - suc a, omega arith, coded (suc b) (negsuc a) (suc b - suc a) (sub-pos (suc b) (suc a) (omega arith)))
+
+-- ---- what the machine computes: `x + k` reads and writes the bits
+
+pub add-read : (w : Width) (z k : ℤ) → SFits w z → SFits w (z +ℤ k) → toZ w (ofZ w (toZ w (ofZ w z) +ℤ k)) ≡ z +ℤ k
+add-read w z k f g = ap (λ (y : ℤ). toZ w (ofZ w (y +ℤ k))) (toZ-ofZ f) ∙ toZ-ofZ g
+
+-- `(n as i16) - (b + 1)`
+pub sub-fits : (w : Width) (n b : ℕ) → n < 2 ^ hbits w → b < 2 ^ hbits w → SFits w (toZ w n -ℤ pos (suc b))
+sub-fits w n b h k =
+    subst (λ (y : ℤ). SFits w (y -ℤ pos (suc b))) (sym (toZ-pos w h)) (record { sfits = mag-sub n (suc b) (2 ^ hbits w) h k })
+
+pub sub-read : (w : Width) (n b : ℕ) → n < 2 ^ hbits w → b < 2 ^ hbits w → toZ w (ofZ w (toZ w n -ℤ pos (suc b))) ≡ pos n -ℤ pos (suc b)
+sub-read w n b h k = toZ-ofZ (sub-fits w n b h k) ∙ ap (λ (y : ℤ). y -ℤ pos (suc b)) (toZ-pos w h)

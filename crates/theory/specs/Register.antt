@@ -1,0 +1,12 @@
+-- The register of w bits that a filter runs: over any width, and any words. Assumes nothing.
+use Prim.Native.Nat.{ℕ, zero, suc, _+_, _-_, _%_, _^_}
+use lib.Bits.{bitOr}
+
+-- one word more: doubled with its top bit lost, then or-ed with the word
+unfoldable pub step : (w register word : ℕ) → ℕ
+step w register word = bitOr ((register + register) % 2 ^ w) word
+
+-- the register after the first n words, from all ones
+unfoldable pub register : (w : ℕ) (word : ℕ → ℕ) → ℕ → ℕ
+register w word zero = 2 ^ w - 1
+register w word (suc n) = step w (register w word n) (word n)
