@@ -157,6 +157,7 @@ bit-ext (suc w) a b ha hb h =
 
 module _ where
   pub bit-number : (w : ℕ) (f : ℕ → ℕ) → ((q : ℕ) → f q < 2) → (q : ℕ) → q < w → bit (number w f) q ≡ f q
+  unfolding number
   bit-number zero f b q h = absurd (not-suc-le-zero h)
   bit-number (suc w) f b zero h =
       bit-zero (f 0 + 2 * number w (λ q. f (suc q))) ∙ omega (arith, b 0)
@@ -166,6 +167,7 @@ module _ where
       ∙ bit-number w (λ q. f (suc q)) (λ q. b (suc q)) q (le-of-suc-le-suc h)
 
   pub number-lt : (w : ℕ) (f : ℕ → ℕ) → ((q : ℕ) → f q < 2) → number w f < 2 ^ w
+  unfolding number
   number-lt zero f b = zero-lt-suc 0
   number-lt (suc w) f b = rw pow-suc (omega (arith, b 0, number-lt w (λ q. f (suc q)) (λ q. b (suc q))))
 

@@ -6,6 +6,6 @@ unfoldable pub bit : ℕ → ℕ → ℕ
 bit x q = x / 2 ^ q % 2
 
 -- the number of w bits whose bit q is f q
-abbrev pub number : ℕ → (ℕ → ℕ) → ℕ
+unfoldable pub number : ℕ → (ℕ → ℕ) → ℕ
 number zero f = 0
 number (suc w) f = f 0 + 2 * number w (λ q. f (suc q))

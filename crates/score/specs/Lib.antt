@@ -1,0 +1,5 @@
+-- A score, what is prepared of it and what is turned away: in reading order.
+pub mod Score
+pub mod Sets
+pub mod Refusals
+pub mod Preparing

@@ -1,0 +1,26 @@
+-- Preparation: the whole answer, and what the lent sets hold afterwards. Refusals 1, 2, 3, 6, in this order; an accepted
+-- preparation fills all n - 1 sets, a refused one writes nothing. Assumes nothing.
+use mathlib.Core.Path.{_≡_}
+use mathlib.Core.List.{List, [], _∷_}
+use Prim.Native.Nat.{ℕ}
+use Rattle.score.specs.declared.sets.Preparation.{Preparation}
+use Rattle.score.specs.declared.sets.Preparation.the-variants.{Prepared, Refused}
+use Rattle.score.specs.Score.{scoreOf}
+use Rattle.score.specs.Sets.{sets}
+use Rattle.score.specs.Refusals.{judge, row1, row2, row3, row6}
+
+-- the answer, and the lent sets after the call
+pub record Filled : Type 0 where
+  pub answer : Preparation
+  pub sets : List ℕ
+
+abbrev pub prepared : (cells : List ℕ) (h : ℕ) (lent : List ℕ) → Filled
+prepared cells h lent =
+    judge (row1 h ∷ row2 cells h ∷ row3 cells ∷ row6 cells h lent ∷ [])
+    (λ r. record { answer = Refused r; sets = lent })
+    (record { answer = Prepared; sets = sets (scoreOf cells h) })
+
+-- what the call promises: this answer, and these sets
+pub record Prepares (cells : List ℕ) (h : ℕ) (lent : List ℕ) (answer : Preparation) (after : List ℕ) : Type 0 where
+  pub answers : answer ≡ prepared cells h lent .answer
+  pub fills : after ≡ prepared cells h lent .sets

@@ -1,0 +1,49 @@
+-- What is turned away: the table of refusals, row by row, with the rows of this crate (1 to 3, 6 and 7). A call names its
+-- rows in order, and the first that applies is given, with its number and its place. Assumes nothing.
+use mathlib.Core.Bool.{Bool, cond, not, _&&_, _||_}
+use mathlib.Core.List.{List, [], _∷_}
+use Prim.Native.Nat.{ℕ, _-_, _%_}
+use lib.Dec.{leb, ltb, eqb}
+use lib.ListN.{length}
+use Rattle.theory.specs.Lists.{some, first}
+use Rattle.score.specs.declared.refusals.Refusal.{Refusal}
+use Rattle.score.specs.Score.{columnsIn}
+
+-- a row: whether its condition holds, and what is then given
+pub record Row : Type 0 where
+  pub applies : Bool
+  pub given : Refusal
+
+abbrev pub row : (number : ℕ) → Bool → (place : ℕ) → Row
+row number applies place = record { applies = applies; given = record { number = number; place = place } }
+
+-- the first row that applies; none: accepted
+abbrev pub judge : {A : Type 0} → List Row → (Refusal → A) → A → A
+judge [] refused accepted = accepted
+judge (r ∷ rows) refused accepted = cond (r .applies) (refused (r .given)) (judge rows refused accepted)
+
+-- 1: h is 0 or over 16
+abbrev pub row1 : (h : ℕ) → Row
+row1 h = row 1 (eqb h 0 || ltb 16 h) 0
+
+-- 2: cells aren't a multiple of h, or n is 0 or over 2,048
+abbrev pub row2 : (cells : List ℕ) (h : ℕ) → Row
+row2 cells h = row 2 (not (eqb (length cells % h) 0) || eqb (columnsIn cells h) 0 || ltb 2048 (columnsIn cells h)) 0
+
+-- 3: a cell is 128 to 254; the first such cell, from 0
+abbrev pub badCell : ℕ → Bool
+badCell cell = leb 128 cell && leb cell 254
+
+abbrev pub row3 : (cells : List ℕ) → Row
+row3 cells = row 3 (some badCell cells) (first badCell cells)
+
+-- 6: sets buffer isn't n - 1 long
+abbrev pub row6 : (cells : List ℕ) (h : ℕ) (sets : List ℕ) → Row
+row6 cells h sets = row 6 (not (eqb (length sets) (columnsIn cells h - 1))) 0
+
+-- 7: a lent set is over 4095; the first such, from 0
+abbrev pub badSet : ℕ → Bool
+badSet set = ltb 4095 set
+
+abbrev pub row7 : (sets : List ℕ) → Row
+row7 sets = row 7 (some badSet sets) (first badSet sets)
