@@ -1,0 +1,109 @@
+-- The whole answer of a page call, and what every lent buffer holds afterwards: `plainPage` and `quickPage`.
+-- A refused call writes nothing. Assumes nothing.
+use mathlib.Core.Path.{_≡_}
+use mathlib.Core.Bool.{Bool, cond, not}
+use mathlib.Core.List.{List, [], _∷_, map}
+use Prim.Native.Nat.{ℕ, _+_}
+use lib.Dec.{leb}
+use lib.IntN.{ℤ}
+use lib.ListN.{length}
+use Rattle.theory.specs.Lists.{over, last}
+use Rattle.theory.specs.Pages.{hits, pageHits, pageLooks, from}
+use Rattle.score.specs.Score.{columnAt, columnsIn, scoreOf}
+use Rattle.score.specs.Refusals.{judge, row1, row2, row3, row6, row7}
+use Rattle.search.specs.declared.way.Way.{Way}
+use Rattle.search.specs.declared.bookmark.Bookmark.{Bookmark}
+use Rattle.search.specs.declared.page.Turn.{Turn}
+use Rattle.search.specs.declared.page.Page.{Page}
+use Rattle.search.specs.declared.page.Page.the-variants.{Turned, Refused}
+use Rattle.search.specs.Way.{shiftOf}
+use Rattle.search.specs.Starts.{Place, place, key, starts, hit, looks}
+use Rattle.search.specs.Pairs.{pairAt}
+use Rattle.search.specs.Candidates.{themeTable, candidate}
+use Rattle.search.specs.Bookmarks.{firstBookmark, afterPair, finishedBookmark, keyOf}
+use Rattle.search.specs.Refusals.{row4, row5, row8, row9, row10}
+
+-- a call's answer, and the two lent buffers of pairs after it
+pub record Leaf : Type 0 where
+  pub answer : Page
+  pub columns : List ℕ
+  pub shifts : List ℤ
+
+-- the columns and the shifts of places, as the buffers hold them
+abbrev pub columnsOf : List Place → List ℕ
+columnsOf places = map (λ s. s .column) places
+
+abbrev pub shiftsOf : Way → List Place → List ℤ
+shiftsOf way places = map (λ s. shiftOf way (s .code)) places
+
+-- the answer, where these places were written, in room r, with these looks: if r were written, it goes on after the last
+-- of them; otherwise it is finished
+abbrev pub turn : Way → (n r : ℕ) → List Place → (looks : ℕ) → Turn
+turn way n r places looks =
+    record {
+      written = length places;
+      next = cond (leb r (length places)) (afterPair (pairAt way (last (place 0 0) places))) (finishedBookmark way (columnAt n));
+      finished = not (leb r (length places));
+      looks = looks;
+    }
+
+-- the page of a search that reaches these starts
+module _ (way : Way) (score : List (List ℕ)) (theme : List ℕ) (reached : List Place) (b : Bookmark) (columns : List ℕ) (shifts : List ℤ) where
+  -- the first r pairs at or after the bookmark, and the looks of every start up to the one that fills the page
+  abbrev pub found : List Place
+  found = pageHits (hit way score theme) (length columns) (from key (keyOf way b) reached)
+
+  abbrev pub spent : ℕ
+  spent = pageLooks (hit way score theme) (looks way score theme) (length columns) (from key (keyOf way b) reached)
+
+  -- written from the front; places behind keep their contents
+  abbrev pub leaf : Leaf
+  leaf =
+      record {
+        answer = Turned (turn way (length score) (length columns) found spent);
+        columns = over columns (columnsOf found);
+        shifts = over shifts (shiftsOf way found);
+      }
+
+-- the plain way reaches every start: refusals 1 to 5, 9, 10
+unfoldable pub plainPage : (cells : List ℕ) (h : ℕ) (theme : List ℕ) → Way → Bookmark → (columns : List ℕ) (shifts : List ℤ) → Leaf
+plainPage cells h theme way b columns shifts =
+    judge (row1 h ∷ row2 cells h ∷ row3 cells ∷ row4 theme ∷ row5 theme ∷ row9 columns shifts ∷ row10 way (columnsIn cells h) b ∷ [])
+    (λ r. record { answer = Refused r; columns = columns; shifts = shifts })
+    (leaf way (scoreOf cells h) theme (starts way (scoreOf cells h) theme) b columns shifts)
+
+-- the starts at the columns that a table and sets make candidates
+unfoldable pub quickStarts : Way → (score : List (List ℕ)) (theme table sets : List ℕ) → List Place
+quickStarts way score theme table sets = hits (λ s. candidate table sets (length theme) (s .column)) (starts way score theme)
+
+-- a quick call leaves a theme table, too
+pub record QuickLeaf : Type 0 where
+  pub leaf : Leaf
+  pub table : List ℕ
+
+-- the quick way reaches the starts at candidates: refusals 1 to 10; an accepted call leaves the theme's table
+unfoldable pub quickPage : (cells : List ℕ) (h : ℕ) (theme : List ℕ) → Way → Bookmark → (sets table columns : List ℕ) (shifts : List ℤ) → QuickLeaf
+quickPage cells h theme way b sets table columns shifts =
+    judge
+    (row1 h ∷ row2 cells h ∷ row3 cells ∷ row4 theme ∷ row5 theme ∷ row6 cells h sets ∷ row7 sets ∷ row8 table ∷ row9 columns shifts
+    ∷ row10 way (columnsIn cells h) b ∷ [])
+    (λ r. record { leaf = record { answer = Refused r; columns = columns; shifts = shifts }; table = table })
+    (record {
+      leaf = leaf way (scoreOf cells h) theme (quickStarts way (scoreOf cells h) theme (themeTable theme) sets) b columns shifts;
+      table = themeTable theme;
+    })
+
+-- what a plain call promises
+pub record PlainPages (cells : List ℕ) (h : ℕ) (theme : List ℕ) (way : Way) (b : Bookmark) (columns : List ℕ) (shifts : List ℤ)
+    (answer : Page) (columns′ : List ℕ) (shifts′ : List ℤ) : Type 0 where
+  pub answers : answer ≡ plainPage cells h theme way b columns shifts .answer
+  pub writes-columns : columns′ ≡ plainPage cells h theme way b columns shifts .columns
+  pub writes-shifts : shifts′ ≡ plainPage cells h theme way b columns shifts .shifts
+
+-- what a quick call promises
+pub record QuickPages (cells : List ℕ) (h : ℕ) (theme : List ℕ) (way : Way) (b : Bookmark) (sets table columns : List ℕ) (shifts : List ℤ)
+    (answer : Page) (table′ columns′ : List ℕ) (shifts′ : List ℤ) : Type 0 where
+  pub answers : answer ≡ quickPage cells h theme way b sets table columns shifts .leaf .answer
+  pub fills-table : table′ ≡ quickPage cells h theme way b sets table columns shifts .table
+  pub writes-columns : columns′ ≡ quickPage cells h theme way b sets table columns shifts .leaf .columns
+  pub writes-shifts : shifts′ ≡ quickPage cells h theme way b sets table columns shifts .leaf .shifts

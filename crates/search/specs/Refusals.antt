@@ -1,0 +1,40 @@
+-- The rows of the table of refusals that a search adds: 4, 5, 8, 9, 10. Rows 1 to 3, 6 and 7 are the score's.
+-- Assumes nothing.
+use mathlib.Core.Bool.{Bool, not, _||_}
+use mathlib.Core.List.{List}
+use Prim.Native.Nat.{ℕ, _+_}
+use lib.Dec.{ltb, eqb}
+use lib.IntN.{ℤ, pos, _+ℤ_}
+use lib.ListN.{length}
+use lib.Signed.{ltZ}
+use Rattle.theory.specs.Lists.{some, first}
+use Rattle.score.specs.Refusals.{Row, row}
+use Rattle.search.specs.declared.way.Way.{Way}
+use Rattle.search.specs.declared.bookmark.Bookmark.{Bookmark}
+use Rattle.search.specs.Way.{lowest, highest}
+
+-- 4: theme under 2 or over 32 notes
+abbrev pub row4 : (theme : List ℕ) → Row
+row4 theme = row 4 (ltb (length theme) 2 || ltb 32 (length theme)) 0
+
+-- 5: a theme byte over 127; the first such, from 0
+abbrev pub badNote : ℕ → Bool
+badNote p = ltb 127 p
+
+abbrev pub row5 : (theme : List ℕ) → Row
+row5 theme = row 5 (some badNote theme) (first badNote theme)
+
+-- 8: theme table isn't 4,096 long
+abbrev pub row8 : (table : List ℕ) → Row
+row8 table = row 8 (not (eqb (length table) 4096)) 0
+
+-- 9: r is 0, or the two buffers differ in length
+abbrev pub row9 : (columns : List ℕ) (shifts : List ℤ) → Row
+row9 columns shifts = row 9 (eqb (length columns) 0 || not (eqb (length shifts) (length columns))) 0
+
+-- 10: bookmark column 0 or over n + 1, or shift outside -127..128 (octave 0..12)
+abbrev pub row10 : Way → (n : ℕ) → Bookmark → Row
+row10 way n b =
+    row 10
+    (eqb (b .column .0) 0 || ltb (n + 1) (b .column .0) || ltZ (b .shift) (lowest way) || ltZ (highest way +ℤ pos 1) (b .shift))
+    0

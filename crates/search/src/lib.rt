@@ -1,0 +1,18 @@
+// From a theme to a page of pairs.
+//
+// A `way` says when a column holds a note; a found place is a pair, and a `bookmark` the first pair to consider. `starts`
+// are the places whose first note is present. The `table` has a word for each set and the `register` a step for each
+// column, which makes candidates. A `page` is what a call writes and answers.
+
+mod bookmark;
+mod page;
+mod register;
+mod starts;
+mod table;
+mod way;
+
+pub use bookmark::Bookmark;
+pub use bookmark::Pair;
+pub use page::Page;
+pub use page::Turn;
+pub use way::Way;

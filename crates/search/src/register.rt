@@ -1,0 +1,1 @@
+// The filter register: a step for each set, and the next candidate.
