@@ -1,1 +1,2 @@
--- Laws of this crate's definitions.
+-- Laws of this crate's definitions, and the theorems that the contracts stand for.
+pub mod Worked
