@@ -1,1 +1,2 @@
 -- Laws of this crate's definitions.
+pub mod LookBound
