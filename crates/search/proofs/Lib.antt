@@ -2,3 +2,4 @@
 pub mod Worked
 -- Laws of this crate's definitions.
 pub mod Order
+pub mod LookBound

@@ -1,14 +1,15 @@
--- The looks of a page: with the looks of what is left they are those of the whole list, and a bound on each look bounds
--- them all. Assumes nothing.
+-- The looks of a page: with the looks of what is left they are those of the whole list, a bound on each look bounds
+-- them all, and a part of the list takes no more than the whole. Assumes nothing.
 use mathlib.Core.Path.{_≡_, refl, sym, ap, _∙_}
 use mathlib.Core.Bool.{Bool, true, false, cond}
 use mathlib.Core.List.{List, [], _∷_, _++_, map}
 use Prim.Native.Nat.{ℕ, zero, suc, _+_, _*_, _≤_, _<_, zero-le}
-use native.Mathlib.Nat.{zero-add, suc-mul}
+use native.Mathlib.Nat.{zero-add, suc-mul, le-trans}
 use native.Mathlib.Omega.{arith}
+use lib.Dec.{ltb}
 use lib.ListN.{length}
 use Rattle.theory.specs.Lists.{sum}
-use Rattle.theory.specs.Pages.{pageLooks, rest}
+use Rattle.theory.specs.Pages.{hits, pageLooks, rest, from}
 
 module _ {A : Type 0} (hit : A → Bool) (looks : A → ℕ) where
   -- a page and what is left after it take the looks of the whole
@@ -32,3 +33,29 @@ sum-le looks b f (x ∷ xs) = omega (arith, f x, sum-le looks b f xs, suc-mul (l
 pub sum-append : {A : Type 0} (looks : A → ℕ) (xs ys : List A) → sum (map looks (xs ++ ys)) ≡ sum (map looks xs) + sum (map looks ys)
 sum-append looks [] ys = sym (zero-add _)
 sum-append looks (x ∷ xs) ys = omega (arith, sum-append looks xs ys)
+
+-- ---- a page, what stands after a bookmark and what passes a test take no more than the whole
+
+pub page-looks-le : {A : Type 0} (hit : A → Bool) (looks : A → ℕ) (r : ℕ) (xs : List A) → pageLooks hit looks r xs ≤ sum (map looks xs)
+page-looks-le hit looks r xs = omega (arith, looks-split hit looks r xs)
+
+pub sum-hits : {A : Type 0} (looks : A → ℕ) (keep : A → Bool) (xs : List A) → sum (map looks (hits keep xs)) ≤ sum (map looks xs)
+sum-hits looks keep [] = zero-le
+sum-hits looks keep (x ∷ xs) = step (keep x) (sum-hits looks keep xs)
+  where
+    step : (b : Bool) → sum (map looks (hits keep xs)) ≤ sum (map looks xs)
+        → sum (map looks (cond b (x ∷ hits keep xs) (hits keep xs))) ≤ looks x + sum (map looks xs)
+    step true h = omega arith
+    step false h = omega arith
+
+pub sum-from : {A : Type 0} (looks : A → ℕ) (key : A → ℕ) (b : ℕ) (xs : List A) → sum (map looks (from key b xs)) ≤ sum (map looks xs)
+sum-from looks key b [] = zero-le
+sum-from looks key b (x ∷ xs) = step (ltb (key x) b) (sum-from looks key b xs)
+  where
+    step : (t : Bool) → sum (map looks (from key b xs)) ≤ sum (map looks xs) → sum (map looks (cond t (from key b xs) (x ∷ xs))) ≤ looks x + sum (map looks xs)
+    step true h = omega arith
+    step false h = omega arith
+
+pub page-from-le : {A : Type 0} (hit : A → Bool) (looks : A → ℕ) (key : A → ℕ) (r b : ℕ) (xs : List A)
+    → pageLooks hit looks r (from key b xs) ≤ sum (map looks xs)
+page-from-le hit looks key r b xs = le-trans (page-looks-le hit looks r (from key b xs)) (sum-from looks key b xs)
