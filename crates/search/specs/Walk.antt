@@ -4,15 +4,16 @@ use mathlib.Core.Path.{_≡_}
 use mathlib.Core.Bool.{Bool}
 use mathlib.Core.List.{List, map}
 use Prim.Native.Nat.{ℕ, _+_, _-_, _*_, _≤_}
-use lib.IntN.{ℤ}
+use lib.IntN.{ℤ, pos, _+ℤ_}
 use lib.ListN.{length, getD}
 use lib.Seq.{sets}
+use lib.Signed.{_≤ℤ_}
 use Rattle.theory.specs.Lists.{over, count, first}
 use Rattle.theory.specs.Pages.{pageHits, pageLooks}
 use Rattle.score.specs.declared.quantities.Pitch.{Pitch}
 use Rattle.score.specs.Score.{columnAt, column, columnsIn}
 use Rattle.search.specs.declared.way.Way.{Way}
-use Rattle.search.specs.Way.{span, holds}
+use Rattle.search.specs.Way.{lowest, highest, span, holds}
 use Rattle.search.specs.Definition.{note}
 use Rattle.search.specs.Starts.{Place, place, codes, hit, looks}
 use Rattle.search.specs.Page.{columnsOf, shiftsOf}
@@ -26,6 +27,11 @@ pub record Ready (cells : List ℕ) (h : ℕ) (theme : List ℕ) : Type 0 where
   pub notes : 2 ≤ length theme
   pub notes-most : length theme ≤ 32
   pub sung : (i : ℕ) → getD theme i 0 ≤ 127
+
+-- a shift that a bookmark may have: one of the way's, or one above its highest
+pub record InRange (way : Way) (shift : ℤ) : Type 0 where
+  pub not-below : lowest way ≤ℤ shift
+  pub not-above : shift ≤ℤ (highest way +ℤ pos 1)
 
 -- a theme of m notes fits from column j on, in n columns
 pub record Fits (n m j : ℕ) : Type 0 where
