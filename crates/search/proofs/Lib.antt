@@ -1,2 +1,3 @@
 -- Laws of this crate's definitions.
 pub mod Order
+pub mod Shifts
