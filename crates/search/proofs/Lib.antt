@@ -1,3 +1,4 @@
 -- Laws of this crate's definitions.
 pub mod Order
 pub mod Shifts
+pub mod Notes
