@@ -2,3 +2,4 @@
 pub mod Order
 pub mod Shifts
 pub mod Notes
+pub mod Holding
