@@ -1,7 +1,7 @@
 -- The test that is computed of a column and the published definition agree (`holds-true`, `true-holds`): on natural
 -- numbers by the shift's code, and in integers by the shift. Assumes nothing.
 use mathlib.Core.Path.{_≡_, sym, ap, _∙_, subst}
-use mathlib.Core.Bool.{Bool, true}
+use mathlib.Core.Bool.{true}
 use mathlib.Core.List.{List}
 use Prim.Native.Nat.{ℕ, _+_, _%_}
 use lib.Dec.{eqb}
@@ -14,7 +14,7 @@ use Rattle.score.specs.Sets.{Twelves}
 use Rattle.score.proofs.Twelves.{pos-sub-sub, twelves, twelves-mod}
 use Rattle.search.specs.declared.way.Way.{Way}
 use Rattle.search.specs.declared.way.Way.the-variants.{Exact, Octave}
-use Rattle.search.specs.Way.{HoldsExact, HoldsOctave, Holds, shiftOf, holds}
+use Rattle.search.specs.Way.{Holds, shiftOf, holds}
 
 -- ---- one pitch t, for the note p moved by the code's shift, at the bias b
 

@@ -3,3 +3,4 @@ pub mod Order
 pub mod Shifts
 pub mod Notes
 pub mod Holding
+pub mod Listed
