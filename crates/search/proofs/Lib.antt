@@ -1,2 +1,3 @@
 -- Laws of this crate's definitions.
 pub mod LookBound
+pub mod Order
