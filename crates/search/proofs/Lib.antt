@@ -10,3 +10,6 @@ pub mod Listed
 pub mod Words
 pub mod Filtered
 pub mod Worked
+-- Laws of this crate's definitions.
+pub mod LookBound
+pub mod Order
