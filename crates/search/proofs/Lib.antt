@@ -1,6 +1,6 @@
 -- Laws of this crate's definitions. Places: `Order` (the starts, which they are and that they rise), `Shifts` (codes and
 -- shifts), `Holding` (a column and a note), `Notes` (all notes), `LookBound`. The list: `Listed`. Candidates: `Words` (the
--- theme table), `Filtered`. The worked cases: `Worked`.
+-- theme table), `Filtered`. The demands: `Demands` and what it stands on. The worked cases: `Worked`.
 pub mod Order
 pub mod Shifts
 pub mod Holding
@@ -10,6 +10,3 @@ pub mod Listed
 pub mod Words
 pub mod Filtered
 pub mod Worked
--- Laws of this crate's definitions.
-pub mod LookBound
-pub mod Order

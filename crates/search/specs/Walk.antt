@@ -3,7 +3,7 @@
 use mathlib.Core.Path.{_≡_}
 use mathlib.Core.Bool.{Bool}
 use mathlib.Core.List.{List, map}
-use Prim.Native.Nat.{ℕ, _+_, _-_, _*_, _≤_}
+use Prim.Native.Nat.{ℕ, _+_, _-_, _*_, _%_, _≤_}
 use lib.IntN.{ℤ, pos, _+ℤ_}
 use lib.ListN.{length, getD}
 use lib.Seq.{sets}
@@ -13,6 +13,7 @@ use Rattle.theory.specs.Pages.{pageHits, pageLooks}
 use Rattle.score.specs.declared.quantities.Pitch.{Pitch}
 use Rattle.score.specs.Score.{columnAt, column, columnsIn}
 use Rattle.search.specs.declared.way.Way.{Way}
+use Rattle.search.specs.declared.way.Way.the-variants.{Exact, Octave}
 use Rattle.search.specs.Way.{lowest, highest, span, holds}
 use Rattle.search.specs.Definition.{note}
 use Rattle.search.specs.Starts.{Place, place, codes, hit, looks}
@@ -37,6 +38,11 @@ pub record InRange (way : Way) (shift : ℤ) : Type 0 where
 pub record Fits (n m j : ℕ) : Type 0 where
   pub from-first : 1 ≤ j
   pub to-last : j + m ≤ n + 1
+
+-- the code at which the note p comes to stand on the pitch t
+abbrev pub codeBetween : Way → (p t : Pitch) → ℕ
+codeBetween Exact p t = t .0 + 127 - p .0
+codeBetween Octave p t = (t .0 + 132 - p .0) % 12
 
 -- the first code from x on at which the column holds p, or the span where there is none
 unfoldable pub nextCode : Way → Pitch → (column : List ℕ) → (x : ℕ) → ℕ

@@ -7,7 +7,7 @@
 pub mod bookmark;
 pub mod page;
 mod register;
-mod shifts;
+mod signs;
 mod starts;
 mod table;
 pub mod way;

@@ -7,7 +7,7 @@ use Rattle.search.proofs.bookmark.Bookmark.after.Statement.{statement}
 use Rattle.search.proofs.bookmark.Bookmark.after.Tie as tie
 use Rattle.search.proofs.bookmark.Bookmark.after.Reads as reads
 use Rattle.search.proofs.bookmark.Bookmark.after.Lts as lts
-use Rattle.search.proofs.shifts.raised.Reads as raised-reads
+use Rattle.search.proofs.signs.raised.Reads as raised-reads
 
 -- src/bookmark.rt:39:13
 raised-requires : tie.Need-raised-requires

@@ -8,7 +8,7 @@ use Rattle.search.proofs.bookmark.Bookmark.finished.Statement.{statemen
 use Rattle.search.proofs.bookmark.Bookmark.finished.Tie as tie
 use Rattle.search.proofs.bookmark.Bookmark.finished.Reads as reads
 use Rattle.search.proofs.bookmark.Bookmark.finished.Lts as lts
-use Rattle.search.proofs.shifts.lowest_of.Reads as lowest-of-reads
+use Rattle.search.proofs.signs.lowest_of.Reads as lowest-of-reads
 
 -- src/bookmark.rt:47:13
 lowest-of-requires : tie.Need-lowest-of-requires

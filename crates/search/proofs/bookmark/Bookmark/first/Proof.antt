@@ -7,7 +7,7 @@ use Rattle.search.proofs.bookmark.Bookmark.first.Statement.{statement}
 use Rattle.search.proofs.bookmark.Bookmark.first.Tie as tie
 use Rattle.search.proofs.bookmark.Bookmark.first.Reads as reads
 use Rattle.search.proofs.bookmark.Bookmark.first.Lts as lts
-use Rattle.search.proofs.shifts.lowest_of.Reads as lowest-of-reads
+use Rattle.search.proofs.signs.lowest_of.Reads as lowest-of-reads
 
 -- src/bookmark.rt:27:13
 lowest-of-requires : tie.Need-lowest-of-requires

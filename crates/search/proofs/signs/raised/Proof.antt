@@ -9,10 +9,10 @@ use Rattle.theory.proofs.Signed.{raise-fits, add-read}
 use mathlib.Core.Path.{_≡_, refl, sym, ap, _∙_}
 use borrow.Author.Needs.{needs}
 use native.Mathlib.Omega.{arith}
-use Rattle.search.proofs.shifts.raised.Statement.{statement}
-use Rattle.search.proofs.shifts.raised.Tie as tie
-use Rattle.search.proofs.shifts.raised.Reads as reads
-use Rattle.search.proofs.shifts.raised.Lts as lts
+use Rattle.search.proofs.signs.raised.Statement.{statement}
+use Rattle.search.proofs.signs.raised.Tie as tie
+use Rattle.search.proofs.signs.raised.Reads as reads
+use Rattle.search.proofs.signs.raised.Lts as lts
 
 -- the shift is below the highest number
 below : (c : tie.Then1) → ltZ (c .before .args .shift) (pos 32767) ≡ true

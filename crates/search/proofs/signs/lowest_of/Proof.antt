@@ -2,10 +2,10 @@ use Rattle.search.specs.Way.{lowest}
 use mathlib.Core.Path.{_≡_, refl, sym, ap, _∙_}
 use borrow.Author.Needs.{needs}
 use native.Mathlib.Omega.{arith}
-use Rattle.search.proofs.shifts.lowest_of.Statement.{statement}
-use Rattle.search.proofs.shifts.lowest_of.Tie as tie
-use Rattle.search.proofs.shifts.lowest_of.Reads as reads
-use Rattle.search.proofs.shifts.lowest_of.Lts as lts
+use Rattle.search.proofs.signs.lowest_of.Statement.{statement}
+use Rattle.search.proofs.signs.lowest_of.Tie as tie
+use Rattle.search.proofs.signs.lowest_of.Reads as reads
+use Rattle.search.proofs.signs.lowest_of.Lts as lts
 
 -- src/shifts.rt:28:23
 enum-told : tie.Need-enum-told

@@ -9,10 +9,10 @@ use mir.Facts.{toZ-ofZ}
 use mathlib.Core.Path.{_≡_, refl, sym, ap, _∙_}
 use borrow.Author.Needs.{needs}
 use native.Mathlib.Omega.{arith}
-use Rattle.search.proofs.shifts.outside.Statement.{statement}
-use Rattle.search.proofs.shifts.outside.Tie as tie
-use Rattle.search.proofs.shifts.outside.Reads as reads
-use Rattle.search.proofs.shifts.outside.Lts as lts
+use Rattle.search.proofs.signs.outside.Statement.{statement}
+use Rattle.search.proofs.signs.outside.Tie as tie
+use Rattle.search.proofs.signs.outside.Reads as reads
+use Rattle.search.proofs.signs.outside.Lts as lts
 
 -- src/shifts.rt:71:9
 returns : tie.Need-returns

@@ -4,10 +4,10 @@ use Rattle.theory.proofs.Signed.{sub-fits, sub-read}
 use mathlib.Core.Path.{_≡_, refl, sym, ap, _∙_}
 use borrow.Author.Needs.{needs}
 use native.Mathlib.Omega.{arith}
-use Rattle.search.proofs.shifts.shift_of.Statement.{statement}
-use Rattle.search.proofs.shifts.shift_of.Tie as tie
-use Rattle.search.proofs.shifts.shift_of.Reads as reads
-use Rattle.search.proofs.shifts.shift_of.Lts as lts
+use Rattle.search.proofs.signs.shift_of.Statement.{statement}
+use Rattle.search.proofs.signs.shift_of.Tie as tie
+use Rattle.search.proofs.signs.shift_of.Reads as reads
+use Rattle.search.proofs.signs.shift_of.Lts as lts
 
 -- src/shifts.rt:39:24
 enum-told : tie.Need-enum-told

@@ -9,11 +9,11 @@ use mir.Facts.{toZ-ofZ}
 use mathlib.Core.Path.{_≡_, refl, sym, ap, _∙_}
 use borrow.Author.Needs.{needs}
 use native.Mathlib.Omega.{arith}
-use Rattle.search.proofs.shifts.out_of_range.Statement.{statement}
-use Rattle.search.proofs.shifts.out_of_range.Tie as tie
-use Rattle.search.proofs.shifts.out_of_range.Reads as reads
-use Rattle.search.proofs.shifts.out_of_range.Lts as lts
-use Rattle.search.proofs.shifts.outside.Reads as outside-reads
+use Rattle.search.proofs.signs.out_of_range.Statement.{statement}
+use Rattle.search.proofs.signs.out_of_range.Tie as tie
+use Rattle.search.proofs.signs.out_of_range.Reads as reads
+use Rattle.search.proofs.signs.out_of_range.Lts as lts
+use Rattle.search.proofs.signs.outside.Reads as outside-reads
 
 -- src/shifts.rt:81:23
 enum-told : tie.Need-enum-told

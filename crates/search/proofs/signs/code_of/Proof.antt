@@ -15,10 +15,10 @@ use Rattle.search.specs.Walk.{InRange}
 use mathlib.Core.Path.{_≡_, refl, sym, ap, _∙_}
 use borrow.Author.Needs.{needs}
 use native.Mathlib.Omega.{arith}
-use Rattle.search.proofs.shifts.code_of.Statement.{statement}
-use Rattle.search.proofs.shifts.code_of.Tie as tie
-use Rattle.search.proofs.shifts.code_of.Reads as reads
-use Rattle.search.proofs.shifts.code_of.Lts as lts
+use Rattle.search.proofs.signs.code_of.Statement.{statement}
+use Rattle.search.proofs.signs.code_of.Tie as tie
+use Rattle.search.proofs.signs.code_of.Reads as reads
+use Rattle.search.proofs.signs.code_of.Lts as lts
 
 -- src/shifts.rt:50:24
 enum-told : tie.Need-enum-told
