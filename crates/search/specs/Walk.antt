@@ -1,17 +1,18 @@
 -- The walk along the starts, for the contracts of inner functions: what is asked of them, the next code of a column, what
 -- trying a column writes, what a whole walk writes. No public call promises any of this by itself. Assumes nothing.
 use mathlib.Core.Path.{_≡_}
-use mathlib.Core.Bool.{Bool}
+use mathlib.Core.Bool.{Bool, cond}
 use mathlib.Core.List.{List, map}
 use Prim.Native.Nat.{ℕ, _+_, _-_, _*_, _%_, _≤_}
+use lib.Dec.{leb}
 use lib.IntN.{ℤ, pos, _+ℤ_}
 use lib.ListN.{length, getD}
 use lib.Seq.{sets}
 use lib.Signed.{_≤ℤ_}
-use Rattle.theory.specs.Lists.{over, count, first}
+use Rattle.theory.specs.Lists.{over, count, first, lower}
 use Rattle.theory.specs.Pages.{pageHits, pageLooks}
 use Rattle.score.specs.declared.quantities.Pitch.{Pitch}
-use Rattle.score.specs.Score.{columnAt, column, columnsIn}
+use Rattle.score.specs.Score.{pitch, columnAt, column, columnsIn}
 use Rattle.search.specs.declared.way.Way.{Way}
 use Rattle.search.specs.declared.way.Way.the-variants.{Exact, Octave}
 use Rattle.search.specs.Way.{lowest, highest, span, holds}
@@ -43,6 +44,10 @@ pub record Fits (n m j : ℕ) : Type 0 where
 abbrev pub codeBetween : Way → (p t : Pitch) → ℕ
 codeBetween Exact p t = t .0 + 127 - p .0
 codeBetween Octave p t = (t .0 + 132 - p .0) % 12
+
+-- the lower of best and the cell's code, which counts only where the cell is a pitch and its code is x or more
+abbrev pub lowered : Way → Pitch → (x best cell : ℕ) → ℕ
+lowered way p x best cell = cond (leb cell 127) (lower x (codeBetween way p (pitch cell)) best) best
 
 -- the first code from x on at which the column holds p, or the span where there is none
 unfoldable pub nextCode : Way → Pitch → (column : List ℕ) → (x : ℕ) → ℕ

@@ -4,6 +4,7 @@
 pub mod Lists
 pub mod Members
 pub mod Counts
+pub mod Lowest
 pub mod Pages
 pub mod Looks
 pub mod Readings
