@@ -8,3 +8,4 @@ pub mod Bookmarks
 pub mod Refusals
 pub mod Page
 pub mod Reading
+pub mod Demands
