@@ -4,10 +4,9 @@ use mathlib.Core.Path.{_≡_, refl, sym, _∙_}
 use mathlib.Core.Bool.{true, false}
 use mathlib.Core.Logic.{_↔_}
 use mathlib.Core.List.{List}
-use Prim.Native.Nat.{ℕ, _≤_}
+use Prim.Native.Nat.{ℕ}
 use native.Mathlib.Omega.{arith}
 use lib.IntN.{ℤ}
-use lib.ListN.{length}
 use Rattle.theory.specs.Lists.{some, first}
 use Rattle.score.specs.declared.refusals.Refusal.{Refusal}
 use Rattle.score.specs.Score.{columnsIn, scoreOf}
@@ -19,7 +18,7 @@ use Rattle.search.specs.declared.page.Page.{Page}
 use Rattle.search.specs.declared.page.Page.the-variants.{Turned, Refused}
 use Rattle.search.specs.Starts.{starts}
 use Rattle.search.specs.Page.{Leaf, leaf, plainPage, PlainPages}
-use Rattle.search.specs.Demands.{Accepted, Room, InRange, plainRows, GivenBy, placeBy}
+use Rattle.search.specs.Demands.{PlainAsks, plainRows, GivenBy, placeBy}
 use Rattle.search.proofs.Judged.{Clear, clear-append, clear-split, judge-clear}
 use Rattle.search.proofs.Rows.{scoreRows, pageRows, accepted-clear, page-clear}
 use Rattle.search.proofs.Answers.{answer-turned, answer-refused, answer-kept}
@@ -31,25 +30,21 @@ module _ (cells : List ℕ) (h : ℕ) (theme : List ℕ) (way : Way) (b : Bookma
   abbrev pub plainLeaf : Leaf
   plainLeaf = leaf way (scoreOf cells h) theme (starts way (scoreOf cells h) theme) b columns shifts
 
-  -- what a plain call asks for
-  abbrev pub PlainAsks : Type 0
-  PlainAsks = Accepted cells h theme × Room (length columns) columns shifts × (1 ≤ length columns) × InRange way (columnsIn cells h) b
-
-  pub plain-clear : PlainAsks ↔ Clear (plainRows cells h theme way b columns shifts)
+  pub plain-clear : PlainAsks cells h theme way b columns shifts ↔ Clear (plainRows cells h theme way b columns shifts)
   plain-clear = (
-    λ a. clear-append (scoreRows cells h theme) (pageRows way (columnsIn cells h) b columns shifts) (accepted-clear cells h theme .0 (a .0))
-        (page-clear way (columnsIn cells h) b columns shifts .0 (a .1, a .2, a .3)),
+    λ a. clear-append (scoreRows cells h theme) (pageRows way (columnsIn cells h) b columns shifts) (accepted-clear cells h theme .0 (a .accepted))
+        (page-clear way (columnsIn cells h) b columns shifts .0 (a .room, a .same-room, a .marked)),
     λ c. let d = clear-split (scoreRows cells h theme) (pageRows way (columnsIn cells h) b columns shifts) c in
         let p = page-clear way (columnsIn cells h) b columns shifts .1 (d .1) in
-        (accepted-clear cells h theme .1 (d .0), p .0, p .1, p .2),
+        record { accepted = accepted-clear cells h theme .1 (d .0); room = p .0; same-room = p .1; marked = p .2 },
   )
 
   -- it then turns a page, and only then
-  pub plain-leaf : PlainAsks → plainPage cells h theme way b columns shifts ≡ plainLeaf
+  pub plain-leaf : PlainAsks cells h theme way b columns shifts → plainPage cells h theme way b columns shifts ≡ plainLeaf
   unfolding plainPage
   plain-leaf a = judge-clear plainRefused plainLeaf (plainRows cells h theme way b columns shifts) (plain-clear .0 a)
 
-  pub plain-turned : ((t : Turn) × (plainPage cells h theme way b columns shifts .answer ≡ Turned t)) ↔ PlainAsks
+  pub plain-turned : ((t : Turn) × (plainPage cells h theme way b columns shifts .answer ≡ Turned t)) ↔ PlainAsks cells h theme way b columns shifts
   unfolding plainPage
   plain-turned =
       let e = answer-turned (λ (l : Leaf). l .answer) plainRefused (λ r. refl) plainLeaf _ refl (plainRows cells h theme way b columns shifts) in

@@ -3,10 +3,9 @@
 use mathlib.Core.Path.{_≡_, refl, sym, _∙_}
 use mathlib.Core.Logic.{_↔_}
 use mathlib.Core.List.{List, _++_}
-use Prim.Native.Nat.{ℕ, _≤_}
+use Prim.Native.Nat.{ℕ}
 use native.Mathlib.Omega.{arith}
 use lib.IntN.{ℤ}
-use lib.ListN.{length}
 use Rattle.score.specs.declared.refusals.Refusal.{Refusal}
 use Rattle.score.specs.Score.{columnsIn, scoreOf}
 use Rattle.search.specs.declared.way.Way.{Way}
@@ -16,7 +15,7 @@ use Rattle.search.specs.declared.page.Page.{Page}
 use Rattle.search.specs.declared.page.Page.the-variants.{Turned, Refused}
 use Rattle.search.specs.Candidates.{themeTable}
 use Rattle.search.specs.Page.{QuickLeaf, leaf, quickPage, quickStarts, QuickPages}
-use Rattle.search.specs.Demands.{Accepted, AcceptedSets, Room, InRange, quickRows, GivenBy, placeBy}
+use Rattle.search.specs.Demands.{QuickAsks, quickRows, GivenBy, placeBy}
 use Rattle.search.proofs.Judged.{Clear, clear-append, clear-split, judge-clear}
 use Rattle.search.proofs.Rows.{scoreRows, setsRows, pageRows, accepted-clear, sets-clear, page-clear}
 use Rattle.search.proofs.Answers.{answer-turned, answer-refused, answer-kept}
@@ -32,29 +31,28 @@ module _ (cells : List ℕ) (h : ℕ) (theme : List ℕ) (way : Way) (b : Bookma
         table = themeTable theme;
       }
 
-  -- what a quick call asks for
-  abbrev pub QuickAsks : Type 0
-  QuickAsks =
-      Accepted cells h theme × AcceptedSets cells h sets × (length table ≡ 4096) × Room (length columns) columns shifts × (1 ≤ length columns)
-      × InRange way (columnsIn cells h) b
-
-  pub quick-clear : QuickAsks ↔ Clear (quickRows cells h theme way b sets table columns shifts)
+  pub quick-clear : QuickAsks cells h theme way b sets table columns shifts ↔ Clear (quickRows cells h theme way b sets table columns shifts)
   quick-clear = (
-    λ a. clear-append (scoreRows cells h theme) (setsRows cells h sets table ++ pageRows way (columnsIn cells h) b columns shifts) (accepted-clear cells h theme .0 (a .0))
-        (clear-append (setsRows cells h sets table) (pageRows way (columnsIn cells h) b columns shifts) (sets-clear cells h sets table .0 (a .1, a .2))
-        (page-clear way (columnsIn cells h) b columns shifts .0 (a .3, a .4, a .5))),
+    λ a. clear-append (scoreRows cells h theme) (setsRows cells h sets table ++ pageRows way (columnsIn cells h) b columns shifts)
+        (accepted-clear cells h theme .0 (a .plain .accepted))
+        (clear-append (setsRows cells h sets table) (pageRows way (columnsIn cells h) b columns shifts) (sets-clear cells h sets table .0 (a .with-sets, a .table-long))
+        (page-clear way (columnsIn cells h) b columns shifts .0 (a .plain .room, a .plain .same-room, a .plain .marked))),
     λ c. let d = clear-split (scoreRows cells h theme) (setsRows cells h sets table ++ pageRows way (columnsIn cells h) b columns shifts) c in
         let e = clear-split (setsRows cells h sets table) (pageRows way (columnsIn cells h) b columns shifts) (d .1) in
         let s = sets-clear cells h sets table .1 (e .0) in
         let p = page-clear way (columnsIn cells h) b columns shifts .1 (e .1) in
-        (accepted-clear cells h theme .1 (d .0), s .0, s .1, p .0, p .1, p .2),
+        record {
+          plain = record { accepted = accepted-clear cells h theme .1 (d .0); room = p .0; same-room = p .1; marked = p .2 };
+          with-sets = s .0;
+          table-long = s .1;
+        },
   )
 
-  pub quick-leaf : QuickAsks → quickPage cells h theme way b sets table columns shifts ≡ quickLeaf
+  pub quick-leaf : QuickAsks cells h theme way b sets table columns shifts → quickPage cells h theme way b sets table columns shifts ≡ quickLeaf
   unfolding quickPage
   quick-leaf a = judge-clear quickRefused quickLeaf (quickRows cells h theme way b sets table columns shifts) (quick-clear .0 a)
 
-  pub quick-turned : ((t : Turn) × (quickPage cells h theme way b sets table columns shifts .leaf .answer ≡ Turned t)) ↔ QuickAsks
+  pub quick-turned : ((t : Turn) × (quickPage cells h theme way b sets table columns shifts .leaf .answer ≡ Turned t)) ↔ QuickAsks cells h theme way b sets table columns shifts
   unfolding quickPage
   quick-turned =
       let e = answer-turned (λ (l : QuickLeaf). l .leaf .answer) quickRefused (λ r. refl) quickLeaf _ refl (quickRows cells h theme way b sets table columns shifts) in

@@ -17,7 +17,7 @@ use Rattle.search.specs.declared.way.Way.{Way}
 use Rattle.search.specs.declared.bookmark.Bookmark.{Bookmark}
 use Rattle.search.specs.Way.{lowest, highest}
 use Rattle.search.specs.Refusals.{row4, row5, row8, row9, row10}
-use Rattle.search.specs.Demands.{Accepted, AcceptedSets, Room, InRange}
+use Rattle.search.specs.Demands.{Accepted, AcceptedSets, InRange}
 use Rattle.search.proofs.Judged.{Clear}
 
 -- ---- tests that fail
@@ -133,8 +133,8 @@ sets-clear cells h sets table = (
 )
 
 module _ (way : Way) (n : ℕ) (b : Bookmark) (columns : List ℕ) (shifts : List ℤ) where
-  pub page-clear : (Room (length columns) columns shifts × (1 ≤ length columns) × InRange way n b) ↔ Clear (pageRows way n b columns shifts)
+  pub page-clear : ((1 ≤ length columns) × (length shifts ≡ length columns) × InRange way n b) ↔ Clear (pageRows way n b columns shifts)
   page-clear = (
-    λ a. (row9-clear columns shifts .1 (a .1, a .0 .shifts-long), (row10-clear way n b .1 (a .2), tt)),
-    λ c. let r = row9-clear columns shifts .0 (c .0) in (record { columns-long = refl; shifts-long = r .1 }, r .0, row10-clear way n b .0 (c .1 .0)),
+    λ a. (row9-clear columns shifts .1 (a .0, a .1), (row10-clear way n b .1 (a .2), tt)),
+    λ c. let r = row9-clear columns shifts .0 (c .0) in (r .0, r .1, row10-clear way n b .0 (c .1 .0)),
   )

@@ -43,17 +43,25 @@ pub record AcceptedSets (cells : List ℕ) (h : ℕ) (sets : List ℕ) : Type 0 
   pub one-less : length sets ≡ columnsIn cells h - 1
   pub sets-good : some badSet sets ≡ false
 
--- two buffers of r places
-pub record Room (r : ℕ) (columns : List ℕ) (shifts : List ℤ) : Type 0 where
-  pub columns-long : length columns ≡ r
-  pub shifts-long : length shifts ≡ r
-
 -- a bookmark: column 1 to n + 1, and a shift of the way, or one more than the highest
 pub record InRange (way : Way) (n : ℕ) (b : Bookmark) : Type 0 where
   pub from-first : 1 ≤ b .column .0
   pub to-end : b .column .0 ≤ n + 1
   pub not-below : lowest way ≤ℤ b .shift
   pub not-above : b .shift ≤ℤ (highest way +ℤ pos 1)
+
+-- what a plain call asks for: a score and a theme, buffers of equal length and not empty, a bookmark
+pub record PlainAsks (cells : List ℕ) (h : ℕ) (theme : List ℕ) (way : Way) (b : Bookmark) (columns : List ℕ) (shifts : List ℤ) : Type 0 where
+  pub accepted : Accepted cells h theme
+  pub room : 1 ≤ length columns
+  pub same-room : length shifts ≡ length columns
+  pub marked : InRange way (columnsIn cells h) b
+
+-- what a quick call asks for: also sets, and a theme table of 4,096 places
+pub record QuickAsks (cells : List ℕ) (h : ℕ) (theme : List ℕ) (way : Way) (b : Bookmark) (sets table columns : List ℕ) (shifts : List ℤ) : Type 0 where
+  pub plain : PlainAsks cells h theme way b columns shifts
+  pub with-sets : AcceptedSets cells h sets
+  pub table-long : length table ≡ 4096
 
 -- ---- what is refused: the rows of each call, in order
 
