@@ -13,6 +13,10 @@ use Rattle.score.specs.declared.quantities.Pitch.{Pitch}
 use Rattle.score.specs.declared.quantities.Interval.{Interval}
 use Rattle.score.specs.Score.{pitches}
 
+-- a number as an interval
+abbrev pub semitones : ℕ → Interval
+semitones d = record { 0 = d }
+
 -- z is divisible by 12
 pub record Twelves (z : ℤ) : Type 0 where
   pub times : ℤ
@@ -23,9 +27,9 @@ pub record IsInterval (x y : Pitch) (d : Interval) : Type 0 where
   pub small : d .0 < 12
   pub whole : Twelves (pos (y .0) -ℤ pos (x .0) -ℤ pos (d .0))
 
--- the interval from x to y. Eleven octaves are added first, so that a falling one is not cut at zero
+-- the interval from x to y. Twenty-two octaves are added first, more than any byte, so that a falling one is not cut at zero
 abbrev pub interval : Pitch → Pitch → Interval
-interval x y = record { 0 = (y .0 + 132 - x .0) % 12 }
+interval x y = semitones ((y .0 + 264 - x .0) % 12)
 
 -- some pitch of column a and some pitch of column b are d apart
 pub record Apart (a b : List ℕ) (d : Interval) : Type 0 where

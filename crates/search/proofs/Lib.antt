@@ -6,3 +6,13 @@ pub mod Rows
 pub mod Answers
 pub mod PlainCall
 pub mod QuickCall
+-- Laws of this crate's definitions. Places: `Order` (the starts, which they are and that they rise), `Shifts` (codes and
+-- shifts), `Holding` (a column and a note), `Notes` (all notes). The list: `Listed`. Candidates: `Words` (the theme
+-- table), `Filtered`.
+pub mod Order
+pub mod Shifts
+pub mod Holding
+pub mod Notes
+pub mod Listed
+pub mod Words
+pub mod Filtered

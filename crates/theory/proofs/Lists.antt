@@ -1,13 +1,14 @@
--- Laws of `over`, `some`, `first`, `count`; and of a loop that stores from the front. Assumes nothing.
+-- Laws of `over`, `count`, `some` and `first`, by places and by membership; and of a loop that stores from the front.
+-- Assumes nothing.
 use mathlib.Core.Path.{_≡_, refl, sym, ap, _∙_, subst}
 use mathlib.Core.Bool.{Bool, true, false, cond, true≢false}
 use mathlib.Core.Logic.{⊎-elim}
-use mathlib.Core.List.{List, [], _∷_, _++_, append-assoc}
+use mathlib.Core.List.{List, [], _∷_, _++_, map, append-assoc, List·Memᴰ as In, List·Memᴰ·head as at-head, List·Memᴰ·tail as in-tail}
 use Prim.Native.Nat.{ℕ, zero, suc, _+_, _-_, _≤_, _<_, zero-le}
-use native.Mathlib.Nat.{eq-or-lt-of-le, lt-irrefl, le-refl, not-suc-le-zero, le-of-suc-le-suc}
+use native.Mathlib.Nat.{eq-or-lt-of-le, lt-irrefl, le-refl, not-suc-le-zero, le-of-suc-le-suc, add-zero}
 use native.Mathlib.Numerals.{add-one}
 use native.Mathlib.Omega.{arith}
-use lib.ListN.{length, take, drop, getD, set, length-append, length-drop}
+use lib.ListN.{length, take, drop, getD, set, length-append, length-drop, length-map}
 use lib.Seq.{drop-cons, set-at, getD-set-same, getD-set-other}
 use Rattle.theory.specs.Lists.{over, count, some, first}
 
@@ -32,6 +33,15 @@ pub count-at : (a n i d : ℕ) → i < n → getD (count a n) i d ≡ a + i
 count-at a zero i d h = absurd (not-suc-le-zero h)
 count-at a (suc n) zero d h = omega arith
 count-at a (suc n) (suc i) d h = omega (arith, count-at (suc a) n i d (le-of-suc-le-suc h))
+
+-- the table of a function: its entry i is the value at a + i
+pub count-map-length : {A : Type 0} (f : ℕ → A) (a n : ℕ) → length (map f (count a n)) ≡ n
+count-map-length f a n = length-map (count a n) f ∙ count-length a n
+
+pub count-map-at : {A : Type 0} (f : ℕ → A) (a n i : ℕ) (d : A) → i < n → getD (map f (count a n)) i d ≡ f (a + i)
+count-map-at f a zero i d h = absurd (not-suc-le-zero h)
+count-map-at f a (suc n) zero d h = rw add-zero
+count-map-at f a (suc n) (suc i) d h = let e : suc a + i ≡ a + suc i = omega arith in rw (← e) (count-map-at f (suc a) n i d (le-of-suc-le-suc h))
 
 -- ---- some and first
 
@@ -89,6 +99,26 @@ module _ {A : Type 0} (test : A → Bool) where
   some-at [] d i h e = absurd (not-suc-le-zero h)
   some-at (x ∷ xs) d zero h e = rw e
   some-at (x ∷ xs) d (suc i) h e = step (test x) (some-at xs d i (le-of-suc-le-suc h) e)
+    where
+      step : (b : Bool) → some test xs ≡ true → cond b true (some test xs) ≡ true
+      step true k = refl
+      step false k = k
+
+-- ---- an entry that passes, as a member of the list
+
+module _ {A : Type 0} (test : A → Bool) where
+  pub some-in : (xs : List A) → some test xs ≡ true → (x : A) × In x xs × (test x ≡ true)
+  some-in [] e = absurd (true≢false (sym e))
+  some-in (x ∷ xs) e = step (test x) refl e (some-in xs)
+    where
+      step : (b : Bool) → test x ≡ b → cond b true (some test xs) ≡ true → (some test xs ≡ true → (y : A) × In y xs × (test y ≡ true))
+          → (y : A) × In y (x ∷ xs) × (test y ≡ true)
+      step true e k ih = (x, at-head refl, e)
+      step false e k ih = let found = ih k in (found .0, in-tail (found .1), found .2)
+
+  pub in-some : (xs : List A) {x : A} → In x xs → test x ≡ true → some test xs ≡ true
+  in-some (y ∷ xs) (at-head p) e = rw (ap test (sym p) ∙ e)
+  in-some (y ∷ xs) (in-tail m) e = step (test y) (in-some xs m e)
     where
       step : (b : Bool) → some test xs ≡ true → cond b true (some test xs) ≡ true
       step true k = refl

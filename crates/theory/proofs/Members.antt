@@ -1,6 +1,6 @@
--- Members: of a count, of the hits of a list and of some entry that passes; and keys that rise along hits, along a map
--- and along a count, or all below a bound. Members of a map and of a join of two are mathlib's (`Memᴰ·map`, `Memᴰ·of-map`, `List·Memᴰ·append-cases`).
--- Assumes nothing.
+-- Members of a count and of the hits of a list; and keys that rise along hits, along a map and along a count, or are all
+-- below a bound. An entry that passes, as a member, is in `Lists`; members of a map and of two lists joined are
+-- mathlib's (`Memᴰ·map`, `Memᴰ·of-map`, `List·Memᴰ·append-cases`). Assumes nothing.
 use mathlib.Core.Path.{_≡_, refl, sym, ap, _∙_}
 use mathlib.Core.Bool.{Bool, true, false, cond, false≢true}
 use mathlib.Core.Logic.{_⊎_, inl, inr, ⊎-elim}
@@ -8,7 +8,7 @@ use mathlib.Core.List.{List, [], _∷_, map, List·Memᴰ as In, List·Memᴰ·h
 use Prim.Native.Nat.{ℕ, zero, suc, _+_, _≤_, _<_}
 use native.Mathlib.Nat.{le-refl, le-trans, le-suc, eq-or-lt-of-le}
 use native.Mathlib.Omega.{arith}
-use Rattle.theory.specs.Lists.{count, some}
+use Rattle.theory.specs.Lists.{count}
 use Rattle.theory.specs.Pages.{hits, Rising}
 use Rattle.theory.proofs.Bookmarks.{rising-down, Below, none, one}
 
@@ -58,26 +58,6 @@ module _ {A : Type 0} (hit : A → Bool) where
       step : (t : Bool) → Rising key (suc (key x)) (hits hit xs) → Rising key b (cond t (x ∷ hits hit xs) (hits hit xs))
       step true ih = (r .0, ih)
       step false ih = rising-down key b (suc (key x)) (hits hit xs) (le-trans (r .0) (le-suc (key x))) ih
-
--- ---- some
-
-module _ {A : Type 0} (test : A → Bool) where
-  pub some-in : (xs : List A) → some test xs ≡ true → (x : A) × In x xs × (test x ≡ true)
-  some-in [] e = absurd (false≢true e)
-  some-in (y ∷ ys) e = step (test y) refl e (some-in ys)
-    where
-      step : (b : Bool) → test y ≡ b → cond b true (some test ys) ≡ true → (some test ys ≡ true → (x : A) × In x ys × (test x ≡ true)) → (x : A) × In x (y ∷ ys) × (test x ≡ true)
-      step true p k ih = (y, here refl, p)
-      step false p k ih = (ih k .0, later (ih k .1), ih k .2)
-
-  pub in-some : (xs : List A) {x : A} → In x xs → test x ≡ true → some test xs ≡ true
-  in-some [] m h = absurd (List·Memᴰ·not-nil m)
-  in-some (y ∷ ys) {x} m h = step (test y) refl (List·Memᴰ·cases-cons m) (λ t. in-some ys t h)
-    where
-      step : (b : Bool) → test y ≡ b → (x ≡ y) ⊎ In x ys → (In x ys → some test ys ≡ true) → cond b true (some test ys) ≡ true
-      step true e m ih = refl
-      step false e (inl p) ih = absurd (false≢true (sym e ∙ ap test (sym p) ∙ h))
-      step false e (inr t) ih = ih t
 
 -- ---- keys of a map, keys all raised, and keys all below a bound
 

@@ -4,9 +4,9 @@ use mathlib.Core.Path.{_≡_, refl, sym, ap, _∙_, subst}
 use mathlib.Core.Bool.{Bool, true, false, cond}
 use Prim.Native.Nat.{ℕ, zero, suc, _+_, _-_, _^_, _≤_, _<_}
 use native.Mathlib.Omega.{arith}
-use lib.Dec.{ltb, leb→le}
+use lib.Dec.{T, ltb, leb→le, le→leb, lt→ltb}
 use lib.IntN.{ℤ, pos, negsuc, subℕ, _+ℤ_, _-ℤ_, +ℤ-negℤ-cancel}
-use lib.Signed.{mag, _≤ℤ_}
+use lib.Signed.{mag, nonNeg, _≤ℤ_, _<ℤ_, leZ-yes, ltZ-yes}
 use borrow.Author.Tests.{ltb-true, ltb-false, le-ltb}
 use mir.Syntax.{Width}
 use mir.Val.{SFits, toZ, ofZ, hbits}
@@ -27,6 +27,31 @@ mag-sub a b H h k =
 pub sub-pos : (a b : ℕ) → b ≤ a → subℕ a b ≡ pos (a - b)
 sub-pos a b h = ap (λ (t : Bool). cond t (negsuc (b - suc a)) (pos (a - b))) (le-ltb a b h)
 
+-- it rises with the first of the two
+pub sub-rises : (a c b : ℕ) → a < c → subℕ a b <ℤ subℕ c b
+sub-rises a c b h = step (ltb a b) (ltb c b) refl refl
+  where
+    step : (t u : Bool) → ltb a b ≡ t → ltb c b ≡ u → cond t (negsuc (b - suc a)) (pos (a - b)) <ℤ cond u (negsuc (b - suc c)) (pos (c - b))
+    step true true e f = let k : c < b = ltb-true c b f in ltZ-yes (lt→ltb (b - suc c) (b - suc a) (omega arith))
+    step true false e f = ltZ-yes tt
+    step false true e f = absurd (omega (arith, ltb-false a b e, ltb-true c b f))
+    step false false e f = let k : b ≤ a = ltb-false a b e in ltZ-yes (lt→ltb (a - b) (c - b) (omega arith))
+
+-- it is from -(b + 1) on, and at most h
+pub sub-above : (a b : ℕ) → negsuc b ≤ℤ subℕ a (suc b)
+sub-above a b = step (ltb a (suc b))
+  where
+    step : (t : Bool) → negsuc b ≤ℤ cond t (negsuc (suc b - suc a)) (pos (a - suc b))
+    step true = leZ-yes (le→leb (suc b - suc a) b (omega arith))
+    step false = leZ-yes tt
+
+pub sub-below : (a b h : ℕ) → a ≤ h + b → subℕ a b ≤ℤ pos h
+sub-below a b h k = step (ltb a b)
+  where
+    step : (t : Bool) → cond t (negsuc (b - suc a)) (pos (a - b)) ≤ℤ pos h
+    step true = leZ-yes tt
+    step false = leZ-yes (le→leb (a - b) h (omega arith))
+
 -- ---- the code of a number
 
 -- n is the code of z at the bias b
@@ -43,6 +68,11 @@ code b h (pos a) lo hi = (a + suc b, (let l : a ≤ h = leb→le a h (hi .le) in
 code b h (negsuc a) lo hi =
     let l : a ≤ b = leb→le a b (lo .le) in
     (suc b - suc a, omega arith, coded (suc b) (negsuc a) (suc b - suc a) (sub-pos (suc b) (suc a) (omega arith)))
+
+-- from -(b + 1) on it is not negative at the bias b + 1
+pub raised : (b : ℕ) (z : ℤ) → negsuc b ≤ℤ z → T (nonNeg (z +ℤ pos (suc b)))
+raised b (pos a) lo = tt
+raised b (negsuc a) lo = let l : a ≤ b = leb→le a b (lo .le) in rw (sub-pos (suc b) (suc a) (omega arith)) tt
 
 -- ---- what the machine computes: `x + k` reads and writes the bits
 
