@@ -1,14 +1,6 @@
--- Laws of this crate's definitions.
-pub mod LookBound
-pub mod Order
-pub mod Judged
-pub mod Rows
-pub mod Answers
-pub mod PlainCall
-pub mod QuickCall
 -- Laws of this crate's definitions. Places: `Order` (the starts, which they are and that they rise), `Shifts` (codes and
 -- shifts), `Holding` (a column and a note), `Notes` (all notes). The list: `Listed`. Candidates: `Words` (the theme
--- table), `Filtered`.
+-- table), `Filtered`. Calls: `LookBound`, `Judged` and `Rows` (refusals), `Answers`, `PlainCall`, `QuickCall`.
 pub mod Order
 pub mod Shifts
 pub mod Holding
@@ -16,3 +8,9 @@ pub mod Notes
 pub mod Listed
 pub mod Words
 pub mod Filtered
+pub mod LookBound
+pub mod Judged
+pub mod Rows
+pub mod Answers
+pub mod PlainCall
+pub mod QuickCall
