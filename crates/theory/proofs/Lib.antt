@@ -1,12 +1,13 @@
 -- Laws of the definitions in specs/, for every crate above. Pages: `Pages` (hits and what is left), `Looks`, `Readings`
--- (page after page), `Bookmarks` (keys), `Members`, `Thin` (starts left out), `Going` (a page under way), `Counts` (how many
--- pass). Bits: `Bits`, `Masks` (what code writes), `Register`. Numbers with a sign: `Signed`.
+-- (page after page), `Bookmarks` (keys), `Members`, `Hits` (two tests), `Thin` (starts left out), `Going` (a page under way),
+-- `Counts` (how many pass). Bits: `Bits`, `Masks` (what code writes), `Register`. Numbers with a sign: `Signed`.
 pub mod Lists
 pub mod Pages
 pub mod Looks
 pub mod Readings
 pub mod Bookmarks
 pub mod Members
+pub mod Hits
 pub mod Thin
 pub mod Going
 pub mod Counts
