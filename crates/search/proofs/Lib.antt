@@ -1,6 +1,7 @@
 -- Laws of this crate's definitions. Places: `Order` (the starts, which they are and that they rise), `Shifts` (codes and
 -- shifts), `Holding` (a column and a note), `Notes` (all notes). The list: `Listed`. Candidates: `Words` (the theme
--- table), `Filtered`. Calls: `LookBound`, `Judged` and `Rows` (refusals), `Answers`, `PlainCall`, `QuickCall`.
+-- table), `Filtered`. Calls: `LookBound`, `Judged` and `Rows` (refusals), `Answers`, `PlainCall`, `QuickCall`. Pages:
+-- `Turning` (bookmarks, and what is read back), `Paging`, `Readings`.
 pub mod Order
 pub mod Shifts
 pub mod Holding
@@ -14,3 +15,6 @@ pub mod Rows
 pub mod Answers
 pub mod PlainCall
 pub mod QuickCall
+pub mod Turning
+pub mod Paging
+pub mod Readings

@@ -1,15 +1,15 @@
--- What the theorems about whole calls speak of: a score and a theme that are accepted, sets and bookmarks that are; the
--- rows of each call, in order; when a refusal is given; and readings with buffers supplied. The theorems are in
+-- What the theorems about whole calls say: what a call asks for (`PlainAsks`, `QuickAsks`); when it gives which refusal
+-- (`GivenBy`); what it lists (`Lists`); and that one page is another with no more looks (`NoDearer`). The theorems are in
 -- `proofs/Demands`. Assumes nothing.
 use mathlib.Core.Path.{_≡_}
 use mathlib.Core.Bool.{Bool, true, false, cond}
 use mathlib.Core.List.{List, [], _∷_, map}
-use Prim.Native.Nat.{ℕ, suc, _+_, _-_, _%_, _≤_}
+use Prim.Native.Nat.{ℕ, suc, _+_, _-_, _/_, _%_, _≤_}
 use lib.Dec.{eqb}
 use lib.IntN.{ℤ, pos, _+ℤ_}
 use lib.ListN.{length}
 use lib.Signed.{_≤ℤ_}
-use Rattle.theory.specs.Lists.{some}
+use Rattle.theory.specs.Lists.{some, sum, join}
 use Rattle.score.specs.declared.refusals.Refusal.{Refusal}
 use Rattle.score.specs.Score.{columnsIn}
 use Rattle.score.specs.Refusals.{Row, badCell, badSet, row1, row2, row3, row6, row7}
@@ -96,3 +96,19 @@ module _ (columns : ℕ → List ℕ) (shifts : ℕ → List ℤ) (call : Bookma
   abbrev pub Lent : (i : ℕ) {b : Bookmark} {pages : List (List Pair)} {turns : List Turn} → Reading call r b pages turns → Type 0
   Lent i (last t e) = (t .columns ≡ columns i) × (t .shifts ≡ shifts i)
   Lent i (more t e reading) = (t .columns ≡ columns i) × (t .shifts ≡ shifts i) × Lent (suc i) reading
+
+-- there is a reading from b on, whose calls are lent these buffers
+pub record Read (columns : ℕ → List ℕ) (shifts : ℕ → List ℤ) (call : Bookmark → List ℕ → List ℤ → Leaf) (r i : ℕ) (b : Bookmark) : Type 0 where
+  pub pages : List (List Pair)
+  pub turns : List Turn
+  pub reading : Reading call r b pages turns
+  pub lent : Lent columns shifts call r i reading
+
+-- calls with room r list these pairs, with at most these looks: whatever buffers are lent there is a reading from b on,
+-- and the pages of each, joined, are the list; there are floor (L / r) + 1 of them, for a list of L pairs
+pub record Lists (call : Bookmark → List ℕ → List ℤ → Leaf) (r : ℕ) (b : Bookmark) (list : List Pair) (most : ℕ) : Type 0 where
+  pub read : (columns : ℕ → List ℕ) (shifts : ℕ → List ℤ) → ((i : ℕ) → length (columns i) ≡ r) → ((i : ℕ) → length (shifts i) ≡ r)
+      → Read columns shifts call r 0 b
+  pub joined : {pages : List (List Pair)} {turns : List Turn} → Reading call r b pages turns → join pages ≡ list
+  pub counted : {pages : List (List Pair)} {turns : List Turn} → Reading call r b pages turns → length pages ≡ length list / r + 1
+  pub looked : {pages : List (List Pair)} {turns : List Turn} → Reading call r b pages turns → sum (map (λ (t : Turn). t .looks) turns) ≤ most
