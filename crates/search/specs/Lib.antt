@@ -10,3 +10,4 @@ pub mod Page
 pub mod Reading
 pub mod Walk
 pub mod Cases
+pub mod Demands

@@ -1,16 +1,16 @@
--- Laws of `over`, `count`, `some` and `first`, by places and by membership; and of a loop that stores from the front.
+-- Laws of `over`, `count`, `join`, `some` and `first`, by places and by membership; and of a loop that stores from the front.
 -- Assumes nothing.
 use mathlib.Core.Path.{_≡_, refl, sym, ap, _∙_, subst}
 use mathlib.Core.Bool.{Bool, true, false, cond, true≢false}
 use mathlib.Core.Logic.{⊎-elim}
-use mathlib.Core.List.{List, [], _∷_, _++_, map, append-assoc, List·Memᴰ as In, List·Memᴰ·head as at-head, List·Memᴰ·tail as in-tail}
+use mathlib.Core.List.{List, [], _∷_, _++_, map, append-assoc, map-append, List·Memᴰ as In, List·Memᴰ·head as at-head, List·Memᴰ·tail as in-tail}
 use Prim.Native.Nat.{ℕ, zero, suc, _+_, _-_, _≤_, _<_, zero-le}
 use native.Mathlib.Nat.{eq-or-lt-of-le, lt-irrefl, le-refl, not-suc-le-zero, le-of-suc-le-suc, add-zero}
 use native.Mathlib.Numerals.{add-one}
 use native.Mathlib.Omega.{arith}
 use lib.ListN.{length, take, drop, getD, set, length-append, length-drop, length-map}
 use lib.Seq.{drop-cons, set-at, getD-set-same, getD-set-other}
-use Rattle.theory.specs.Lists.{over, count, some, first}
+use Rattle.theory.specs.Lists.{over, count, some, first, join}
 
 -- ---- over
 
@@ -42,6 +42,12 @@ pub count-map-at : {A : Type 0} (f : ℕ → A) (a n i : ℕ) (d : A) → i < n 
 count-map-at f a zero i d h = absurd (not-suc-le-zero h)
 count-map-at f a (suc n) zero d h = rw add-zero
 count-map-at f a (suc n) (suc i) d h = let e : suc a + i ≡ a + suc i = omega arith in rw (← e) (count-map-at f (suc a) n i d (le-of-suc-le-suc h))
+
+-- ---- join
+
+pub join-map : {A B : Type 0} (f : A → B) (ls : List (List A)) → join (map (map f) ls) ≡ map f (join ls)
+join-map f [] = refl
+join-map f (l ∷ ls) = rw (join-map f ls) (sym (map-append f l (join ls)))
 
 -- ---- some and first
 

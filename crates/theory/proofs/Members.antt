@@ -1,15 +1,17 @@
--- Members of a count and of the hits of a list; and keys that rise along hits, along a map and along a count, or are all
--- below a bound. An entry that passes, as a member, is in `Lists`; members of a map and of two lists joined are
+-- Members of a count, of the hits of a list, of a page and of what stands after a bookmark; and keys that rise along hits,
+-- along a map and along a count, or are all below a bound. An entry that passes, as a member, is in `Lists`; members of a map and of two lists joined are
 -- mathlib's (`Memᴰ·map`, `Memᴰ·of-map`, `List·Memᴰ·append-cases`). Assumes nothing.
 use mathlib.Core.Path.{_≡_, refl, sym, ap, _∙_}
 use mathlib.Core.Bool.{Bool, true, false, cond, false≢true}
 use mathlib.Core.Logic.{_⊎_, inl, inr, ⊎-elim}
 use mathlib.Core.List.{List, [], _∷_, map, List·Memᴰ as In, List·Memᴰ·head as here, List·Memᴰ·tail as later, List·Memᴰ·not-nil, List·Memᴰ·cases-cons}
 use Prim.Native.Nat.{ℕ, zero, suc, _+_, _≤_, _<_}
-use native.Mathlib.Nat.{le-refl, le-trans, le-suc, eq-or-lt-of-le}
+use native.Mathlib.Nat.{le-refl, le-trans, le-suc, eq-or-lt-of-le, not-suc-le-zero}
 use native.Mathlib.Omega.{arith}
-use Rattle.theory.specs.Lists.{count}
-use Rattle.theory.specs.Pages.{hits, Rising}
+use lib.Dec.{ltb}
+use lib.ListN.{length}
+use Rattle.theory.specs.Lists.{count, last}
+use Rattle.theory.specs.Pages.{hits, pageHits, Rising, from}
 use Rattle.theory.proofs.Bookmarks.{rising-down, Below, none, one}
 
 -- ---- count
@@ -74,3 +76,33 @@ rising-add k b (x ∷ xs) r =
 pub below-in : {A : Type 0} (key : A → ℕ) (b : ℕ) (xs : List A) → ((x : A) → In x xs → key x < b) → Below key b xs
 below-in key b [] f = none
 below-in key b (x ∷ xs) f = one (f x (here refl)) (below-in key b xs (λ y m. f y (later m)))
+
+-- ---- what stands after a bookmark, a page, and the last of a list
+
+module _ {A : Type 0} (key : A → ℕ) (b : ℕ) where
+  pub in-from : (xs : List A) {x : A} → In x (from key b xs) → In x xs
+  in-from [] m = m
+  in-from (y ∷ ys) {x} m = step (ltb (key y) b) m (in-from ys)
+    where
+      step : (t : Bool) → In x (cond t (from key b ys) (y ∷ ys)) → (In x (from key b ys) → In x ys) → In x (y ∷ ys)
+      step true k ih = later (ih k)
+      step false k ih = k
+
+module _ {A : Type 0} (hit : A → Bool) where
+  pub in-page : (r : ℕ) (xs : List A) {x : A} → In x (pageHits hit r xs) → In x xs
+  in-page zero xs m = absurd (List·Memᴰ·not-nil m)
+  in-page (suc r) [] m = m
+  in-page (suc r) (y ∷ ys) {x} m = step (hit y) m (in-page r ys) (in-page (suc r) ys)
+    where
+      step : (t : Bool) → In x (cond t (y ∷ pageHits hit r ys) (pageHits hit (suc r) ys)) → (In x (pageHits hit r ys) → In x ys)
+          → (In x (pageHits hit (suc r) ys) → In x ys) → In x (y ∷ ys)
+      step true k p q = ⊎-elim (λ (e : x ≡ y). here e) (λ (t : In x (pageHits hit r ys)). later (p t)) (List·Memᴰ·cases-cons k)
+      step false k p q = later (q k)
+
+last-cons : {A : Type 0} (x : A) (xs : List A) → In (last x xs) (x ∷ xs)
+last-cons x [] = here refl
+last-cons x (y ∷ ys) = later (last-cons y ys)
+
+pub last-in : {A : Type 0} (d : A) (xs : List A) → 0 < length xs → In (last d xs) xs
+last-in d [] h = absurd (not-suc-le-zero h)
+last-in d (x ∷ xs) h = last-cons x xs

@@ -1,7 +1,7 @@
 -- Starts that are no hits may be left out: the pages are the same, and none has more looks. Assumes nothing.
 use mathlib.Core.Path.{_≡_, refl, sym, ap, _∙_}
 use mathlib.Core.Bool.{Bool, true, false, cond}
-use mathlib.Core.List.{List, [], _∷_}
+use mathlib.Core.List.{List, [], _∷_, List·Memᴰ as In, List·Memᴰ·head as here, List·Memᴰ·tail as later}
 use Prim.Native.Nat.{ℕ, zero, suc, _+_, _≤_}
 use native.Mathlib.Nat.{le-refl}
 use native.Mathlib.Omega.{arith}
@@ -50,11 +50,11 @@ module _ {A : Type 0} (hit : A → Bool) (looks : A → ℕ) where
       step true p q = omega arith
       step false p q = omega arith
 
--- a test that every hit passes may be made first: what fails it is left out
-pub thin-filter : {A : Type 0} (hit keep : A → Bool) → ((x : A) → keep x ≡ false → hit x ≡ false) → (xs : List A) → Thin hit xs (hits keep xs)
-thin-filter hit keep f [] = none
-thin-filter hit keep f (x ∷ xs) = step (keep x) refl (thin-filter hit keep f xs)
+-- a test that every hit of the list passes may be made first: what fails it is left out
+pub thin-filter : {A : Type 0} (hit keep : A → Bool) (xs : List A) → ((x : A) → In x xs → keep x ≡ false → hit x ≡ false) → Thin hit xs (hits keep xs)
+thin-filter hit keep [] f = none
+thin-filter hit keep (x ∷ xs) f = step (keep x) refl (thin-filter hit keep xs (λ y m. f y (later m)))
   where
     step : (b : Bool) → keep x ≡ b → Thin hit xs (hits keep xs) → Thin hit (x ∷ xs) (cond b (x ∷ hits keep xs) (hits keep xs))
     step true e t = kept t
-    step false e t = skip (f x e) t
+    step false e t = skip (f x (here refl) e) t

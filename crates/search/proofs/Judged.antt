@@ -1,0 +1,90 @@
+-- What `judge` comes to, over any rows: what is accepted where no row applies, and otherwise what the first row that
+-- applies gives, exactly. Where the rows' numbers rise, a number tells its row. Assumes nothing.
+use mathlib.Core.Path.{_≡_, refl, sym, ap, _∙_, subst}
+use mathlib.Core.Bool.{Bool, true, false, cond, true≢false}
+use mathlib.Core.List.{List, [], _∷_, _++_}
+use Prim.Native.Nat.{ℕ, suc, _≤_, _<_}
+use native.Mathlib.Nat.{le-refl}
+use native.Mathlib.Omega.{arith}
+use lib.Dec.{eqb}
+use borrow.Author.Tests.{eq-eqb, ne-eqb, eqb-true}
+use Rattle.theory.specs.Pages.{Rising}
+use Rattle.score.specs.declared.refusals.Refusal.{Refusal}
+use Rattle.score.specs.Refusals.{Row, judge}
+use Rattle.search.specs.Demands.{GivenBy, placeBy}
+
+-- no row applies
+abbrev pub Clear : List Row → Type 0
+Clear [] = Unit {0}
+Clear (row ∷ rows) = (row .applies ≡ false) × Clear rows
+
+pub clear-append : (rows more : List Row) → Clear rows → Clear more → Clear (rows ++ more)
+clear-append [] more c d = d
+clear-append (row ∷ rows) more c d = (c .0, clear-append rows more (c .1) d)
+
+pub clear-split : (rows more : List Row) → Clear (rows ++ more) → Clear rows × Clear more
+clear-split [] more c = (tt, c)
+clear-split (row ∷ rows) more c = let d = clear-split rows more (c .1) in ((c .0, d .0), d .1)
+
+abbrev pub number : Row → ℕ
+number row = row .given .number
+
+module _ {A : Type 0} (refused : Refusal → A) (accepted : A) where
+  -- what holds of every refusal and of what is accepted
+  pub judge-either : (P : A → Type 0) → ((r : Refusal) → P (refused r)) → P accepted → (rows : List Row) → P (judge rows refused accepted)
+  judge-either P f a [] = a
+  judge-either P f a (row ∷ rows) = step (row .applies) (judge-either P f a rows)
+    where
+      step : (b : Bool) → P (judge rows refused accepted) → P (cond b (refused (row .given)) (judge rows refused accepted))
+      step true ih = f (row .given)
+      step false ih = ih
+
+  pub judge-clear : (rows : List Row) → Clear rows → judge rows refused accepted ≡ accepted
+  judge-clear [] c = refl
+  judge-clear (row ∷ rows) c = rw (c .0) (judge-clear rows (c .1))
+
+  pub judge-given : (rows : List Row) (k : ℕ) → GivenBy rows k → judge rows refused accepted ≡ refused (record { number = k; place = placeBy rows k })
+  judge-given [] k g = absurd g
+  judge-given (row ∷ rows) k g = step (eqb (number row) k) refl g (judge-given rows k)
+    where
+      step : (b : Bool) → eqb (number row) k ≡ b → cond b (row .applies ≡ true) ((row .applies ≡ false) × GivenBy rows k)
+          → (GivenBy rows k → judge rows refused accepted ≡ refused (record { number = k; place = placeBy rows k }))
+          → judge (row ∷ rows) refused accepted ≡ refused (record { number = k; place = cond b (row .given .place) (placeBy rows k) })
+      step true e g ih = rw g (ap (λ (n : ℕ). refused (record { number = n; place = row .given .place })) (eqb-true (number row) k e))
+      step false e g ih = rw (g .0) (ih (g .1))
+
+  -- where no refusal passes for what came of it, no row applies
+  pub judge-clear-of : (Passes : A → Type 0) → ((r : Refusal) → Passes (refused r) → ⊥) → (rows : List Row) → Passes (judge rows refused accepted) → Clear rows
+  judge-clear-of Passes fails [] h = tt
+  judge-clear-of Passes fails (row ∷ rows) h = step (row .applies) refl h (judge-clear-of Passes fails rows)
+    where
+      step : (b : Bool) → row .applies ≡ b → Passes (cond b (refused (row .given)) (judge rows refused accepted)) → (Passes (judge rows refused accepted) → Clear rows)
+          → Clear (row ∷ rows)
+      step true e h ih = absurd (fails (row .given) h)
+      step false e h ih = (e, ih h)
+
+  -- what shows a refusal: each refusal only itself, and what is accepted none
+  module _ (Shows : A → Refusal → Type 0) (only : (r s : Refusal) → Shows (refused r) s → r ≡ s) (none : (s : Refusal) → Shows accepted s → ⊥) where
+    given-above : (rows : List Row) (b k : ℕ) → Rising number b rows → GivenBy rows k → b ≤ k
+    given-above [] b k up g = absurd g
+    given-above (row ∷ rows) b k up g = step (eqb (number row) k) refl g (given-above rows (suc (number row)) k (up .1))
+      where
+        step : (t : Bool) → eqb (number row) k ≡ t → cond t (row .applies ≡ true) ((row .applies ≡ false) × GivenBy rows k)
+            → (GivenBy rows k → suc (number row) ≤ k) → b ≤ k
+        step true e g ih = omega (arith, eqb-true (number row) k e, up .0)
+        step false e g ih = omega (arith, ih (g .1), up .0)
+
+    pub judge-shown : (rows : List Row) (b : ℕ) → Rising number b rows → (s : Refusal) → Shows (judge rows refused accepted) s
+        → GivenBy rows (s .number) × (s .place ≡ placeBy rows (s .number))
+    judge-shown [] b up s h = absurd (none s h)
+    judge-shown (row ∷ rows) b up s h = step (row .applies) refl h (judge-shown rows (suc (number row)) (up .1) s)
+      where
+        step : (t : Bool) → row .applies ≡ t → Shows (cond t (refused (row .given)) (judge rows refused accepted)) s
+            → (Shows (judge rows refused accepted) s → GivenBy rows (s .number) × (s .place ≡ placeBy rows (s .number)))
+            → GivenBy (row ∷ rows) (s .number) × (s .place ≡ placeBy (row ∷ rows) (s .number))
+        step true e h ih =
+            let q : row .given ≡ s = only (row .given) s h in
+            rw (eq-eqb (number row) (s .number) (ap (λ (r : Refusal). r .number) q)) (e, ap (λ (r : Refusal). r .place) (sym q))
+        step false e h ih =
+            let g : GivenBy rows (s .number) × (s .place ≡ placeBy rows (s .number)) = ih h in
+            rw (ne-eqb (number row) (s .number) (λ q. omega (arith, given-above rows (suc (number row)) (s .number) (up .1) (g .0)))) ((e, g .0), g .1)

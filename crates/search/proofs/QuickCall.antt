@@ -1,0 +1,82 @@
+-- A quick call: it turns a page exactly where it is asked right, otherwise gives exactly the first refusal that applies
+-- and writes nothing, the table neither; and its contract leaves one answer. Assumes nothing.
+use mathlib.Core.Path.{_≡_, refl, sym, _∙_}
+use mathlib.Core.Logic.{_↔_}
+use mathlib.Core.List.{List, _++_}
+use Prim.Native.Nat.{ℕ}
+use native.Mathlib.Omega.{arith}
+use lib.IntN.{ℤ}
+use Rattle.score.specs.declared.refusals.Refusal.{Refusal}
+use Rattle.score.specs.Score.{columnsIn, scoreOf}
+use Rattle.search.specs.declared.way.Way.{Way}
+use Rattle.search.specs.declared.bookmark.Bookmark.{Bookmark}
+use Rattle.search.specs.declared.page.Turn.{Turn}
+use Rattle.search.specs.declared.page.Page.{Page}
+use Rattle.search.specs.declared.page.Page.the-variants.{Turned, Refused}
+use Rattle.search.specs.Candidates.{themeTable}
+use Rattle.search.specs.Page.{QuickLeaf, leaf, quickPage, quickStarts, QuickPages}
+use Rattle.search.specs.Demands.{QuickAsks, quickRows, GivenBy, placeBy}
+use Rattle.search.proofs.Judged.{Clear, clear-append, clear-split, judge-clear}
+use Rattle.search.proofs.Rows.{scoreRows, setsRows, pageRows, accepted-clear, sets-clear, page-clear}
+use Rattle.search.proofs.Answers.{answer-turned, answer-refused, answer-kept}
+
+module _ (cells : List ℕ) (h : ℕ) (theme : List ℕ) (way : Way) (b : Bookmark) (sets table columns : List ℕ) (shifts : List ℤ) where
+  abbrev quickRefused : Refusal → QuickLeaf
+  quickRefused r = record { leaf = record { answer = Refused r; columns = columns; shifts = shifts }; table = table }
+
+  abbrev pub quickLeaf : QuickLeaf
+  quickLeaf =
+      record {
+        leaf = leaf way (scoreOf cells h) theme (quickStarts way (scoreOf cells h) theme (themeTable theme) sets) b columns shifts;
+        table = themeTable theme;
+      }
+
+  pub quick-clear : QuickAsks cells h theme way b sets table columns shifts ↔ Clear (quickRows cells h theme way b sets table columns shifts)
+  quick-clear = (
+    λ a. clear-append (scoreRows cells h theme) (setsRows cells h sets table ++ pageRows way (columnsIn cells h) b columns shifts)
+        (accepted-clear cells h theme .0 (a .plain .accepted))
+        (clear-append (setsRows cells h sets table) (pageRows way (columnsIn cells h) b columns shifts) (sets-clear cells h sets table .0 (a .with-sets, a .table-long))
+        (page-clear way (columnsIn cells h) b columns shifts .0 (a .plain .room, a .plain .same-room, a .plain .marked))),
+    λ c. let d = clear-split (scoreRows cells h theme) (setsRows cells h sets table ++ pageRows way (columnsIn cells h) b columns shifts) c in
+        let e = clear-split (setsRows cells h sets table) (pageRows way (columnsIn cells h) b columns shifts) (d .1) in
+        let s = sets-clear cells h sets table .1 (e .0) in
+        let p = page-clear way (columnsIn cells h) b columns shifts .1 (e .1) in
+        record {
+          plain = record { accepted = accepted-clear cells h theme .1 (d .0); room = p .0; same-room = p .1; marked = p .2 };
+          with-sets = s .0;
+          table-long = s .1;
+        },
+  )
+
+  pub quick-leaf : QuickAsks cells h theme way b sets table columns shifts → quickPage cells h theme way b sets table columns shifts ≡ quickLeaf
+  unfolding quickPage
+  quick-leaf a = judge-clear quickRefused quickLeaf (quickRows cells h theme way b sets table columns shifts) (quick-clear .0 a)
+
+  pub quick-turned : ((t : Turn) × (quickPage cells h theme way b sets table columns shifts .leaf .answer ≡ Turned t)) ↔ QuickAsks cells h theme way b sets table columns shifts
+  unfolding quickPage
+  quick-turned =
+      let e = answer-turned (λ (l : QuickLeaf). l .leaf .answer) quickRefused (λ r. refl) quickLeaf _ refl (quickRows cells h theme way b sets table columns shifts) in
+      (λ t. quick-clear .1 (e .0 t), λ a. e .1 (quick-clear .0 a))
+
+  pub quick-refused : (k p : ℕ) → (quickPage cells h theme way b sets table columns shifts .leaf .answer ≡ Refused (record { number = k; place = p }))
+      ↔ (GivenBy (quickRows cells h theme way b sets table columns shifts) k × (p ≡ placeBy (quickRows cells h theme way b sets table columns shifts) k))
+  unfolding quickPage
+  quick-refused k p =
+      answer-refused (λ (l : QuickLeaf). l .leaf .answer) quickRefused (λ r. refl) quickLeaf _ refl (quickRows cells h theme way b sets table columns shifts) (omega arith) k p
+
+  pub quick-kept : (r : Refusal) → quickPage cells h theme way b sets table columns shifts .leaf .answer ≡ Refused r
+      → (quickPage cells h theme way b sets table columns shifts .leaf .columns ≡ columns) × (quickPage cells h theme way b sets table columns shifts .leaf .shifts ≡ shifts)
+      × (quickPage cells h theme way b sets table columns shifts .table ≡ table)
+  unfolding quickPage
+  quick-kept =
+      answer-kept (λ (l : QuickLeaf). l .leaf .answer) quickRefused (λ r. refl) quickLeaf _ refl (quickRows cells h theme way b sets table columns shifts)
+      (λ (l : QuickLeaf). (l .leaf .columns ≡ columns) × (l .leaf .shifts ≡ shifts) × (l .table ≡ table)) (λ r. (refl, refl, refl))
+
+  pub quick-unique : {a a′ : Page} {t t′ c c′ : List ℕ} {s s′ : List ℤ} → QuickPages cells h theme way b sets table columns shifts a t c s
+      → QuickPages cells h theme way b sets table columns shifts a′ t′ c′ s′ → (a ≡ a′) × (t ≡ t′) × (c ≡ c′) × (s ≡ s′)
+  quick-unique p q = (
+    p .answers ∙ sym (q .answers),
+    p .fills-table ∙ sym (q .fills-table),
+    p .writes-columns ∙ sym (q .writes-columns),
+    p .writes-shifts ∙ sym (q .writes-shifts),
+  )

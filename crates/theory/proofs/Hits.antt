@@ -1,0 +1,46 @@
+-- Two tests of a list, made in either order; a test along a map; and a test before or after a bookmark, where the keys
+-- rise. Assumes nothing.
+use mathlib.Core.Path.{_≡_, refl, ap}
+use mathlib.Core.Bool.{Bool, true, false, cond}
+use mathlib.Core.List.{List, [], _∷_, map}
+use Prim.Native.Nat.{ℕ, suc, _≤_}
+use native.Mathlib.Omega.{arith}
+use lib.Dec.{ltb}
+use borrow.Author.Tests.{ltb-false}
+use Rattle.theory.specs.Pages.{hits, Rising, from}
+use Rattle.theory.proofs.Bookmarks.{rising-down, from-all}
+use Rattle.theory.proofs.Members.{rising-hits}
+
+pub hits-hits : {A : Type 0} (a b : A → Bool) (xs : List A) → hits a (hits b xs) ≡ hits b (hits a xs)
+hits-hits a b [] = refl
+hits-hits {A} a b (x ∷ xs) = step (a x) (b x) refl refl (hits-hits a b xs)
+  where
+    step : (s t : Bool) → a x ≡ s → b x ≡ t → hits a (hits b xs) ≡ hits b (hits a xs)
+        → hits a (cond t (x ∷ hits b xs) (hits b xs)) ≡ hits b (cond s (x ∷ hits a xs) (hits a xs))
+    step true true e f ih = rw (e, f) (ap (λ (l : List A). x ∷ l) ih)
+    step true false e f ih = rw f ih
+    step false true e f ih = rw e ih
+    step false false e f ih = ih
+
+pub hits-map : {A B : Type 0} (f : A → B) (test : B → Bool) (xs : List A) → hits test (map f xs) ≡ map f (hits (λ x. test (f x)) xs)
+hits-map f test [] = refl
+hits-map {B = B} f test (x ∷ xs) = step (test (f x)) (hits-map f test xs)
+  where
+    step : (b : Bool) → hits test (map f xs) ≡ map f (hits (λ x. test (f x)) xs)
+        → cond b (f x ∷ hits test (map f xs)) (hits test (map f xs)) ≡ map f (cond b (x ∷ hits (λ x. test (f x)) xs) (hits (λ x. test (f x)) xs))
+    step true ih = ap (λ (l : List B). f x ∷ l) ih
+    step false ih = ih
+
+module _ {A : Type 0} (key : A → ℕ) (keep : A → Bool) (b : ℕ) where
+  pub from-hits : (a : ℕ) (xs : List A) → Rising key a xs → from key b (hits keep xs) ≡ hits keep (from key b xs)
+  from-hits a [] up = refl
+  from-hits a (x ∷ xs) up = step (keep x) (ltb (key x) b) refl refl (from-hits (suc (key x)) xs (up .1))
+    where
+      step : (s t : Bool) → keep x ≡ s → ltb (key x) b ≡ t → from key b (hits keep xs) ≡ hits keep (from key b xs)
+          → from key b (cond s (x ∷ hits keep xs) (hits keep xs)) ≡ hits keep (cond t (from key b xs) (x ∷ xs))
+      step true true e f ih = rw f ih
+      step true false e f ih = rw (e, f)
+      step false true e f ih = ih
+      step false false e f ih =
+          let h : b ≤ suc (key x) = omega (arith, ltb-false (key x) b f) in
+          rw e (from-all key b (hits keep xs) (rising-down key b (suc (key x)) (hits keep xs) h (rising-hits keep key (suc (key x)) xs (up .1))))
