@@ -1,7 +1,8 @@
--- Laws of the definitions in specs/, for every crate above. Pages: `Pages` (hits and what is left), `Looks`, `Readings`
+-- Laws of the definitions in specs/, for every crate above. Lists: `Lists`, `Scans` (loops that test entries). Pages: `Pages` (hits and what is left), `Looks`, `Readings`
 -- (page after page), `Bookmarks` (keys), `Thin` (starts left out), `Going` (a page under way). Bits: `Bits`, `Masks`
 -- (what code writes), `Register`. Numbers with a sign: `Signed`.
 pub mod Lists
+pub mod Scans
 pub mod Pages
 pub mod Looks
 pub mod Readings
