@@ -5,4 +5,10 @@ pub mod Pitches
 pub mod Twelves
 pub mod Intervals
 pub mod IntervalSets
+mod Most
+mod ClassSets
+mod Turning
+mod Filling
 pub mod Judging
+pub mod Sound
+pub mod Preparing
