@@ -1,25 +1,24 @@
 -- The class set of a column: its bits, and a loop that gathers them. The idea: what is gathered, or-ed with what the cells
 -- left have, stays the same. Assumes nothing.
-use mathlib.Core.Path.{_≡_, refl, sym, ap, _∙_, subst}
+use mathlib.Core.Path.{_≡_, refl, sym, ap, _∙_}
 use mathlib.Core.Bool.{Bool, true, false, cond}
 use mathlib.Core.List.{List, _∷_, List·Memᴰ as In}
-use Prim.Native.Nat.{ℕ, suc, _+_, _*_, _%_, _^_, _≤_, _<_, zero-le, max}
+use Prim.Native.Nat.{ℕ, _+_, _*_, _%_, _^_, _≤_, _<_, zero-le, max}
 use native.Mathlib.Nat.{mod-lt, zero-lt-suc}
 use native.Mathlib.Numerals.{add-one}
 use native.Mathlib.Omega.{arith}
 use lib.Bits.{bitOr, or-lt}
-use lib.Dec.{leb, eqb}
+use lib.Dec.{eqb}
 use lib.ListN.{length, getD, drop, drop-of-length-le}
 use lib.Pow.{pow-lt}
 use lib.Seq.{drop-cons}
 use borrow.Author.Tests.{le-leb, lt-leb, eq-eqb, eqb-true, eqb-false}
-use Rattle.theory.specs.Bits.{bit, number}
-use Rattle.theory.specs.Lists.{some}
+use Rattle.theory.specs.Bits.{bit}
 use Rattle.theory.proofs.Bits.{bit-lt, bit-high, bit-number, number-lt, number-unique}
 use Rattle.theory.proofs.Lists.{some-in, in-some}
 use Rattle.theory.proofs.Masks.{put-same, put-other, one-shl}
 use Rattle.score.specs.declared.quantities.Pitch.{Pitch}
-use Rattle.score.specs.Score.{pitch, pitches}
+use Rattle.score.specs.Score.{pitches}
 use Rattle.score.specs.Classes.{hasClass, classSet}
 
 -- the bit for a test: 1 where it is passed

@@ -1,11 +1,10 @@
 -- A preparation: from the checks' verdicts to what the call promises, and that the promise settles the answer and the sets
 -- (`prepares-unique`). The idea: the rows of the call are the rows of the checks, one after the other. Assumes nothing.
 use mathlib.Core.Path.{_≡_, refl, sym, ap, _∙_}
-use mathlib.Core.Bool.{Bool, true, false, not}
+use mathlib.Core.Bool.{true, false}
 use mathlib.Core.List.{List, [], _∷_}
 use Prim.Native.Nat.{ℕ, _+_, _-_, _*_, _≤_}
 use native.Mathlib.Omega.{arith}
-use lib.Dec.{eqb}
 use lib.ListN.{length}
 use borrow.Author.Tests.{not-false, eqb-true}
 use Rattle.score.specs.declared.refusals.Refusal.{Refusal}

@@ -1,26 +1,19 @@
 -- The set of two columns by their class sets, and the loop that finds it. From a pitch of class k, interval q reaches the
 -- class (k + q) mod 12, which is bit q of the later class set turned down by k. Assumes nothing.
-use mathlib.Core.Path.{_≡_, refl, sym, ap, _∙_, subst}
+use mathlib.Core.Path.{_≡_, refl, sym, ap, _∙_}
 use mathlib.Core.Bool.{Bool, true, false, cond, true≢false}
-use mathlib.Core.Logic.{⊎-elim}
 use mathlib.Core.List.{List}
-use Prim.Native.Nat.{ℕ, zero, suc, _+_, _-_, _*_, _/_, _%_, _^_, _≤_, _<_, zero-le, min, max}
-use native.Mathlib.Nat.{mod-lt, zero-lt-suc, not-suc-le-zero, eq-or-lt-of-le}
-use native.Mathlib.Numerals.{add-one, sub-one}
+use Prim.Native.Nat.{ℕ, _+_, _-_, _*_, _/_, _%_, _^_, _≤_, _<_, zero-le, min, max}
+use native.Mathlib.Nat.{mod-lt, zero-lt-suc}
 use native.Mathlib.Decide.{decLt}
 use native.Mathlib.Omega.{arith}
 use lib.Bits.{bitOr, bitAnd, and-mask}
-use lib.Dec.{eqb}
 use lib.Pow.{high, low}
-use borrow.Author.Tests.{eqb-true, eq-eqb}
 use Rattle.theory.specs.Bits.{bit}
 use Rattle.theory.proofs.Bits.{bit-lt, bit-or, bit-shr, bit-mod, bit-high, bit-not, bit-ext}
-use Rattle.theory.proofs.Lists.{some-in, in-some}
-use Rattle.score.specs.declared.quantities.Pitch.{Pitch}
-use Rattle.score.specs.Score.{pitches}
 use Rattle.score.specs.Sets.{semitones, Apart, apart, intervalSet}
-use Rattle.score.specs.Classes.{hasClass, classSet, SetOf}
-use Rattle.score.proofs.ClassSets.{present, class-lt, class-in, in-class}
+use Rattle.score.specs.Classes.{classSet, SetOf}
+use Rattle.score.proofs.ClassSets.{present, class-in, in-class}
 use Rattle.score.proofs.IntervalSets.{apart-true, true-apart, set-number, set-lt}
 use Rattle.score.proofs.Intervals.{interval-from, interval-mod}
 use Rattle.score.proofs.Most.{most, most-nil, most-more, most-ge, most-one, most-lt}

@@ -1,6 +1,6 @@
 -- `score::sets::prepare` meets its contract: each way out is a row of the call. Assumes nothing.
 use borrow.Author.Needs.{needs}
-use mathlib.Core.Path.{_≡_, sym, ap, _∙_}
+use mathlib.Core.Path.{sym, _∙_}
 use Rattle.score.proofs.Preparing.{prepares-refused, prepares-long, prepares-room, prepares-filled}
 use Rattle.score.proofs.sets.prepare.Statement.{statement}
 use Rattle.score.proofs.sets.prepare.Tie as tie

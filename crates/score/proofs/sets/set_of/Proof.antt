@@ -1,9 +1,9 @@
 -- `score::sets::set_of` meets its contract. The invariant: what is reached from the classes below k. The measure is the
 -- classes left. Assumes nothing.
 use borrow.Author.Needs.{needs}
-use mathlib.Core.Path.{_≡_, sym, ap, _∙_}
+use mathlib.Core.Path.{sym, _∙_}
 use mathlib.Core.Logic.{⊎-elim}
-use Prim.Native.Nat.{ℕ, _-_, _*_, _%_, _<_}
+use Prim.Native.Nat.{_-_}
 use native.Mathlib.Omega.{arith}
 use lib.Bits.{and-le-r}
 use Rattle.theory.proofs.Bits.{bit-lt}
