@@ -43,6 +43,11 @@ module _ {A : Type 0} (refused : Refusal → A) (accepted : A) where
   judge-clear [] c = refl
   judge-clear (row ∷ rows) c = rw (c .0) (judge-clear rows (c .1))
 
+  -- rows that do not apply may be left out
+  pub judge-skip : (rows more : List Row) → Clear rows → judge (rows ++ more) refused accepted ≡ judge more refused accepted
+  judge-skip [] more c = refl
+  judge-skip (row ∷ rows) more c = rw (c .0) (judge-skip rows more (c .1))
+
   pub judge-given : (rows : List Row) (k : ℕ) → GivenBy rows k → judge rows refused accepted ≡ refused (record { number = k; place = placeBy rows k })
   judge-given [] k g = absurd g
   judge-given (row ∷ rows) k g = step (eqb (number row) k) refl g (judge-given rows k)
@@ -88,3 +93,13 @@ module _ {A : Type 0} (refused : Refusal → A) (accepted : A) where
         step false e h ih =
             let g : GivenBy rows (s .number) × (s .place ≡ placeBy rows (s .number)) = ih h in
             rw (ne-eqb (number row) (s .number) (λ q. omega (arith, given-above rows (suc (number row)) (s .number) (up .1) (g .0)))) ((e, g .0), g .1)
+
+-- two calls that judge the same rows: what relates their refusals and what they accept relates what comes of them
+module _ {A B : Type 0} (R : A → B → Type 0) (f : Refusal → A) (g : Refusal → B) (a : A) (b : B) where
+  pub judge-both : ((r : Refusal) → R (f r) (g r)) → R a b → (rows : List Row) → R (judge rows f a) (judge rows g b)
+  judge-both p q [] = q
+  judge-both p q (row ∷ rows) = step (row .applies) (judge-both p q rows)
+    where
+      step : (t : Bool) → R (judge rows f a) (judge rows g b) → R (cond t (f (row .given)) (judge rows f a)) (cond t (g (row .given)) (judge rows g b))
+      step true ih = p (row .given)
+      step false ih = ih

@@ -1,7 +1,8 @@
 -- Laws of this crate's definitions. Places: `Order` (the starts, which they are and that they rise), `Shifts` (codes and
 -- shifts), `Holding` (a column and a note), `Notes` (all notes). The list: `Listed`. Candidates: `Words` (the theme
 -- table), `Filtered`. Calls: `LookBound`, `Judged` and `Rows` (refusals), `Answers`, `PlainCall`, `QuickCall`. Pages:
--- `Turning` (bookmarks, and what is read back), `Paging`, `Readings`.
+-- `Turning` (bookmarks, and what is read back), `Paging` (one page), `Readings` (page after page), `Searches` (plain and
+-- quick), `Quicker` (quick and plain compared). What all this comes to: `Demands`.
 pub mod Order
 pub mod Shifts
 pub mod Holding
@@ -18,3 +19,6 @@ pub mod QuickCall
 pub mod Turning
 pub mod Paging
 pub mod Readings
+pub mod Searches
+pub mod Quicker
+pub mod Demands

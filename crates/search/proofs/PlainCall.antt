@@ -24,7 +24,7 @@ use Rattle.search.proofs.Rows.{scoreRows, pageRows, accepted-clear, pag
 use Rattle.search.proofs.Answers.{answer-turned, answer-refused, answer-kept}
 
 module _ (cells : List ℕ) (h : ℕ) (theme : List ℕ) (way : Way) (b : Bookmark) (columns : List ℕ) (shifts : List ℤ) where
-  abbrev plainRefused : Refusal → Leaf
+  abbrev pub plainRefused : Refusal → Leaf
   plainRefused r = record { answer = Refused r; columns = columns; shifts = shifts }
 
   abbrev pub plainLeaf : Leaf

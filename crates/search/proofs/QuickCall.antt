@@ -21,7 +21,7 @@ use Rattle.search.proofs.Rows.{scoreRows, setsRows, pageRows, accepted-
 use Rattle.search.proofs.Answers.{answer-turned, answer-refused, answer-kept}
 
 module _ (cells : List ℕ) (h : ℕ) (theme : List ℕ) (way : Way) (b : Bookmark) (sets table columns : List ℕ) (shifts : List ℤ) where
-  abbrev quickRefused : Refusal → QuickLeaf
+  abbrev pub quickRefused : Refusal → QuickLeaf
   quickRefused r = record { leaf = record { answer = Refused r; columns = columns; shifts = shifts }; table = table }
 
   abbrev pub quickLeaf : QuickLeaf
