@@ -31,7 +31,8 @@ use Rattle.search.specs.Pairs.{pairAt, pairs}
 use Rattle.search.specs.Candidates.{themeTable, candidate}
 use Rattle.search.specs.Bookmarks.{firstBookmark, keyOf}
 use Rattle.search.specs.Page.{spent, plainPage, quickPage, quickStarts}
-use Rattle.search.specs.Demands.{Accepted, AcceptedSets, allLooks, candidateLooks, mostLooks, candidatePairs, Lists}
+use Rattle.search.specs.Asking.{Accepted, AcceptedSets}
+use Rattle.search.specs.Demands.{allLooks, candidateLooks, mostLooks, candidatePairs, Lists}
 use Rattle.search.proofs.LookBound.{most-lt, sum-looks-le, sum-looks-none, page-looks-within, reached-page-within}
 use Rattle.search.proofs.Readings.{search-lists}
 use Rattle.search.proofs.Searches.{plainSearch, plain-calls, quickSearch, quick-calls}

@@ -1,17 +1,16 @@
 -- What `judge` comes to, over any rows: what is accepted where no row applies, and otherwise what the first row that
 -- applies gives, exactly. Where the rows' numbers rise, a number tells its row. Assumes nothing.
-use mathlib.Core.Path.{_≡_, refl, sym, ap, _∙_, subst}
-use mathlib.Core.Bool.{Bool, true, false, cond, true≢false}
+use mathlib.Core.Path.{_≡_, refl, sym, ap}
+use mathlib.Core.Bool.{Bool, true, false, cond}
 use mathlib.Core.List.{List, [], _∷_, _++_}
-use Prim.Native.Nat.{ℕ, suc, _≤_, _<_}
-use native.Mathlib.Nat.{le-refl}
+use Prim.Native.Nat.{ℕ, suc, _≤_}
 use native.Mathlib.Omega.{arith}
 use lib.Dec.{eqb}
 use borrow.Author.Tests.{eq-eqb, ne-eqb, eqb-true}
 use Rattle.theory.specs.Pages.{Rising}
 use Rattle.score.specs.declared.refusals.Refusal.{Refusal}
 use Rattle.score.specs.Refusals.{Row, judge}
-use Rattle.search.specs.Demands.{GivenBy, placeBy}
+use Rattle.search.specs.Asking.{GivenBy, placeBy}
 
 -- no row applies
 abbrev pub Clear : List Row → Type 0

@@ -15,7 +15,7 @@ use Rattle.search.specs.declared.page.Page.{Page}
 use Rattle.search.specs.declared.page.Page.the-variants.{Turned, Refused}
 use Rattle.search.specs.Candidates.{themeTable}
 use Rattle.search.specs.Page.{QuickLeaf, leaf, quickPage, quickStarts, QuickPages}
-use Rattle.search.specs.Demands.{QuickAsks, quickRows, GivenBy, placeBy}
+use Rattle.search.specs.Asking.{QuickAsks, quickRows, GivenBy, placeBy}
 use Rattle.search.proofs.Judged.{Clear, clear-append, clear-split, judge-clear}
 use Rattle.search.proofs.Rows.{scoreRows, setsRows, pageRows, accepted-clear, sets-clear, page-clear}
 use Rattle.search.proofs.Answers.{answer-turned, answer-refused, answer-kept}

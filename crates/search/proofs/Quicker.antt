@@ -1,18 +1,17 @@
 -- With the score's own sets a quick page is the plain page from the same bookmark, with no more looks: `quick-same`. The
 -- idea: what the candidates leave out is no hit. Assumes nothing.
-use mathlib.Core.Path.{_≡_, refl, sym, ap, _∙_, subst}
+use mathlib.Core.Path.{_≡_, refl, sym, ap, _∙_}
 use mathlib.Core.Bool.{Bool, true, false, cond, not, true≢false}
-use mathlib.Core.List.{List, [], _++_, map, List·Memᴰ as In}
-use Prim.Native.Nat.{ℕ, _+_, _-_, _≤_, _<_, zero-le}
-use native.Mathlib.Nat.{lt-of-not-le}
+use mathlib.Core.List.{List, _++_, map, List·Memᴰ as In}
+use Prim.Native.Nat.{ℕ, _-_, _≤_, _<_}
 use native.Mathlib.Decide.{decLt}
 use native.Mathlib.Omega.{arith}
-use lib.Dec.{leb, ltb}
+use lib.Dec.{leb}
 use lib.IntN.{ℤ}
 use lib.ListN.{length, getD, List·getD-eq-default}
 use borrow.Author.Tests.{ltb-false, le-ltb}
 use Rattle.theory.specs.Lists.{over, last}
-use Rattle.theory.specs.Pages.{hits, pageHits, pageLooks, from}
+use Rattle.theory.specs.Pages.{hits, from}
 use Rattle.theory.proofs.Lists.{some-none, none-some}
 use Rattle.theory.proofs.Members.{in-from, in-hits}
 use Rattle.theory.proofs.Hits.{from-hits, hits-all, hits-map}
@@ -25,14 +24,14 @@ use Rattle.score.proofs.IntervalSets.{sets-length, sets-lt}
 use Rattle.search.specs.declared.way.Way.{Way}
 use Rattle.search.specs.declared.bookmark.Pair.{Pair}
 use Rattle.search.specs.declared.bookmark.Bookmark.{Bookmark}
-use Rattle.search.specs.declared.page.Page.the-variants.{Turned, Refused}
 use Rattle.search.specs.Starts.{Place, place, key, starts, hit, looks}
 use Rattle.search.specs.Pairs.{pairAt, pairs}
 use Rattle.search.specs.Candidates.{themeTable, candidate}
 use Rattle.search.specs.Bookmarks.{afterPair, finishedBookmark, keyOf}
 use Rattle.search.specs.Refusals.{badNote}
-use Rattle.search.specs.Page.{Leaf, QuickLeaf, columnsOf, shiftsOf, found, spent, leaf, plainPage, quickPage, quickStarts}
-use Rattle.search.specs.Demands.{Accepted, AcceptedSets, turned, refused, SamePage, candidatePairs}
+use Rattle.search.specs.Page.{Leaf, QuickLeaf, columnsOf, shiftsOf, found, leaf, plainPage, quickPage, quickStarts}
+use Rattle.search.specs.Asking.{Accepted, AcceptedSets}
+use Rattle.search.specs.Demands.{turned, refused, SamePage, candidatePairs}
 use Rattle.search.proofs.Order.{starts-rising}
 use Rattle.search.proofs.Filtered.{hit-candidate}
 use Rattle.search.proofs.Judged.{clear-append, judge-skip, judge-both}

@@ -1,22 +1,21 @@
 -- The plain and the quick call turn the pages of their starts: what `Readings` asks of a call. The quick starts are those
 -- of the plain way that pass a test, so they rise too. Assumes nothing.
-use mathlib.Core.Path.{_≡_, refl, sym, ap, _∙_, subst}
+use mathlib.Core.Path.{_≡_, sym, ap, _∙_, subst}
 use mathlib.Core.Bool.{Bool}
 use mathlib.Core.List.{List, List·Memᴰ as In}
-use Prim.Native.Nat.{ℕ, _+_, _≤_, _<_}
+use Prim.Native.Nat.{ℕ, _≤_, _<_}
 use native.Mathlib.Omega.{arith}
 use lib.IntN.{ℤ}
 use lib.ListN.{length}
-use Rattle.theory.specs.Pages.{hits}
 use Rattle.theory.proofs.Members.{in-hits, rising-hits}
-use Rattle.score.specs.Score.{columnsIn, scoreOf}
+use Rattle.score.specs.Score.{scoreOf}
 use Rattle.score.proofs.Columns.{score-length}
 use Rattle.search.specs.declared.way.Way.{Way}
 use Rattle.search.specs.declared.bookmark.Bookmark.{Bookmark}
 use Rattle.search.specs.Starts.{Place, key, starts}
 use Rattle.search.specs.Candidates.{themeTable, candidate}
-use Rattle.search.specs.Page.{Leaf, QuickLeaf, plainPage, quickPage, quickStarts}
-use Rattle.search.specs.Demands.{Accepted, AcceptedSets, InRange, PlainAsks, QuickAsks}
+use Rattle.search.specs.Page.{QuickLeaf, plainPage, quickPage, quickStarts}
+use Rattle.search.specs.Asking.{Accepted, AcceptedSets, InRange, PlainAsks}
 use Rattle.search.proofs.Order.{starts-rising, in-starts}
 use Rattle.search.proofs.PlainCall.{plain-leaf}
 use Rattle.search.proofs.QuickCall.{quick-leaf}

@@ -8,4 +8,5 @@ pub mod Bookmarks
 pub mod Refusals
 pub mod Page
 pub mod Reading
+pub mod Asking
 pub mod Demands
