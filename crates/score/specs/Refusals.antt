@@ -7,6 +7,8 @@ use lib.Dec.{leb, ltb, eqb}
 use lib.ListN.{length}
 use Rattle.theory.specs.Lists.{some, first}
 use Rattle.score.specs.declared.refusals.Refusal.{Refusal}
+use Rattle.score.specs.declared.refusals.Verdict.{Verdict}
+use Rattle.score.specs.declared.refusals.Verdict.the-variants.{Accepted, Refused}
 use Rattle.score.specs.Score.{columnsIn}
 
 -- a row: whether its condition holds, and what is then given
@@ -21,6 +23,10 @@ row number applies place = record { applies = applies; given = record { number =
 abbrev pub judge : {A : Type 0} → List Row → (Refusal → A) → A → A
 judge [] refused accepted = accepted
 judge (r ∷ rows) refused accepted = cond (r .applies) (refused (r .given)) (judge rows refused accepted)
+
+-- what a check of these rows says
+abbrev pub verdict : List Row → Verdict
+verdict rows = judge rows Refused Accepted
 
 -- 1: h is 0 or over 16
 abbrev pub row1 : (h : ℕ) → Row

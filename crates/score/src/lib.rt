@@ -1,14 +1,19 @@
 // A score, what is turned away, and what is prepared of it.
 //
-// `quantities` keeps pitch, interval and column number apart; `refusals` says what a refusal holds; then `sets` has the
-// answer of a preparation.
+// `quantities` keeps pitch, interval and column number apart; `refusals` says what a refusal holds; `checks` says what is
+// refused and where; then `sets` has the answer of a preparation.
 
+mod checks;
 mod quantities;
 mod refusals;
 mod sets;
 
+pub use checks::check_score;
+pub use checks::check_sets;
+pub use checks::columns_in;
 pub use quantities::Column;
 pub use quantities::Interval;
 pub use quantities::Pitch;
 pub use refusals::Refusal;
+pub use refusals::Verdict;
 pub use sets::Preparation;

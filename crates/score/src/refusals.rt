@@ -5,3 +5,9 @@ pub struct Refusal {
     pub number: u8,
     pub place: usize,
 }
+
+// What a check says: nothing is turned away, or this is.
+pub enum Verdict {
+    Accepted,
+    Refused(Refusal),
+}

@@ -9,4 +9,6 @@ pub mod Refusals
 pub mod Page
 pub mod Reading
 pub mod Asking
+pub mod Walk
+pub mod Cases
 pub mod Demands

@@ -68,7 +68,7 @@ module _ (way : Way) (score : List (List ℕ)) (theme : List ℕ) (reached : Lis
 -- the plain way reaches every start: refusals 1 to 5, 9, 10
 unfoldable pub plainPage : (cells : List ℕ) (h : ℕ) (theme : List ℕ) → Way → Bookmark → (columns : List ℕ) (shifts : List ℤ) → Leaf
 plainPage cells h theme way b columns shifts =
-    judge (row1 h ∷ row2 cells h ∷ row3 cells ∷ row4 theme ∷ row5 theme ∷ row9 columns shifts ∷ row10 way (columnsIn cells h) b ∷ [])
+    judge (row1 h ∷ row2 cells h ∷ row3 cells ∷ row4 theme ∷ row5 theme ∷ row9 (length columns) (length shifts) ∷ row10 way (columnsIn cells h) b ∷ [])
     (λ r. record { answer = Refused r; columns = columns; shifts = shifts })
     (leaf way (scoreOf cells h) theme (starts way (scoreOf cells h) theme) b columns shifts)
 
@@ -85,7 +85,7 @@ pub record QuickLeaf : Type 0 where
 unfoldable pub quickPage : (cells : List ℕ) (h : ℕ) (theme : List ℕ) → Way → Bookmark → (sets table columns : List ℕ) (shifts : List ℤ) → QuickLeaf
 quickPage cells h theme way b sets table columns shifts =
     judge
-    (row1 h ∷ row2 cells h ∷ row3 cells ∷ row4 theme ∷ row5 theme ∷ row6 cells h sets ∷ row7 sets ∷ row8 table ∷ row9 columns shifts
+    (row1 h ∷ row2 cells h ∷ row3 cells ∷ row4 theme ∷ row5 theme ∷ row6 cells h sets ∷ row7 sets ∷ row8 (length table) ∷ row9 (length columns) (length shifts)
     ∷ row10 way (columnsIn cells h) b ∷ [])
     (λ r. record { leaf = record { answer = Refused r; columns = columns; shifts = shifts }; table = table })
     (record {

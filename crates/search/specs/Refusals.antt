@@ -4,7 +4,7 @@ use mathlib.Core.Bool.{Bool, not, _||_}
 use mathlib.Core.List.{List}
 use Prim.Native.Nat.{ℕ, _+_}
 use lib.Dec.{ltb, eqb}
-use lib.IntN.{ℤ, pos, _+ℤ_}
+use lib.IntN.{pos, _+ℤ_}
 use lib.ListN.{length}
 use lib.Signed.{ltZ}
 use Rattle.theory.specs.Lists.{some, first}
@@ -25,12 +25,12 @@ abbrev pub row5 : (theme : List ℕ) → Row
 row5 theme = row 5 (some badNote theme) (first badNote theme)
 
 -- 8: theme table isn't 4,096 long
-abbrev pub row8 : (table : List ℕ) → Row
-row8 table = row 8 (not (eqb (length table) 4096)) 0
+abbrev pub row8 : (long : ℕ) → Row
+row8 long = row 8 (not (eqb long 4096)) 0
 
 -- 9: r is 0, or the two buffers differ in length
-abbrev pub row9 : (columns : List ℕ) (shifts : List ℤ) → Row
-row9 columns shifts = row 9 (eqb (length columns) 0 || not (eqb (length shifts) (length columns))) 0
+abbrev pub row9 : (r other : ℕ) → Row
+row9 r other = row 9 (eqb r 0 || not (eqb other r)) 0
 
 -- 10: bookmark column 0 or over n + 1, or shift outside -127..128 (octave 0..12)
 abbrev pub row10 : Way → (n : ℕ) → Bookmark → Row

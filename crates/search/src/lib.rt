@@ -4,12 +4,13 @@
 // are the places whose first note is present. The `table` has a word for each set and the `register` a step for each
 // column, which makes candidates. A `page` is what a call writes and answers.
 
-mod bookmark;
-mod page;
+pub mod bookmark;
+pub mod page;
 mod register;
+mod signs;
 mod starts;
 mod table;
-mod way;
+pub mod way;
 
 pub use bookmark::Bookmark;
 pub use bookmark::Pair;

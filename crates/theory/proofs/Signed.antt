@@ -5,8 +5,9 @@ use mathlib.Core.Bool.{Bool, true, false, cond}
 use Prim.Native.Nat.{ℕ, zero, suc, _+_, _-_, _^_, _≤_, _<_}
 use native.Mathlib.Omega.{arith}
 use lib.Dec.{T, ltb, leb→le, le→leb, lt→ltb}
-use lib.IntN.{ℤ, pos, negsuc, subℕ, _+ℤ_, _-ℤ_, +ℤ-negℤ-cancel}
-use lib.Signed.{mag, nonNeg, _≤ℤ_, _<ℤ_, leZ-yes, ltZ-yes}
+use lib.IntN.{ℤ, pos, negsuc, subℕ, _+ℤ_, _-ℤ_, +ℤ-negℤ-cancel, +ℤ-one}
+use lib.Pow.{pow-pos}
+use lib.Signed.{mag, nonNeg, ltZ, _≤ℤ_, _<ℤ_, leZ-yes, ltZ-yes}
 use borrow.Author.Tests.{ltb-true, ltb-false, le-ltb}
 use mir.Syntax.{Width}
 use mir.Val.{SFits, toZ, ofZ, hbits}
@@ -86,3 +87,11 @@ sub-fits w n b h k =
 
 pub sub-read : (w : Width) (n b : ℕ) → n < 2 ^ hbits w → b < 2 ^ hbits w → toZ w (ofZ w (toZ w n -ℤ pos (suc b))) ≡ pos n -ℤ pos (suc b)
 sub-read w n b h k = toZ-ofZ (sub-fits w n b h k) ∙ ap (λ (y : ℤ). y -ℤ pos (suc b)) (toZ-pos w h)
+
+-- ---- a number raised by one
+
+-- below the highest number of a width it stays within the width
+pub raise-fits : (w : Width) (z : ℤ) → SFits w z → ltZ z (pos (2 ^ hbits w - 1)) ≡ true → SFits w (z +ℤ pos 1)
+raise-fits w (pos a) f h = record { sfits = let l : a < 2 ^ hbits w - 1 = ltb-true a (2 ^ hbits w - 1) h in omega arith }
+raise-fits w (negsuc zero) f h = record { sfits = pow-pos (hbits w) }
+raise-fits w (negsuc (suc a)) f h = subst (SFits w) (sym (+ℤ-one (negsuc (suc a)))) (record { sfits = let l : suc a < 2 ^ hbits w = f .sfits in omega arith })

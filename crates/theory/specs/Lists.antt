@@ -2,6 +2,7 @@
 use mathlib.Core.Bool.{Bool, true, false, cond}
 use mathlib.Core.List.{List, [], _∷_, _++_}
 use Prim.Native.Nat.{ℕ, zero, suc, _+_}
+use lib.Dec.{leb, ltb}
 use lib.ListN.{length, drop}
 
 -- the buffer with vs written from its front; places behind them keep their contents
@@ -22,6 +23,15 @@ some test (x ∷ xs) = cond (test x) true (some test xs)
 abbrev pub first : {A : Type 0} → (A → Bool) → List A → ℕ
 first test [] = 0
 first test (x ∷ xs) = cond (test x) 0 (suc (first test xs))
+
+-- the lower of b and d, of which d counts only where it is x or more
+abbrev pub lower : (x d b : ℕ) → ℕ
+lower x d b = cond (leb x d) (cond (ltb d b) d b) b
+
+-- the least of b and the numbers of the list that are x or more
+abbrev pub lowest : (x b : ℕ) → List ℕ → ℕ
+lowest x b [] = b
+lowest x b (d ∷ ds) = lowest x (lower x d b) ds
 
 -- the last of a list, d of none
 abbrev pub last : {A : Type 0} → A → List A → A

@@ -1,0 +1,16 @@
+-- The worked cases hold: every row of the table comes out of the definitions as it stands. One theorem, by computation.
+-- Assumes nothing.
+use mathlib.Core.Path.{_≡_, refl}
+use mathlib.Core.List.{map}
+use Rattle.theory.specs.Bits.{bit, number}
+use Rattle.theory.specs.Register.{step, register}
+use Rattle.score.specs.Sets.{apart, intervalSet}
+use Rattle.search.specs.Way.{holds}
+use Rattle.search.specs.Starts.{hit, looks}
+use Rattle.search.specs.Candidates.{word, themeTable, candidate}
+use Rattle.search.specs.Page.{plainPage, quickStarts, quickPage}
+use Rattle.search.specs.Cases.{cases, made}
+
+pub cases-hold : map made cases ≡ cases
+unfolding plainPage quickPage quickStarts candidate themeTable word register step bit number hit looks holds intervalSet apart
+cases-hold = refl
