@@ -59,10 +59,10 @@ row4-clear theme = neither (ltb (length theme) 2) (ltb 32 (length theme)) (not-o
 pub row6-clear : (cells : List ℕ) (h : ℕ) (sets : List ℕ) → (row6 cells h sets .applies ≡ false) ↔ (length sets ≡ columnsIn cells h - 1)
 row6-clear cells h sets = equal (length sets) (columnsIn cells h - 1)
 
-pub row8-clear : (table : List ℕ) → (row8 table .applies ≡ false) ↔ (length table ≡ 4096)
+pub row8-clear : (table : List ℕ) → (row8 (length table) .applies ≡ false) ↔ (length table ≡ 4096)
 row8-clear table = equal (length table) 4096
 
-pub row9-clear : (columns : List ℕ) (shifts : List ℤ) → (row9 columns shifts .applies ≡ false) ↔ ((1 ≤ length columns) × (length shifts ≡ length columns))
+pub row9-clear : (columns : List ℕ) (shifts : List ℤ) → (row9 (length columns) (length shifts) .applies ≡ false) ↔ ((1 ≤ length columns) × (length shifts ≡ length columns))
 row9-clear columns shifts =
     neither (eqb (length columns) 0) (not (eqb (length shifts) (length columns))) (not-zero (length columns)) (equal (length shifts) (length columns))
 
@@ -91,10 +91,10 @@ abbrev pub scoreRows : (cells : List ℕ) (h : ℕ) (theme : List ℕ) → List 
 scoreRows cells h theme = row1 h ∷ row2 cells h ∷ row3 cells ∷ row4 theme ∷ row5 theme ∷ []
 
 abbrev pub setsRows : (cells : List ℕ) (h : ℕ) (sets table : List ℕ) → List Row
-setsRows cells h sets table = row6 cells h sets ∷ row7 sets ∷ row8 table ∷ []
+setsRows cells h sets table = row6 cells h sets ∷ row7 sets ∷ row8 (length table) ∷ []
 
 abbrev pub pageRows : Way → (n : ℕ) → Bookmark → (columns : List ℕ) (shifts : List ℤ) → List Row
-pageRows way n b columns shifts = row9 columns shifts ∷ row10 way n b ∷ []
+pageRows way n b columns shifts = row9 (length columns) (length shifts) ∷ row10 way n b ∷ []
 
 module _ (cells : List ℕ) (h : ℕ) (theme : List ℕ) where
   pub accepted-clear : Accepted cells h theme ↔ Clear (scoreRows cells h theme)

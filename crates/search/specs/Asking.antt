@@ -59,12 +59,12 @@ pub record QuickAsks (cells : List ℕ) (h : ℕ) (theme : List ℕ) (way : Way)
 
 abbrev pub plainRows : (cells : List ℕ) (h : ℕ) (theme : List ℕ) → Way → Bookmark → (columns : List ℕ) (shifts : List ℤ) → List Row
 plainRows cells h theme way b columns shifts =
-    row1 h ∷ row2 cells h ∷ row3 cells ∷ row4 theme ∷ row5 theme ∷ row9 columns shifts ∷ row10 way (columnsIn cells h) b ∷ []
+    row1 h ∷ row2 cells h ∷ row3 cells ∷ row4 theme ∷ row5 theme ∷ row9 (length columns) (length shifts) ∷ row10 way (columnsIn cells h) b ∷ []
 
 abbrev pub quickRows : (cells : List ℕ) (h : ℕ) (theme : List ℕ) → Way → Bookmark → (sets table columns : List ℕ) (shifts : List ℤ) → List Row
 quickRows cells h theme way b sets table columns shifts =
-    row1 h ∷ row2 cells h ∷ row3 cells ∷ row4 theme ∷ row5 theme ∷ row6 cells h sets ∷ row7 sets ∷ row8 table ∷ row9 columns shifts
-    ∷ row10 way (columnsIn cells h) b ∷ []
+    row1 h ∷ row2 cells h ∷ row3 cells ∷ row4 theme ∷ row5 theme ∷ row6 cells h sets ∷ row7 sets ∷ row8 (length table)
+    ∷ row9 (length columns) (length shifts) ∷ row10 way (columnsIn cells h) b ∷ []
 
 -- refusal k is given: no row before that of number k applies, and that one does
 abbrev pub GivenBy : List Row → (k : ℕ) → Type 0

@@ -1,23 +1,15 @@
 -- Laws of the definitions in specs/, for every crate above. Lists: `Lists`, `Members`, `Counts` (how many pass a test).
 -- Pages: `Pages` (hits and what is left), `Looks`, `Readings` (page after page), `Bookmarks` (keys), `Thin` (starts left
 -- out), `Going` (a page under way). Bits: `Bits`, `Masks` (what code writes), `Register`. Signs: `Signed`.
--- Laws of the definitions in specs/, for every crate above. Pages: `Pages` (hits and what is left), `Looks`, `Readings`
--- (page after page), `Bookmarks` (keys), `Members`, `Hits` (two tests), `Thin` (starts left out), `Going` (a page under way),
--- `Counts` (how many pass). Bits: `Bits`, `Masks` (what code writes), `Register`. Numbers with a sign: `Signed`.
 pub mod Lists
 pub mod Members
 pub mod Counts
 pub mod Lowest
--- Laws of the definitions in specs/, for every crate above. Lists: `Lists`, `Scans` (loops that test entries). Pages: `Pages` (hits and what is left), `Looks`, `Readings`
--- (page after page), `Bookmarks` (keys), `Thin` (starts left out), `Going` (a page under way). Bits: `Bits`, `Masks`
--- (what code writes), `Register`. Numbers with a sign: `Signed`.
-pub mod Lists
 pub mod Scans
 pub mod Pages
 pub mod Looks
 pub mod Readings
 pub mod Bookmarks
-pub mod Members
 pub mod Hits
 pub mod Thin
 pub mod Going
