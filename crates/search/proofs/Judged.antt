@@ -1,17 +1,16 @@
 -- What `judge` comes to, over any rows: what is accepted where no row applies, and otherwise what the first row that
 -- applies gives, exactly. Where the rows' numbers rise, a number tells its row. Assumes nothing.
-use mathlib.Core.Path.{_≡_, refl, sym, ap, _∙_, subst}
-use mathlib.Core.Bool.{Bool, true, false, cond, true≢false}
+use mathlib.Core.Path.{_≡_, refl, sym, ap}
+use mathlib.Core.Bool.{Bool, true, false, cond}
 use mathlib.Core.List.{List, [], _∷_, _++_}
-use Prim.Native.Nat.{ℕ, suc, _≤_, _<_}
-use native.Mathlib.Nat.{le-refl}
+use Prim.Native.Nat.{ℕ, suc, _≤_}
 use native.Mathlib.Omega.{arith}
 use lib.Dec.{eqb}
 use borrow.Author.Tests.{eq-eqb, ne-eqb, eqb-true}
 use Rattle.theory.specs.Pages.{Rising}
 use Rattle.score.specs.declared.refusals.Refusal.{Refusal}
 use Rattle.score.specs.Refusals.{Row, judge}
-use Rattle.search.specs.Demands.{GivenBy, placeBy}
+use Rattle.search.specs.Asking.{GivenBy, placeBy}
 
 -- no row applies
 abbrev pub Clear : List Row → Type 0
@@ -42,6 +41,11 @@ module _ {A : Type 0} (refused : Refusal → A) (accepted : A) where
   pub judge-clear : (rows : List Row) → Clear rows → judge rows refused accepted ≡ accepted
   judge-clear [] c = refl
   judge-clear (row ∷ rows) c = rw (c .0) (judge-clear rows (c .1))
+
+  -- rows that do not apply may be left out
+  pub judge-skip : (rows more : List Row) → Clear rows → judge (rows ++ more) refused accepted ≡ judge more refused accepted
+  judge-skip [] more c = refl
+  judge-skip (row ∷ rows) more c = rw (c .0) (judge-skip rows more (c .1))
 
   pub judge-given : (rows : List Row) (k : ℕ) → GivenBy rows k → judge rows refused accepted ≡ refused (record { number = k; place = placeBy rows k })
   judge-given [] k g = absurd g
@@ -88,3 +92,13 @@ module _ {A : Type 0} (refused : Refusal → A) (accepted : A) where
         step false e h ih =
             let g : GivenBy rows (s .number) × (s .place ≡ placeBy rows (s .number)) = ih h in
             rw (ne-eqb (number row) (s .number) (λ q. omega (arith, given-above rows (suc (number row)) (s .number) (up .1) (g .0)))) ((e, g .0), g .1)
+
+-- two calls that judge the same rows: what relates their refusals and what they accept relates what comes of them
+module _ {A B : Type 0} (R : A → B → Type 0) (f : Refusal → A) (g : Refusal → B) (a : A) (b : B) where
+  pub judge-both : ((r : Refusal) → R (f r) (g r)) → R a b → (rows : List Row) → R (judge rows f a) (judge rows g b)
+  judge-both p q [] = q
+  judge-both p q (row ∷ rows) = step (row .applies) (judge-both p q rows)
+    where
+      step : (t : Bool) → R (judge rows f a) (judge rows g b) → R (cond t (f (row .given)) (judge rows f a)) (cond t (g (row .given)) (judge rows g b))
+      step true ih = p (row .given)
+      step false ih = ih

@@ -4,7 +4,7 @@
 use mathlib.Core.Path.{_≡_, refl}
 use mathlib.Core.Bool.{Bool, true, false, cond}
 use mathlib.Core.List.{List, [], _∷_, _++_, map}
-use Prim.Native.Nat.{ℕ, zero, suc, _+_, _-_, _*_, _%_, _^_, _≤_, _<_, zero-le}
+use Prim.Native.Nat.{ℕ, suc, _+_, _-_, _*_, _%_, _^_, _≤_, _<_, zero-le}
 use native.Mathlib.Nat.{le-refl, le-trans, mul-le-mul, mul-le-mul-right, suc-mul}
 use native.Mathlib.Omega.{arith}
 use lib.Dec.{leb, eqb}
@@ -86,6 +86,20 @@ pub starts-le : (way : Way) (score : List (List ℕ)) (theme : List ℕ) (h : �
     → length (starts way score theme) ≤ (length score + 1 - length theme) * h
 starts-le way score theme h w = startsIn-le way (note theme 1) (length theme) 1 h score w
 
+-- within the limits such a product is below 2 ^ 32
+pub most-lt : (n h m : ℕ) → n ≤ 2048 → h ≤ 16 → 2 ≤ m → m ≤ 32 → (n + 1 - m) * h * (m - 1) < 2 ^ 32
+most-lt n h m n≤ h≤ m≥ m≤ =
+    omega (
+      arith,
+      mul-le-mul
+          {n₁ = (n + 1 - m) * h}
+          {m₁ = m - 1}
+          {n₂ = 2047 * 16}
+          {m₂ = 31}
+          (mul-le-mul {n₁ = n + 1 - m} {m₁ = h} {n₂ = 2047} {m₂ = 16} (omega arith) h≤)
+          (omega arith),
+    )
+
 -- ---- the looks of all starts, and of those that pass a test; and of a page, from any bookmark
 
 module _ (way : Way) (score : List (List ℕ)) (theme : List ℕ) (h : ℕ) (wide : (k : ℕ) → length (getD score k []) ≤ h) where
@@ -105,21 +119,6 @@ module _ (way : Way) (score : List (List ℕ)) (theme : List ℕ) (h : ℕ) (wid
   pub reached-looks-le : (keep : Place → Bool)
       → sum (map (looks way score theme) (hits keep (starts way score theme))) ≤ (length score + 1 - length theme) * h * (length theme - 1)
   reached-looks-le keep = le-trans (sum-hits (looks way score theme) keep (starts way score theme)) sum-looks-le
-
-  -- within the limits they are below 2 ^ 32
-  pub sum-looks-small : length score ≤ 2048 → h ≤ 16 → 2 ≤ length theme → length theme ≤ 32 → sum (map (looks way score theme) (starts way score theme)) < 2 ^ 32
-  sum-looks-small n≤ h≤ m≥ m≤ =
-      omega (
-        arith,
-        sum-looks-le,
-        mul-le-mul
-            {n₁ = (length score + 1 - length theme) * h}
-            {m₁ = length theme - 1}
-            {n₂ = 2047 * 16}
-            {m₂ = 31}
-            (mul-le-mul {n₁ = length score + 1 - length theme} {m₁ = h} {n₂ = 2047} {m₂ = 16} (omega arith) h≤)
-            (omega arith),
-      )
 
 -- a page from any bookmark takes no more than all starts: plain, and of the starts that pass a test
 module _ (way : Way) (score : List (List ℕ)) (theme : List ℕ) (r b : ℕ) where

@@ -24,7 +24,7 @@ use Rattle.search.specs.Pairs.{pairAt}
 use Rattle.search.specs.Bookmarks.{afterPair, finishedBookmark, keyOf}
 use Rattle.search.specs.Page.{Leaf, columnsOf, shiftsOf, turn, leaf}
 use Rattle.search.specs.Reading.{readPairs, Turns}
-use Rattle.search.specs.Demands.{InRange}
+use Rattle.search.specs.Asking.{InRange}
 use Rattle.search.proofs.Turning.{Found, key-next, after-range, finished-range, read-back}
 
 abbrev turnOf : Turn → Page → Turn

@@ -18,13 +18,13 @@ use Rattle.search.specs.declared.page.Page.{Page}
 use Rattle.search.specs.declared.page.Page.the-variants.{Turned, Refused}
 use Rattle.search.specs.Starts.{starts}
 use Rattle.search.specs.Page.{Leaf, leaf, plainPage, PlainPages}
-use Rattle.search.specs.Demands.{PlainAsks, plainRows, GivenBy, placeBy}
+use Rattle.search.specs.Asking.{PlainAsks, plainRows, GivenBy, placeBy}
 use Rattle.search.proofs.Judged.{Clear, clear-append, clear-split, judge-clear}
 use Rattle.search.proofs.Rows.{scoreRows, pageRows, accepted-clear, page-clear}
 use Rattle.search.proofs.Answers.{answer-turned, answer-refused, answer-kept}
 
 module _ (cells : List ℕ) (h : ℕ) (theme : List ℕ) (way : Way) (b : Bookmark) (columns : List ℕ) (shifts : List ℤ) where
-  abbrev plainRefused : Refusal → Leaf
+  abbrev pub plainRefused : Refusal → Leaf
   plainRefused r = record { answer = Refused r; columns = columns; shifts = shifts }
 
   abbrev pub plainLeaf : Leaf

@@ -15,13 +15,13 @@ use Rattle.search.specs.declared.page.Page.{Page}
 use Rattle.search.specs.declared.page.Page.the-variants.{Turned, Refused}
 use Rattle.search.specs.Candidates.{themeTable}
 use Rattle.search.specs.Page.{QuickLeaf, leaf, quickPage, quickStarts, QuickPages}
-use Rattle.search.specs.Demands.{QuickAsks, quickRows, GivenBy, placeBy}
+use Rattle.search.specs.Asking.{QuickAsks, quickRows, GivenBy, placeBy}
 use Rattle.search.proofs.Judged.{Clear, clear-append, clear-split, judge-clear}
 use Rattle.search.proofs.Rows.{scoreRows, setsRows, pageRows, accepted-clear, sets-clear, page-clear}
 use Rattle.search.proofs.Answers.{answer-turned, answer-refused, answer-kept}
 
 module _ (cells : List ℕ) (h : ℕ) (theme : List ℕ) (way : Way) (b : Bookmark) (sets table columns : List ℕ) (shifts : List ℤ) where
-  abbrev quickRefused : Refusal → QuickLeaf
+  abbrev pub quickRefused : Refusal → QuickLeaf
   quickRefused r = record { leaf = record { answer = Refused r; columns = columns; shifts = shifts }; table = table }
 
   abbrev pub quickLeaf : QuickLeaf

@@ -11,18 +11,21 @@ use lib.IntN.{ℤ}
 use lib.ListN.{length, length-map}
 use borrow.Author.Tests.{not-true, not-false}
 use Rattle.theory.specs.Lists.{sum, join}
-use Rattle.theory.specs.Pages.{hits, pageLooks, full}
+use Rattle.theory.specs.Pages.{hits, pageLooks, full, from}
 use Rattle.theory.proofs.Pages.{rest-less}
 use Rattle.theory.proofs.Lists.{join-map}
+use Rattle.theory.proofs.Bookmarks.{from-all}
 use Rattle.theory.proofs.Readings.{Reading as Walk, last as walk-last, more as walk-more, reading-join, reading-count, reading-looks}
 use Rattle.search.specs.declared.bookmark.Pair.{Pair}
 use Rattle.search.specs.declared.bookmark.Bookmark.{Bookmark}
 use Rattle.search.specs.declared.page.Turn.{Turn}
-use Rattle.search.specs.Starts.{Place}
+use Rattle.search.specs.Starts.{Place, key}
 use Rattle.search.specs.Pairs.{pairAt}
+use Rattle.search.specs.Bookmarks.{firstBookmark}
 use Rattle.search.specs.Page.{Leaf}
 use Rattle.search.specs.Reading.{Turns, Reading, last, more}
-use Rattle.search.specs.Demands.{Read}
+use Rattle.search.specs.Demands.{Read, Lists}
+use Rattle.search.proofs.Turning.{first-range, first-key}
 use Rattle.search.proofs.Paging.{Search, Calls, found, cost, inside, left, places, answer, call-turns, turns-same, next-left, next-range}
 
 -- the pages and the turns of a reading from b on, as a walk along the starts that are left there
@@ -115,3 +118,24 @@ module _ (S : Search) (call : Bookmark → List ℕ → List ℤ → Leaf) (call
   read-looks =
       let d = reading-walk S call calls i reading in
       rw (d .looks-are) (reading-looks (found S) (cost S) (S .room) (d .walk))
+
+-- ---- from the first bookmark the whole list is read
+
+module _ (S : Search) (call : Bookmark → List ℕ → List ℤ → Leaf) (calls : Calls S call) where
+  first-left : left S (firstBookmark (S .way)) ≡ S .reached
+  first-left = ap (λ (k : ℕ). from key k (S .reached)) (first-key (S .way)) ∙ from-all key 256 (S .reached) (calls .up)
+
+  pub search-lists : Lists call (S .room) (firstBookmark (S .way)) (map (pairAt (S .way)) (hits (found S) (S .reached))) (sum (map (cost S) (S .reached)))
+  search-lists =
+      record {
+        read = λ columns shifts long same. reading-exists S call calls columns shifts long same (firstBookmark (S .way)) start;
+        joined = λ reading. read-join S call calls start reading ∙ ap (λ (l : List Place). map (pairAt (S .way)) (hits (found S) l)) first-left;
+        counted =
+            λ reading.
+            read-count S call calls start reading ∙ ap (λ (l : List Place). length (hits (found S) l) / S .room + 1) first-left
+            ∙ ap (λ (n : ℕ). n / S .room + 1) (sym (length-map (hits (found S) (S .reached)) (pairAt (S .way))));
+        looked = λ reading. read-looks S call calls start reading ∙ ap (λ (l : List Place). sum (map (cost S) l)) first-left;
+      }
+    where
+      start : inside S (firstBookmark (S .way))
+      start = first-range (S .way) (length (S .score))

@@ -1,13 +1,13 @@
 -- Turning a page: the bookmark after a place is the next key, every bookmark that a page returns is in range, and what
 -- was written is read back. Assumes nothing.
 use mathlib.Core.Path.{_≡_, refl, sym, ap, _∙_, subst}
-use mathlib.Core.Bool.{Bool, true, false, not, cond}
+use mathlib.Core.Bool.{Bool, true, false, not}
 use mathlib.Core.List.{List, [], _∷_, _++_, map}
-use Prim.Native.Nat.{ℕ, zero, suc, _+_, _*_, _≤_, _<_, zero-le}
+use Prim.Native.Nat.{ℕ, suc, _+_, _≤_, _<_}
 use native.Mathlib.Nat.{le-refl}
 use native.Mathlib.Omega.{arith}
-use lib.Dec.{T, ltb, le→leb}
-use lib.IntN.{ℤ, pos, negsuc, negℤ, sucℤ, _+ℤ_, _-ℤ_, +ℤ-one, sucℤ-+ℤ}
+use lib.Dec.{T, le→leb}
+use lib.IntN.{ℤ, pos, negℤ, _+ℤ_, _-ℤ_, +ℤ-one, sucℤ-+ℤ}
 use lib.ListN.{length}
 use lib.Signed.{ltZ, _≤ℤ_, _<ℤ_, leZ-yes, ltZ-yes, ltZ-no, ≤ℤ-refl, <ℤ-≤ℤ-trans, clashℤ}
 use borrow.Author.Tests.{lt-ltb}
@@ -16,14 +16,13 @@ use Rattle.score.specs.Score.{columnAt}
 use Rattle.search.specs.declared.way.Way.{Way}
 use Rattle.search.specs.declared.way.Way.the-variants.{Exact, Octave}
 use Rattle.search.specs.declared.bookmark.Pair.{Pair}
-use Rattle.search.specs.declared.bookmark.Bookmark.{Bookmark}
-use Rattle.search.specs.Way.{lowest, highest, span, shiftOf, codeOf}
-use Rattle.search.specs.Starts.{Place, place, key}
+use Rattle.search.specs.Way.{lowest, highest, span, shiftOf}
+use Rattle.search.specs.Starts.{Place, key}
 use Rattle.search.specs.Pairs.{pairAt}
 use Rattle.search.specs.Bookmarks.{firstBookmark, afterPair, finishedBookmark, keyOf}
 use Rattle.search.specs.Page.{columnsOf, shiftsOf}
 use Rattle.search.specs.Reading.{readPairs}
-use Rattle.search.specs.Demands.{InRange}
+use Rattle.search.specs.Asking.{InRange}
 use Rattle.search.proofs.Shifts.{code-shift, shift-above, shift-below}
 
 -- ---- the shift one higher

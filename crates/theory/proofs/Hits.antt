@@ -2,7 +2,7 @@
 -- rise. Assumes nothing.
 use mathlib.Core.Path.{_≡_, refl, ap}
 use mathlib.Core.Bool.{Bool, true, false, cond}
-use mathlib.Core.List.{List, [], _∷_, map}
+use mathlib.Core.List.{List, [], _∷_, map, List·Memᴰ as In, List·Memᴰ·head as here, List·Memᴰ·tail as later}
 use Prim.Native.Nat.{ℕ, suc, _≤_}
 use native.Mathlib.Omega.{arith}
 use lib.Dec.{ltb}
@@ -21,6 +21,11 @@ hits-hits {A} a b (x ∷ xs) = step (a x) (b x) refl refl (hits-hits a b xs)
     step true false e f ih = rw f ih
     step false true e f ih = rw e ih
     step false false e f ih = ih
+
+-- a test that every entry passes
+pub hits-all : {A : Type 0} (a : A → Bool) (xs : List A) → ((x : A) → In x xs → a x ≡ true) → hits a xs ≡ xs
+hits-all a [] f = refl
+hits-all {A} a (x ∷ xs) f = rw (f x (here refl)) (ap (λ (l : List A). x ∷ l) (hits-all a xs (λ y m. f y (later m))))
 
 pub hits-map : {A B : Type 0} (f : A → B) (test : B → Bool) (xs : List A) → hits test (map f xs) ≡ map f (hits (λ x. test (f x)) xs)
 hits-map f test [] = refl

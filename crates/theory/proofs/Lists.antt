@@ -3,8 +3,8 @@
 use mathlib.Core.Path.{_≡_, refl, sym, ap, _∙_, subst}
 use mathlib.Core.Bool.{Bool, true, false, cond, true≢false}
 use mathlib.Core.Logic.{⊎-elim}
-use mathlib.Core.List.{List, [], _∷_, _++_, map, append-assoc, map-append, List·Memᴰ as In, List·Memᴰ·head as at-head, List·Memᴰ·tail as in-tail, append-nil}
-use Prim.Native.Nat.{ℕ, zero, suc, _+_, _-_, _≤_, _<_, zero-le}
+use mathlib.Core.List.{List, [], _∷_, _++_, map, append-assoc, append-nil, map-append, List·Memᴰ as In, List·Memᴰ·head as at-head, List·Memᴰ·tail as in-tail}
+use Prim.Native.Nat.{ℕ, zero, suc, _+_, _-_, _≤_, _<_, zero-le, suc-le-suc}
 use native.Mathlib.Nat.{eq-or-lt-of-le, lt-irrefl, le-refl, not-suc-le-zero, le-of-suc-le-suc, add-zero}
 use native.Mathlib.Numerals.{add-one}
 use native.Mathlib.Omega.{arith}
@@ -113,6 +113,10 @@ module _ {A : Type 0} (test : A → Bool) where
       step true e k i h ih = absurd (true≢false k)
       step false e k zero h ih = e
       step false e k (suc i) h ih = ih k i (le-of-suc-le-suc h)
+
+  pub none-some : (xs : List A) (d : A) → ((i : ℕ) → i < length xs → test (getD xs i d) ≡ false) → some test xs ≡ false
+  none-some [] d f = refl
+  none-some (x ∷ xs) d f = rw (f 0 (omega arith)) (none-some xs d (λ i h. f (suc i) (suc-le-suc h)))
 
   -- an entry that passes
   pub some-at : (xs : List A) (d : A) (i : ℕ) → i < length xs → test (getD xs i d) ≡ true → some test xs ≡ true

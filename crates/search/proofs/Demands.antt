@@ -1,0 +1,102 @@
+-- The theorems about whole calls, by the demands of document 01.
+--
+-- What is turned away (demand 1), in `PlainCall` and `QuickCall`: a call turns a page exactly where it is asked right
+-- (`plain-turned`, `quick-turned`); otherwise it gives exactly the first refusal of its rows that applies, with its number
+-- and place (`plain-refused`, `quick-refused`), and nothing lent is written (`plain-kept`, `quick-kept`). `Rows` has each
+-- row as plain facts. The contracts leave one answer and one state of the buffers (`plain-unique`, `quick-unique`).
+-- What is listed (demand 3), here: `plain-lists` and `quick-lists`, page after page from the first bookmark, at any room
+-- and whatever the buffers held; `own-lists` with the score's own sets. That the list holds exactly the pairs of the
+-- definition, in order and each once, is `Listed`.
+-- Looks, here: those of a whole list and of a page are at most `mostLooks` (`all-looks-le`, `candidate-looks-le`,
+-- `plain-page-le`, `quick-page-le`), which fits 32 bits (`most-fits`); `quick-same` of `Quicker` says that with the score's
+-- own sets a quick page is the plain page with no more looks. Assumes nothing.
+use mathlib.Core.Path.{_≡_, sym, ap, _∙_}
+use mathlib.Core.List.{List, map}
+use Prim.Native.Nat.{ℕ, _+_, _-_, _*_, _^_, _≤_, _<_}
+use native.Mathlib.Nat.{le-trans}
+use native.Mathlib.Omega.{arith}
+use lib.IntN.{ℤ}
+use lib.ListN.{length}
+use Rattle.theory.specs.Pages.{hits}
+use Rattle.theory.proofs.Hits.{hits-hits, hits-map}
+use Rattle.theory.proofs.Looks.{sum-hits}
+use Rattle.score.specs.Score.{columnsIn, scoreOf}
+use Rattle.score.specs.Sets.{sets}
+use Rattle.score.proofs.Columns.{score-length, column-le}
+use Rattle.search.specs.declared.way.Way.{Way}
+use Rattle.search.specs.declared.bookmark.Pair.{Pair}
+use Rattle.search.specs.declared.bookmark.Bookmark.{Bookmark}
+use Rattle.search.specs.Starts.{Place, starts, hit, looks}
+use Rattle.search.specs.Pairs.{pairAt, pairs}
+use Rattle.search.specs.Candidates.{themeTable, candidate}
+use Rattle.search.specs.Bookmarks.{firstBookmark, keyOf}
+use Rattle.search.specs.Page.{spent, plainPage, quickPage, quickStarts}
+use Rattle.search.specs.Asking.{Accepted, AcceptedSets}
+use Rattle.search.specs.Demands.{allLooks, candidateLooks, mostLooks, candidatePairs, Lists}
+use Rattle.search.proofs.LookBound.{most-lt, sum-looks-le, sum-looks-none, page-looks-within, reached-page-within}
+use Rattle.search.proofs.Readings.{search-lists}
+use Rattle.search.proofs.Searches.{plainSearch, plain-calls, quickSearch, quick-calls}
+use Rattle.search.proofs.Quicker.{own-sets, own-pairs}
+
+-- ---- looks: of a whole list and of a page at most `mostLooks`, which fits 32 bits
+
+module _ (cells : List ℕ) (h : ℕ) (theme : List ℕ) (way : Way) where
+  most-is : (length (scoreOf cells h) + 1 - length theme) * h * (length theme - 1) ≡ mostLooks cells h theme
+  most-is = ap (λ (n : ℕ). (n + 1 - length theme) * h * (length theme - 1)) (score-length cells h)
+
+  pub most-fits : Accepted cells h theme → mostLooks cells h theme < 2 ^ 32
+  most-fits a = most-lt (columnsIn cells h) h (length theme) (a .columns-few) (a .tracks-few) (a .notes-some) (a .notes-few)
+
+  pub all-looks-le : allLooks way (scoreOf cells h) theme ≤ mostLooks cells h theme
+  all-looks-le = rw (← most-is) (sum-looks-le way (scoreOf cells h) theme h (column-le (columnsIn cells h) h cells))
+
+  -- none where the theme is longer than the score
+  pub all-looks-none : columnsIn cells h < length theme → allLooks way (scoreOf cells h) theme ≡ 0
+  all-looks-none l = sum-looks-none way (scoreOf cells h) theme h (column-le (columnsIn cells h) h cells) (omega (arith, score-length cells h))
+
+  pub candidate-looks-le : (lent : List ℕ) → candidateLooks way (scoreOf cells h) theme lent ≤ allLooks way (scoreOf cells h) theme
+  unfolding quickStarts
+  candidate-looks-le lent = sum-hits (looks way (scoreOf cells h) theme) (λ s. candidate (themeTable theme) lent (length theme) (s .column)) (starts way (scoreOf cells h) theme)
+
+  module _ (b : Bookmark) (columns : List ℕ) (shifts : List ℤ) where
+    pub plain-page-le : spent way (scoreOf cells h) theme (starts way (scoreOf cells h) theme) b columns shifts ≤ mostLooks cells h theme
+    plain-page-le = le-trans (page-looks-within way (scoreOf cells h) theme (length columns) (keyOf way b)) all-looks-le
+
+    pub quick-page-le : (table lent : List ℕ) → spent way (scoreOf cells h) theme (quickStarts way (scoreOf cells h) theme table lent) b columns shifts ≤ mostLooks cells h theme
+    unfolding quickStarts
+    quick-page-le table lent =
+        le-trans (reached-page-within way (scoreOf cells h) theme (length columns) (keyOf way b) (λ s. candidate table lent (length theme) (s .column))) all-looks-le
+
+-- ---- demand 3
+
+module _ (cells : List ℕ) (h : ℕ) (theme : List ℕ) (way : Way) (a : Accepted cells h theme) (r : ℕ) (room : 1 ≤ r) where
+  -- plain: all pairs
+  pub plain-lists : Lists (plainPage cells h theme way) r (firstBookmark way) (pairs way (scoreOf cells h) theme) (allLooks way (scoreOf cells h) theme)
+  plain-lists = search-lists (plainSearch cells h theme way a r room) (plainPage cells h theme way) (plain-calls cells h theme way a r room)
+
+  -- quick, with sets of any score, and at each call any table of 4,096 places: the pairs at candidates
+  module _ (lent : List ℕ) (s : AcceptedSets cells h lent) (table : Bookmark → List ℕ → List ℤ → List ℕ)
+      (long : (b : Bookmark) (columns : List ℕ) (shifts : List ℤ) → length (table b columns shifts) ≡ 4096) where
+    quick-pairs : map (pairAt way) (hits (hit way (scoreOf cells h) theme) (quickStarts way (scoreOf cells h) theme (themeTable theme) lent))
+        ≡ candidatePairs way (scoreOf cells h) theme lent
+    unfolding quickStarts
+    quick-pairs =
+        ap (map (pairAt way))
+        (hits-hits (hit way (scoreOf cells h) theme) (λ (s : Place). candidate (themeTable theme) lent (length theme) (s .column)) (starts way (scoreOf cells h) theme))
+        ∙ sym
+        (hits-map (pairAt way) (λ (pair : Pair). candidate (themeTable theme) lent (length theme) (pair .column .0))
+        (hits (hit way (scoreOf cells h) theme) (starts way (scoreOf cells h) theme)))
+
+    pub quick-lists : Lists (λ b columns shifts. quickPage cells h theme way b lent (table b columns shifts) columns shifts .leaf) r (firstBookmark way)
+        (candidatePairs way (scoreOf cells h) theme lent) (candidateLooks way (scoreOf cells h) theme lent)
+    quick-lists =
+        rw (← quick-pairs)
+        (search-lists (quickSearch cells h theme way a r room lent s table long)
+        (λ b columns shifts. quickPage cells h theme way b lent (table b columns shifts) columns shifts .leaf)
+        (quick-calls cells h theme way a r room lent s table long))
+
+  -- with the score's own sets: all pairs
+  pub own-lists : (table : Bookmark → List ℕ → List ℤ → List ℕ) → ((b : Bookmark) (columns : List ℕ) (shifts : List ℤ) → length (table b columns shifts) ≡ 4096)
+      → Lists (λ b columns shifts. quickPage cells h theme way b (sets (scoreOf cells h)) (table b columns shifts) columns shifts .leaf) r (firstBookmark way)
+      (pairs way (scoreOf cells h) theme) (candidateLooks way (scoreOf cells h) theme (sets (scoreOf cells h)))
+  own-lists table long = rw (← own-pairs cells h theme way a) (quick-lists (sets (scoreOf cells h)) own-sets table long)
