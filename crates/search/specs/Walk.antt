@@ -3,11 +3,11 @@
 use mathlib.Core.Path.{_≡_}
 use mathlib.Core.Bool.{Bool, cond}
 use mathlib.Core.List.{List, map}
-use Prim.Native.Nat.{ℕ, _+_, _-_, _*_, _%_, _≤_}
+use Prim.Native.Nat.{ℕ, _+_, _-_, _*_, _%_, _≤_, _<_}
 use lib.Dec.{leb}
 use lib.IntN.{ℤ, pos, _+ℤ_}
 use lib.ListN.{length, getD, set}
-use lib.Seq.{sets}
+use lib.Seq.{sets as stored}
 use lib.Signed.{_≤ℤ_}
 use Rattle.theory.specs.Lists.{over, count, first, lower}
 use Rattle.theory.specs.Pages.{pageHits, pageLooks}
@@ -29,6 +29,12 @@ pub record Ready (cells : List ℕ) (h : ℕ) (theme : List ℕ) : Type 0 where
   pub notes : 2 ≤ length theme
   pub notes-most : length theme ≤ 32
   pub sung : (i : ℕ) → getD theme i 0 ≤ 127
+
+-- accepted sets, and a table as long as it must be
+pub record Lent (n : ℕ) (sets table : List ℕ) : Type 0 where
+  pub sets-long : length sets ≡ n - 1
+  pub sets-small : (k : ℕ) → getD sets k 0 < 4096
+  pub table-long : length table ≡ 4096
 
 -- a shift that a bookmark may have: one of the way's, or one above its highest
 pub record InRange (way : Way) (shift : ℤ) : Type 0 where
@@ -73,8 +79,8 @@ pub record Tries (way : Way) (score : List (List ℕ)) (theme : List ℕ) (tried
     (found′ spent : ℕ) (columns′ : List ℕ) (shifts′ : List ℤ) : Type 0 where
   pub count : found′ ≡ found + length (pageHits (hit way score theme) (length columns - found) tried)
   pub costs : spent ≡ pageLooks (hit way score theme) (looks way score theme) (length columns - found) tried
-  pub in-columns : columns′ ≡ sets columns found (columnsOf (pageHits (hit way score theme) (length columns - found) tried))
-  pub in-shifts : shifts′ ≡ sets shifts found (shiftsOf way (pageHits (hit way score theme) (length columns - found) tried))
+  pub in-columns : columns′ ≡ stored columns found (columnsOf (pageHits (hit way score theme) (length columns - found) tried))
+  pub in-shifts : shifts′ ≡ stored shifts found (shiftsOf way (pageHits (hit way score theme) (length columns - found) tried))
 
 -- what a walk along the starts leaves in the buffers: the page of those starts
 pub record Walks (way : Way) (score : List (List ℕ)) (theme : List ℕ) (walked : List Place) (columns : List ℕ) (shifts : List ℤ)

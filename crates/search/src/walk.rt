@@ -1,5 +1,8 @@
 // The walk along the starts: each column's starts are tried in order, and hits are written behind those found.
 
+use crate::register::marks;
+use crate::register::taken;
+use crate::register::warmed;
 use crate::signs::shift_of;
 use crate::signs::span_of;
 use crate::starts::next_code;
@@ -7,12 +10,18 @@ use crate::starts::try_start;
 use crate::way::Way;
 use score::Column;
 use score::Pitch;
+use score::columns_in;
 ghost use mathlib.Core.Path.{_≡_};
-ghost use Prim.Native.Nat.{_≤_, _<_};
+ghost use mathlib.Core.Bool.{cond};
+ghost use mathlib.Core.List.{[]};
+ghost use Prim.Native.Nat.{_+_, _*_, _≤_, _<_};
 ghost use lib.ListN.{length};
+ghost use Rattle.theory.specs.Pages.{from};
 ghost use Rattle.score.specs.Score.{columnsIn, scoreOf};
 ghost use Rattle.search.specs.Way.{span, shiftOf};
-ghost use Rattle.search.specs.Walk.{Ready, Fits, Keeps, columnStarts, Tries};
+ghost use Rattle.search.specs.Starts.{key, starts};
+ghost use Rattle.search.specs.Page.{quickStarts};
+ghost use Rattle.search.specs.Walk.{Ready, Fits, Keeps, columnStarts, Tries, Lent, Walks};
 
 // How far a walk has come: the pairs found, and the looks.
 pub struct Walked {
@@ -76,4 +85,127 @@ pub fn try_column(
         code = next + 1;
     }
     Walked { found: at, looks }
+}
+
+// Tries the starts of a column that is kept; of one that is not, none.
+fn try_kept(
+    kept: bool,
+    cells: &[u8],
+    h: usize,
+    theme: &[u8],
+    way: Way,
+    column: Column,
+    x: u16,
+    found: usize,
+    columns: &mut [u16],
+    shifts: &mut [i16],
+) -> Walked
+    requires { ⌜ Ready (now cells) h (now theme) ⌝ }
+    requires { ⌜ Fits (columnsIn (now cells) h) (length (now theme)) (column .0) ⌝ }
+    requires { ⌜ (x ≤ span way) × (found ≤ length (now columns)) × (length (now shifts) ≡ length (now columns)) ⌝ }
+    ensures { λ r. ⌜ Tries way (scoreOf (now (cells .entry)) h) (now (theme .entry)) (cond kept (columnStarts way (scoreOf (now (cells .entry)) h) (now (theme .entry)) (column .0) x) []) found (now (columns .entry)) (now (shifts .entry)) (r .found) (r .looks) (now (columns .exit)) (now (shifts .exit)) ⌝ }
+{
+    if !kept {
+        return Walked { found, looks: 0 };
+    }
+    try_column(cells, h, theme, way, column, x, found, columns, shifts)
+}
+
+// The walk along every start from a column and code on, until the page is full or none is left.
+pub fn walk_all(
+    cells: &[u8],
+    h: usize,
+    theme: &[u8],
+    way: Way,
+    first: Column,
+    x: u16,
+    columns: &mut [u16],
+    shifts: &mut [i16],
+) -> Walked
+    requires { ⌜ Ready (now cells) h (now theme) ⌝ }
+    requires { ⌜ (1 ≤ first .0) × (first .0 ≤ columnsIn (now cells) h + 1) × (x ≤ span way) × (length (now shifts) ≡ length (now columns)) ⌝ }
+    ensures { λ r. ⌜ Walks way (scoreOf (now (cells .entry)) h) (now (theme .entry)) (from key (first .0 * 256 + x) (starts way (scoreOf (now (cells .entry)) h) (now (theme .entry)))) (now (columns .entry)) (now (shifts .entry)) (r .found) (r .looks) (now (columns .exit)) (now (shifts .exit)) ⌝ }
+{
+    let past = columns_in(cells, h) + 1;
+    let m = theme.len();
+    let mut j = first.0 as usize;
+    let mut code = x;
+    let mut found: usize = 0;
+    let mut looks: u32 = 0;
+    while j + m <= past {
+        let t = try_column(
+            cells,
+            h,
+            theme,
+            way,
+            Column(j as u16),
+            code,
+            found,
+            columns,
+            shifts,
+        );
+        found = t.found;
+        looks += t.looks;
+        if found == columns.len() {
+            return Walked { found, looks };
+        }
+        code = 0;
+        j += 1;
+    }
+    Walked { found, looks }
+}
+
+// The same walk along the starts of candidates only. The register begins anew at the first column.
+pub fn walk_candidates(
+    cells: &[u8],
+    h: usize,
+    theme: &[u8],
+    way: Way,
+    first: Column,
+    x: u16,
+    sets: &[u16],
+    table: &[u32],
+    columns: &mut [u16],
+    shifts: &mut [i16],
+) -> Walked
+    requires { ⌜ Ready (now cells) h (now theme) ⌝ }
+    requires { ⌜ Lent (columnsIn (now cells) h) (now sets) (now table) ⌝ }
+    requires { ⌜ (1 ≤ first .0) × (first .0 ≤ columnsIn (now cells) h + 1) × (x ≤ span way) × (length (now shifts) ≡ length (now columns)) ⌝ }
+    ensures { λ r. ⌜ Walks way (scoreOf (now (cells .entry)) h) (now (theme .entry)) (from key (first .0 * 256 + x) (quickStarts way (scoreOf (now (cells .entry)) h) (now (theme .entry)) (now (table .entry)) (now (sets .entry)))) (now (columns .entry)) (now (shifts .entry)) (r .found) (r .looks) (now (columns .exit)) (now (shifts .exit)) ⌝ }
+{
+    let past = columns_in(cells, h) + 1;
+    let m = theme.len();
+    let mut j = first.0 as usize;
+    if past < j + m {
+        return Walked { found: 0, looks: 0 };
+    }
+    let top = m - 2;
+    let mut register = warmed(sets, table, j - 1, top);
+    let mut code = x;
+    let mut found: usize = 0;
+    let mut looks: u32 = 0;
+    while j + m <= past {
+        register = taken(register, sets, table, j + m - 3);
+        let kept = marks(register, top as u32);
+        let t = try_kept(
+            kept,
+            cells,
+            h,
+            theme,
+            way,
+            Column(j as u16),
+            code,
+            found,
+            columns,
+            shifts,
+        );
+        found = t.found;
+        looks += t.looks;
+        if found == columns.len() {
+            return Walked { found, looks };
+        }
+        code = 0;
+        j += 1;
+    }
+    Walked { found, looks }
 }

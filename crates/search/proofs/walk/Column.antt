@@ -60,6 +60,29 @@ module _ {hit′ : Bool} (j : ℕ) (c : ℤ) (at : ℕ) (columns : List ℕ) (sh
   pub keep-hit : (c′ : ℤ) → c′ ≡ c → hit′ ≡ true → Keeps hit′ j c at columns shifts (at + 1) (set columns at j) (set shifts at c′)
   keep-hit c′ d e = record { count = rw e; in-columns = rw e; in-shifts = rw (e, d) }
 
+-- nothing is tried
+pub tries-none : (way : Way) (score : List (List ℕ)) (theme : List ℕ) (C : List Place) {kept : Bool} (found : ℕ) (columns : List ℕ) (shifts : List ℤ)
+    → kept ≡ false → Tries way score theme (cond kept C []) found columns shifts found 0 columns shifts
+tries-none way score theme C found columns shifts e = rw e nothing
+  where
+    none : (r : ℕ) → pageHits (hit way score theme) r [] ≡ []
+    none zero = refl
+    none (suc r) = refl
+
+    free : (r : ℕ) → 0 ≡ pageLooks (hit way score theme) (looks way score theme) r []
+    free zero = refl
+    free (suc r) = refl
+
+    nothing : Tries way score theme [] found columns shifts found 0 columns shifts
+    nothing =
+        let z = none (length columns - found) in
+        record { count = rw z (omega arith); costs = free (length columns - found); in-columns = rw z; in-shifts = rw z }
+
+pub tries-all : (way : Way) (score : List (List ℕ)) (theme : List ℕ) (C : List Place) {kept : Bool} (found : ℕ) (columns : List ℕ) (shifts : List ℤ)
+    (found′ spent : ℕ) (columns′ : List ℕ) (shifts′ : List ℤ) → kept ≡ true → Tries way score theme C found columns shifts found′ spent columns′ shifts′
+    → Tries way score theme (cond kept C []) found columns shifts found′ spent columns′ shifts′
+tries-all way score theme C found columns shifts found′ spent columns′ shifts′ e t = rw e t
+
 -- ---- a column under way: `out` is what it gave so far
 
 pub record Filling (way : Way) (cells : List ℕ) (h : ℕ) (theme : List ℕ) (j x found : ℕ) (columns₀ : List ℕ) (shifts₀ : List ℤ)
