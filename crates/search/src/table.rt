@@ -24,7 +24,7 @@ fn step_up(x: Pitch, y: Pitch) -> Interval
 
 // The table's word for a set, from the theme's last interval to its first: each puts its bit in at the bottom and moves
 // the others up, so the bits past the theme's intervals are the ones that the word began with.
-fn word_of(theme: &[u8], set: u16) -> u32
+fn word_of(theme: &[u8], set: u32) -> u32
     requires { ⌜ 1 ≤ length (now theme) ⌝ }
     ensures { λ r. ⌜ r ≡ word (now (theme .entry)) set ⌝ }
 {
@@ -35,7 +35,7 @@ fn word_of(theme: &[u8], set: u16) -> u32
         let note = theme[i];
         let next = theme[i + 1];
         let d = step_up(Pitch(note), Pitch(next));
-        word = step(word, ((set >> d.0) & 1) as u32);
+        word = step(word, (set >> d.0) & 1);
     }
     word
 }
@@ -59,7 +59,7 @@ pub fn fill_table(theme: &[u8], table: &mut [u32])
     ensures { λ _. ⌜ now (table .exit) ≡ themeTable (now (theme .entry)) ⌝ }
 {
     table[0] = word_of(theme, 0);
-    let mut power: u16 = 1;
+    let mut power: u32 = 1;
     while power < 4096 {
         double(table, power as usize, word_of(theme, power));
         power += power;
