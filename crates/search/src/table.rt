@@ -17,9 +17,9 @@ ghost use Rattle.search.specs.Scan.{Doubled};
 fn step_up(x: Pitch, y: Pitch) -> Interval
     ensures { λ r. ⌜ r ≡ interval x y ⌝ }
 {
-    let low = x.0 as u16;
-    let high = y.0 as u16;
-    Interval(((high + 264 - low) % 12) as u8)
+    let from = x.0 as u16;
+    let to = y.0 as u16;
+    Interval(((to + 264 - from) % 12) as u8)
 }
 
 // The table's word for a set, from the theme's last interval to its first: each puts its bit in at the bottom and moves
@@ -52,7 +52,7 @@ fn double(table: &mut [u32], power: usize, word: u32)
     }
 }
 
-// The whole table of a theme.
+// The whole table of a theme. Of a theme with more than 33 notes a word has the first 32 intervals.
 pub fn fill_table(theme: &[u8], table: &mut [u32])
     requires { ⌜ 1 ≤ length (now theme) ⌝ }
     requires { ⌜ length (now table) ≡ 4096 ⌝ }
