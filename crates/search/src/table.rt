@@ -17,14 +17,14 @@ ghost use Rattle.search.specs.Scan.{Doubled};
 fn step_up(x: Pitch, y: Pitch) -> Interval
     ensures { λ r. ⌜ r ≡ interval x y ⌝ }
 {
-    let low = x.0 as u16;
-    let high = y.0 as u16;
-    Interval(((high + 264 - low) % 12) as u8)
+    let from = x.0 as u16;
+    let to = y.0 as u16;
+    Interval(((to + 264 - from) % 12) as u8)
 }
 
 // The table's word for a set, from the theme's last interval to its first: each puts its bit in at the bottom and moves
 // the others up, so the bits past the theme's intervals are the ones that the word began with.
-fn word_of(theme: &[u8], set: u16) -> u32
+fn word_of(theme: &[u8], set: u32) -> u32
     requires { ⌜ 1 ≤ length (now theme) ⌝ }
     ensures { λ r. ⌜ r ≡ word (now (theme .entry)) set ⌝ }
 {
@@ -35,7 +35,7 @@ fn word_of(theme: &[u8], set: u16) -> u32
         let note = theme[i];
         let next = theme[i + 1];
         let d = step_up(Pitch(note), Pitch(next));
-        word = step(word, ((set >> d.0) & 1) as u32);
+        word = step(word, (set >> d.0) & 1);
     }
     word
 }
@@ -52,14 +52,14 @@ fn double(table: &mut [u32], power: usize, word: u32)
     }
 }
 
-// The whole table of a theme.
+// The whole table of a theme. Of a theme with more than 33 notes a word has the first 32 intervals.
 pub fn fill_table(theme: &[u8], table: &mut [u32])
     requires { ⌜ 1 ≤ length (now theme) ⌝ }
     requires { ⌜ length (now table) ≡ 4096 ⌝ }
     ensures { λ _. ⌜ now (table .exit) ≡ themeTable (now (theme .entry)) ⌝ }
 {
     table[0] = word_of(theme, 0);
-    let mut power: u16 = 1;
+    let mut power: u32 = 1;
     while power < 4096 {
         double(table, power as usize, word_of(theme, power));
         power += power;

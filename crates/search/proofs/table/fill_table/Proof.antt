@@ -34,7 +34,7 @@ word-of-requires-2 : tie.Need-word-of-requires-2 Inv-loop μ-loop
 word-of-requires-2 c κs = search needs
 
 double-requires : tie.Need-double-requires Inv-loop μ-loop
-double-requires c κs = filled-room (c .before .before .before .loop .inv) (c .before .before .loop-test .taken)
+double-requires c κs = filled-room (c .before .before .before .loop .inv) (omega arith)
 
 add-power : tie.Need-add-power Inv-loop μ-loop
 add-power c = search needs
@@ -52,7 +52,7 @@ same-length c = c .before .loop .inv .long ∙ sym (c .before .before .before .b
 
 returns : tie.Need-returns Inv-loop μ-loop
 unfolding themeTable
-returns c = filled-all (c .before .loop .inv) (c .loop-test .left)
+returns c = filled-all (c .before .loop .inv) (omega arith)
 
 pub fill-table-spec : {M : Type 1} → statement M
 fill-table-spec =

@@ -5,7 +5,6 @@ use native.Mathlib.Omega.{arith}
 use borrow.Author.Needs.{needs}
 use Rattle.theory.specs.Bits.{bit}
 use Rattle.theory.specs.Register.{step}
-use Rattle.theory.proofs.Bits.{bit-lt}
 use Rattle.theory.proofs.Masks.{shr-and-one}
 use Rattle.score.specs.declared.quantities.Interval.{Interval}
 use Rattle.search.proofs.table.Laws.{Building, building-none, building-more, building-all}
@@ -45,12 +44,6 @@ cast-step c = search needs
 shr-step : tie.Need-shr-step Inv-loop μ-loop
 shr-step c = omega (arith, ap (λ (d : Interval). d .0) (c .before .step-up .ensures))
 
-cast-step-2 : tie.Need-cast-step-2 Inv-loop μ-loop
-cast-step-2 c =
-    let set = c .before .before .before .before .before .before .before .args .set in
-    let d = c .before .step-up .result .0 in
-    omega (arith, shr-and-one set d, bit-lt set d)
-
 step-requires : tie.Need-step-requires Inv-loop μ-loop
 step-requires c κs = search needs
 
@@ -84,7 +77,6 @@ word-of-spec =
     step-up-requires
     cast-step
     shr-step
-    cast-step-2
     step-requires
     loop-less
     loop-again
