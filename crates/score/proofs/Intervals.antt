@@ -1,9 +1,8 @@
 -- The interval of two pitches is what the published definition says, in integers, and the only such. The idea: y - x - d
 -- is divisible by 12 where y and x + d leave the same remainder. Assumes nothing.
 use mathlib.Core.Path.{_≡_, sym, subst}
-use Prim.Native.Nat.{ℕ, _+_, _-_, _%_, _≤_, _<_}
+use Prim.Native.Nat.{_+_, _%_, _≤_, _<_}
 use native.Mathlib.Omega.{arith}
-use lib.IntN.{ℤ, pos, _-ℤ_}
 use Rattle.score.specs.declared.quantities.Pitch.{Pitch}
 use Rattle.score.specs.declared.quantities.Interval.{Interval}
 use Rattle.score.specs.Sets.{Twelves, IsInterval, interval}

@@ -1,8 +1,15 @@
--- Laws of this crate's definitions, for every crate above: `Columns` (a score cut into its columns), `Pitches` (what a
--- pitch of a column is), `Twelves` (divisible by 12, in natural numbers), `Intervals`, `IntervalSets`; and `Judging` (from a verdict to an answer).
+-- Laws of this crate's definitions, for every crate above. A score: `Columns` (cut into its columns), `Pitches`. Intervals:
+-- `Twelves` (divisible by 12, in natural numbers), `Intervals`, `IntervalSets`. Refusals: `Judging` (from a verdict to an
+-- answer), `Sound` (what an accepted score has), `Preparing`. Within this crate: how the sets are found and filled.
 pub mod Columns
 pub mod Pitches
 pub mod Twelves
 pub mod Intervals
 pub mod IntervalSets
 pub mod Judging
+pub mod Sound
+pub mod Preparing
+mod Most
+mod ClassSets
+mod Turning
+mod Filling

@@ -1,6 +1,6 @@
 -- What is divisible by 12, in natural numbers: the difference of two is, exactly where they leave the same remainder.
 -- The idea: a difference has a sign, and on either side it is twelve times the difference of the quotients. Assumes nothing.
-use mathlib.Core.Path.{_≡_, refl, sym, ap, _∙_, subst}
+use mathlib.Core.Path.{_≡_, refl, sym, ap, _∙_}
 use mathlib.Core.Bool.{Bool, true, false, cond}
 use Prim.Native.Nat.{ℕ, zero, suc, _+_, _-_, _*_, _/_, _%_, _≤_, _<_, zero-le}
 use native.Mathlib.Omega.{arith}

@@ -1,7 +1,7 @@
 // A score, what is turned away, and what is prepared of it.
 //
 // `quantities` keeps pitch, interval and column number apart; `refusals` says what a refusal holds; `checks` says what is
-// refused and where; then `sets` has the answer of a preparation.
+// refused and where; then `sets` prepares.
 
 mod checks;
 mod quantities;
@@ -14,6 +14,8 @@ pub use checks::columns_in;
 pub use quantities::Column;
 pub use quantities::Interval;
 pub use quantities::Pitch;
+pub use quantities::interval_of;
 pub use refusals::Refusal;
 pub use refusals::Verdict;
 pub use sets::Preparation;
+pub use sets::prepare;

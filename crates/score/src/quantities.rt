@@ -1,5 +1,8 @@
 // Three kinds of quantity that code must not be able to pass for one another.
 
+ghost use mathlib.Core.Path.{_≡_};
+ghost use Rattle.score.specs.Sets.{interval};
+
 // A MIDI pitch, 0 to 127.
 pub struct Pitch(pub u8);
 
@@ -8,3 +11,10 @@ pub struct Interval(pub u8);
 
 // The number of a column, counted from 1.
 pub struct Column(pub u16);
+
+// The interval from x to y, a falling one too: 22 octaves are added before x is taken away.
+pub fn interval_of(x: Pitch, y: Pitch) -> Interval
+    ensures { λ r. ⌜ r ≡ interval x y ⌝ }
+{
+    Interval(((y.0 as u16 + 264 - x.0 as u16) % 12) as u8)
+}

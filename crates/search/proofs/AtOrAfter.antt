@@ -1,23 +1,18 @@
 -- The order of places is that of pairs: a place's key is at or after a bookmark's exactly where its pair is, by column and
 -- then by shift. The idea: shifts are ordered as their codes, and a code is below 256. Assumes nothing.
-use mathlib.Core.Path.{_≡_, refl, sym, ap, ap₂, _∙_, subst}
-use mathlib.Core.Bool.{Bool, true, false, cond, not, _&&_, _||_}
-use mathlib.Core.Logic.{_⊎_, inl, inr, ⊎-elim}
-use mathlib.Core.List.{List, map, List·Memᴰ as In}
-use Prim.Native.Nat.{ℕ, suc, _+_, _*_, _≤_, _<_}
+use mathlib.Core.Path.{_≡_, refl, sym, ap, _∙_, subst}
+use mathlib.Core.Bool.{Bool, true, false, not, _&&_, _||_}
+use mathlib.Core.Logic.{⊎-elim}
+use Prim.Native.Nat.{ℕ, _≤_, _<_}
 use native.Mathlib.Nat.{eq-or-lt-of-le}
-use native.Mathlib.Decide.{decLt}
 use native.Mathlib.Omega.{arith}
 use lib.Dec.{T, leb, ltb, eqb, ltb→lt}
-use lib.IntN.{ℤ, pos, negsuc, _+ℤ_}
-use lib.ListN.{length, take, drop}
+use lib.IntN.{ℤ, pos, negsuc}
 use lib.Signed.{leZ, ltZ}
 use borrow.Author.Tests.{le-leb, lt-leb, leb-true, leb-false, ltb-true, ltb-false, eqb-true, eqb-false}
 use Rattle.search.specs.declared.way.Way.{Way}
-use Rattle.search.specs.declared.way.Way.the-variants.{Exact, Octave}
-use Rattle.search.specs.declared.bookmark.Pair.{Pair}
 use Rattle.search.specs.declared.bookmark.Bookmark.{Bookmark}
-use Rattle.search.specs.Way.{lowest, highest, span, shiftOf, codeOf}
+use Rattle.search.specs.Way.{shiftOf, codeOf}
 use Rattle.search.specs.Starts.{Place, key}
 use Rattle.search.specs.Pairs.{pairAt}
 use Rattle.search.specs.Bookmarks.{keyOf}

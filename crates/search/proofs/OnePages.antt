@@ -1,15 +1,14 @@
 -- One page, said of the list of pairs: a call that turns pages of a list of starts writes the first r pairs of that list at
 -- or after the bookmark, leaves what stands behind them, and goes on or ends as it should (`call-page`). Assumes nothing.
-use mathlib.Core.Path.{_≡_, refl, sym, ap, _∙_}
-use mathlib.Core.Bool.{Bool, true, false, cond, not}
-use mathlib.Core.List.{List, _++_, map}
+use mathlib.Core.Path.{_≡_, sym, ap, _∙_}
+use mathlib.Core.Bool.{true, false, not}
+use mathlib.Core.List.{List, map}
 use Prim.Native.Nat.{ℕ, _+_, _<_}
 use native.Mathlib.Omega.{arith}
 use lib.Dec.{leb}
 use lib.IntN.{ℤ, pos}
-use lib.ListN.{length, take, drop, length-map}
+use lib.ListN.{length, drop, length-map}
 use borrow.Author.Tests.{le-leb, lt-leb, lt-ltb}
-use Rattle.theory.specs.Lists.{last}
 use Rattle.theory.specs.Pages.{hits, full}
 use Rattle.theory.proofs.Lists.{over-behind}
 use Rattle.theory.proofs.Pages.{page-take}
@@ -21,8 +20,8 @@ use Rattle.search.specs.declared.bookmark.Bookmark.{Bookmark}
 use Rattle.search.specs.Way.{lowest, shiftOf}
 use Rattle.search.specs.Starts.{Place, place, key}
 use Rattle.search.specs.Pairs.{pairAt}
-use Rattle.search.specs.Bookmarks.{afterPair, finishedBookmark, keyOf}
-use Rattle.search.specs.Page.{Leaf, columnsOf, shiftsOf}
+use Rattle.search.specs.Bookmarks.{keyOf}
+use Rattle.search.specs.Page.{Leaf}
 use Rattle.search.specs.OnePage.{atOrAfter, firstPairs, lastPair, raised, PageOf}
 use Rattle.search.proofs.Turning.{after-place, shift-next}
 use Rattle.search.proofs.AtOrAfter.{key-order}

@@ -4,6 +4,7 @@ pub mod Definition
 pub mod Starts
 pub mod Pairs
 pub mod Candidates
+pub mod Scan
 pub mod Bookmarks
 pub mod Refusals
 pub mod Page

@@ -10,6 +10,7 @@ mod register;
 mod signs;
 mod starts;
 mod table;
+mod walk;
 pub mod way;
 
 pub use bookmark::Bookmark;

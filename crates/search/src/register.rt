@@ -1,1 +1,53 @@
-// The filter register: a step for each set, and the next candidate.
+// The filter register: one entry of the sets more at each column, and whether a candidate is marked.
+
+ghost use mathlib.Core.Path.{_≡_};
+ghost use Prim.Native.Nat.{ℕ, _+_, _≤_, _<_};
+ghost use lib.Dec.{eqb};
+ghost use lib.ListN.{length, getD};
+ghost use Rattle.theory.specs.Bits.{bit};
+ghost use Rattle.theory.specs.Register as Register;
+ghost use Rattle.search.specs.Scan.{entryWord};
+
+// One word more: the register is doubled with its top bit lost, then or-ed with the word.
+pub fn step(register: u32, word: u32) -> u32
+    ensures { λ r. ⌜ r ≡ Register.step 32 register word ⌝ }
+{
+    std::num::wrapping_add_u32(register, register) | word
+}
+
+// One entry of the sets more: the table's word for it.
+pub fn taken(register: u32, sets: &[u16], table: &[u32], at: usize) -> u32
+    requires { ⌜ at < length (now sets) ⌝ }
+    requires { ⌜ length (now table) ≡ 4096 ⌝ }
+    requires { ⌜ ((k : ℕ) → getD (now sets) k 0 < 4096) ⌝ }
+    ensures { λ r. ⌜ r ≡ Register.step 32 register (entryWord (now (table .entry)) (now (sets .entry)) at) ⌝ }
+{
+    let set = sets[at] as usize;
+    step(register, table[set])
+}
+
+// The register that begins, all ones, at an entry of the sets and takes as many as are counted. For a theme of m notes
+// they are m - 2, and the next one makes the first column a candidate or not.
+pub fn warmed(sets: &[u16], table: &[u32], from: usize, count: usize) -> u32
+    requires { ⌜ from + count ≤ length (now sets) ⌝ }
+    requires { ⌜ length (now table) ≡ 4096 ⌝ }
+    requires { ⌜ ((k : ℕ) → getD (now sets) k 0 < 4096) ⌝ }
+    ensures { λ r. ⌜ r ≡ Register.regFrom 32 (entryWord (now (table .entry)) (now (sets .entry))) from (from + count) ⌝ }
+{
+    let end = from + count;
+    let mut register: u32 = 0xffff_ffff;
+    let mut at = from;
+    while at < end {
+        register = taken(register, sets, table, at);
+        at += 1;
+    }
+    register
+}
+
+// Whether the register marks a candidate: its bit `top`, which is m - 2 for a theme of m notes, is zero.
+pub fn marks(register: u32, top: u32) -> bool
+    requires { ⌜ top < 32 ⌝ }
+    ensures { λ r. ⌜ r ≡ eqb (bit register top) 0 ⌝ }
+{
+    (register >> top) & 1 == 0
+}

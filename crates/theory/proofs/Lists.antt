@@ -3,13 +3,13 @@
 use mathlib.Core.Path.{_≡_, refl, sym, ap, _∙_, subst}
 use mathlib.Core.Bool.{Bool, true, false, cond, true≢false}
 use mathlib.Core.Logic.{⊎-elim}
-use mathlib.Core.List.{List, [], _∷_, _++_, map, append-assoc, map-append, List·Memᴰ as In, List·Memᴰ·head as at-head, List·Memᴰ·tail as in-tail}
+use mathlib.Core.List.{List, [], _∷_, _++_, map, append-assoc, append-nil, map-append, List·Memᴰ as In, List·Memᴰ·head as at-head, List·Memᴰ·tail as in-tail}
 use Prim.Native.Nat.{ℕ, zero, suc, _+_, _-_, _≤_, _<_, zero-le, suc-le-suc}
 use native.Mathlib.Nat.{eq-or-lt-of-le, lt-irrefl, le-refl, not-suc-le-zero, le-of-suc-le-suc, add-zero}
 use native.Mathlib.Numerals.{add-one}
 use native.Mathlib.Omega.{arith}
 use lib.ListN.{length, take, drop, getD, set, length-append, length-drop, length-map}
-use lib.Seq.{drop-cons, set-at, getD-set-same, getD-set-other, drop-at}
+use lib.Seq.{drop-cons, drop-at, set-at, getD-set-same, getD-set-other, sets}
 use Rattle.theory.specs.Lists.{over, count, some, first, join}
 
 -- ---- over
@@ -26,6 +26,20 @@ over-length d vs h = omega (arith, length-append vs (drop (length vs) d), length
 -- what stands behind what is written over the front
 pub over-behind : {A B : Type 0} (d : List A) (f : B → A) (vs : List B) → drop (length vs) (over d (map f vs)) ≡ drop (length vs) d
 over-behind d f vs = drop-at (map f vs) (drop (length (map f vs)) d) (length vs) (length-map vs f) ∙ ap (λ (n : ℕ). drop n d) (length-map vs f)
+
+-- ---- stores from a place on
+
+-- one store more
+pub sets-more : {A : Type 0} (l : List A) (i : ℕ) (vs : List A) (v : A) (k : ℕ) → k ≡ i + length vs → set (sets l i vs) k v ≡ sets l i (vs ++ (v ∷ []))
+sets-more l i [] v k e = let n : k ≡ i = omega arith in ap (λ (m : ℕ). set l m v) n
+sets-more l i (w ∷ vs) v k e = sets-more (set l i w) (suc i) vs v k (omega arith)
+
+-- stores behind what is written over the front
+pub over-sets : {A : Type 0} (d vs : List A) (z : A) (ws : List A) (n : ℕ) → length vs ≡ n → n + length ws ≤ length d → sets (over d vs) n ws ≡ over d (vs ++ ws)
+over-sets d vs z [] n e h = ap (λ (l : List _). l ++ drop (length l) d) (sym (append-nil vs))
+over-sets d vs z (w ∷ ws) n e h =
+    let m : length (vs ++ (w ∷ [])) ≡ suc n = length-append vs (w ∷ []) ∙ omega arith in
+    rw (over-more d vs z n w e (omega arith)) (over-sets d (vs ++ (w ∷ [])) z ws (suc n) m (omega arith) ∙ ap (λ (l : List _). over d l) (append-assoc vs (w ∷ []) ws))
 
 -- ---- count
 

@@ -4,15 +4,15 @@
 use mathlib.Core.Path.{_≡_, refl, sym, ap, _∙_, subst}
 use mathlib.Core.Logic.{⊎-elim, _↔_}
 use Prim.Native.Nat.{ℕ, zero, suc, _+_, _-_, _%_, _^_, _≤_, _<_, zero-le, max}
-use native.Mathlib.Nat.{not-suc-le-zero, le-of-suc-le-suc, eq-or-lt-of-le, add-suc, add-zero, le-refl, mod-lt, mod-eq-of-lt}
+use native.Mathlib.Nat.{not-suc-le-zero, le-of-suc-le-suc, eq-or-lt-of-le, add-suc, add-zero, le-refl, mod-lt, mod-eq-of-lt, lt-of-lt-of-le}
 use native.Mathlib.Numerals.{add-one}
 use native.Mathlib.Decide.{decLe}
 use native.Mathlib.Omega.{arith}
 use lib.Bits.{bitOr, or-lt}
-use lib.Pow.{pow-pos}
-use Rattle.theory.specs.Bits.{bit}
-use Rattle.theory.specs.Register.{step, register}
-use Rattle.theory.proofs.Bits.{bit-lt, bit-zero, bit-high, bit-or, bit-ones, bit-double-suc, bit-double-zero}
+use lib.Pow.{pow-pos, pow-mono}
+use Rattle.theory.specs.Bits.{bit, number}
+use Rattle.theory.specs.Register.{step, register, regFrom}
+use Rattle.theory.proofs.Bits.{bit-lt, bit-zero, bit-high, bit-or, bit-ones, bit-double-suc, bit-double-zero, bit-number, number-unique}
 
 -- the words from s on have zeros on the diagonal: bit i of word s + i, for each i to q
 abbrev pub Diagonal : (ℕ → ℕ) → ℕ → ℕ → Type 0
@@ -46,6 +46,16 @@ step-digit-suc w r x q k h =
   where
     max-zero′ : (a b : ℕ) → b ≡ 0 → max a b ≡ a
     max-zero′ a b e = omega arith
+
+-- so a number is had from its bits, the highest first
+pub step-number : (w : ℕ) (f : ℕ → ℕ) → ((q : ℕ) → f q < 2) → 0 < w → step w (number w (λ q. f (suc q))) (f 0) ≡ number w f
+step-number w f b h = number-unique w f b (step w (number w (λ q. f (suc q))) (f 0)) (step-lt w _ (f 0) (lt-of-lt-of-le (b 0) (pow-mono h))) bits
+  where
+    bits : (q : ℕ) → q < w → bit (step w (number w (λ q. f (suc q))) (f 0)) q ≡ f q
+    bits zero k = step-digit-zero w (number w (λ q. f (suc q))) (f 0) k (b 0)
+    bits (suc q) k =
+        step-digit-suc w (number w (λ q. f (suc q))) (f 0) q (b 0) k
+        ∙ bit-number w (λ q. f (suc q)) (λ q. b (suc q)) q (omega arith)
 
 pub register-none : (w : ℕ) (f : ℕ → ℕ) → register w f 0 ≡ 2 ^ w - 1
 unfolding register
@@ -105,10 +115,7 @@ module _ (w : ℕ) (f : ℕ → ℕ) where
       both : (a b : ℕ) → a ≡ 0 → b ≡ 0 → max a b ≡ 0
       both a b p r = omega arith
 
--- ---- a register that starts, all ones, at column `from` of the words g, and has taken the words to column k: k + 1 - from of them
-
-unfoldable pub regFrom : ℕ → (ℕ → ℕ) → ℕ → ℕ → ℕ
-regFrom w g from k = register w (λ n. g (from + n)) (k - from)
+-- ---- a register that began anew
 
 pub regFrom-none : (w : ℕ) (g : ℕ → ℕ) (from : ℕ) → regFrom w g from from ≡ 2 ^ w - 1
 unfolding regFrom
@@ -118,21 +125,37 @@ regFrom-none w g from = ap (register w (λ n. g (from + n))) (self from) ∙ reg
     self n = omega arith
 
 module _ (w : ℕ) (g : ℕ → ℕ) (from : ℕ) where
-  pub regFrom-more : (k : ℕ) → from ≤ k → regFrom w g from (k + 1) ≡ step w (regFrom w g from k) (g k)
+  pub regFrom-suc : (k : ℕ) → from ≤ k → regFrom w g from (suc k) ≡ step w (regFrom w g from k) (g k)
   unfolding regFrom
-  regFrom-more k h =
+  regFrom-suc k h =
       ap (register w (λ n. g (from + n))) less ∙ register-suc w (λ n. g (from + n)) (k - from)
       ∙ ap (λ (n : ℕ). step w (register w (λ n. g (from + n)) (k - from)) (g n)) back
     where
-      less : k + 1 - from ≡ suc (k - from)
+      less : suc k - from ≡ suc (k - from)
       less = omega arith
 
       back : from + (k - from) ≡ k
       back = omega arith
 
+  -- in the code's form
+  pub regFrom-more : (k : ℕ) → from ≤ k → regFrom w g from (k + 1) ≡ step w (regFrom w g from k) (g k)
+  regFrom-more k h = ap (regFrom w g from) (add-one k) ∙ regFrom-suc k h
+
   -- a turn of the loop: from the register before the step, and what the step gives
   pub regFrom-turn : (k : ℕ) {r r′ : ℕ} → from ≤ k → r ≡ regFrom w g from k → r′ ≡ step w r (g k) → r′ ≡ regFrom w g from (k + 1)
   regFrom-turn k h e e′ = e′ ∙ ap (λ (n : ℕ). step w n (g k)) e ∙ sym (regFrom-more k h)
+
+  -- the bits that it has had the time to fill are those of a register that took every word
+  pub regFrom-register : (q k : ℕ) → q < w → from + q < k → bit (regFrom w g from k) q ≡ bit (register w g k) q
+  regFrom-register q zero hq h = absurd (not-suc-le-zero h)
+  regFrom-register zero (suc k) hq h =
+      let e : from ≤ k = omega arith in
+      rw (regFrom-suc k e, register-suc) (step-zero w _ (g k) hq ∙ sym (step-zero w _ (g k) hq))
+  regFrom-register (suc q) (suc k) hq h =
+      let e : from ≤ k = omega arith in
+      let same : bit (regFrom w g from k) q ≡ bit (register w g k) q = regFrom-register q k (omega arith) (omega arith) in
+      rw (regFrom-suc k e, register-suc)
+      (step-suc w _ (g k) q hq ∙ ap (λ (b : ℕ). max b (bit (g k) (suc q))) same ∙ sym (step-suc w _ (g k) q hq))
 
   -- bit q is zero after column k: a diagonal that starts at `from` or later ends there
   pub regFrom-hit : (q k : ℕ) → q < w → from ≤ k → bit (regFrom w g from (k + 1)) q ≡ 0 → (from + q ≤ k) × Diagonal g (k - q) q

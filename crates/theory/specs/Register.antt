@@ -10,3 +10,7 @@ step w register word = bitOr ((register + register) % 2 ^ w) word
 unfoldable pub register : (w : ℕ) (word : ℕ → ℕ) → ℕ → ℕ
 register w word zero = 2 ^ w - 1
 register w word (suc n) = step w (register w word n) (word n)
+
+-- a register that began anew, all ones, before word `from`, and has taken the words up to word k, without that one
+unfoldable pub regFrom : (w : ℕ) (word : ℕ → ℕ) (from k : ℕ) → ℕ
+regFrom w word from k = register w (λ n. word (from + n)) (k - from)

@@ -1,0 +1,125 @@
+-- The set of two columns by their class sets, and the loop that finds it. From a pitch of class k, interval q reaches the
+-- class (k + q) mod 12, which is bit q of the later class set turned down by k. Assumes nothing.
+use mathlib.Core.Path.{_≡_, refl, sym, ap, _∙_}
+use mathlib.Core.Bool.{Bool, true, false, cond, true≢false}
+use mathlib.Core.List.{List}
+use Prim.Native.Nat.{ℕ, _+_, _-_, _*_, _/_, _%_, _^_, _≤_, _<_, zero-le, min, max}
+use native.Mathlib.Nat.{mod-lt, zero-lt-suc}
+use native.Mathlib.Decide.{decLt}
+use native.Mathlib.Omega.{arith}
+use lib.Bits.{bitOr, bitAnd, and-mask}
+use lib.Pow.{high, low}
+use Rattle.theory.specs.Bits.{bit}
+use Rattle.theory.proofs.Bits.{bit-lt, bit-or, bit-shr, bit-mod, bit-high, bit-not, bit-ext}
+use Rattle.score.specs.Sets.{semitones, Apart, apart, intervalSet}
+use Rattle.score.specs.Classes.{classSet, SetOf}
+use Rattle.score.proofs.ClassSets.{present, class-in, in-class}
+use Rattle.score.proofs.IntervalSets.{apart-true, true-apart, set-number, set-lt}
+use Rattle.score.proofs.Intervals.{interval-from, interval-mod}
+use Rattle.score.proofs.Most.{most, most-nil, most-more, most-ge, most-one, most-lt}
+
+-- ---- what is reached
+
+-- 1 where class j is there, and from it the interval q reaches a class that is there
+abbrev pub meet : (earlier later q j : ℕ) → ℕ
+meet earlier later q j = min (bit earlier j) (bit later ((j + q) % 12))
+
+meet-lt : (earlier later q j : ℕ) → meet earlier later q j < 2
+meet-lt earlier later q j = omega (arith, bit-lt earlier j)
+
+module _ (a b : List ℕ) (q : ℕ) (h : q < 12) where
+  abbrev f : ℕ → ℕ
+  f = meet (classSet a) (classSet b) q
+
+  -- two pitches that are q apart meet, and where two classes meet there are such pitches
+  apart-met : Apart a b (semitones q) → 1 ≤ most f 0 12
+  apart-met p =
+      let j = p .x .0 % 12 in
+      let to : (j + q) % 12 ≡ p .y .0 % 12 = omega (arith, interval-mod (p .far)) in
+      omega (arith, in-class a (p .here), in-class b (p .next), ap (bit (classSet b)) to, most-ge f 0 12 j zero-le (omega arith))
+
+  met-apart : most f 0 12 ≡ 1 → Apart a b (semitones q)
+  met-apart e =
+      let m = most-one f 0 12 e in
+      let j = m .0 in
+      let here : bit (classSet a) j ≡ 1 = omega (arith, m .2, bit-lt (classSet a) j) in
+      let next : bit (classSet b) ((j + q) % 12) ≡ 1 = omega (arith, m .2, bit-lt (classSet b) ((j + q) % 12)) in
+      let x = class-in a j (omega (arith, m .1)) here in
+      let y = class-in b ((j + q) % 12) (omega arith) next in
+      record { x = x .0; y = y .0; here = x .1; next = y .1; far = interval-from (x .0) (y .0) (semitones q) h (omega (arith, x .2, y .2)) }
+
+  met : most f 0 12 ≡ present (apart a b q)
+  met = step (apart a b q) refl (most-lt f 0 12 (meet-lt (classSet a) (classSet b) q))
+    where
+      none : Dec (0 < most f 0 12) → apart a b q ≡ false → most f 0 12 < 2 → most f 0 12 ≡ 0
+      none (yes m) e l = absurd (true≢false (sym (true-apart a b (semitones q) (met-apart (omega arith))) ∙ e))
+      none (no m) e l = omega arith
+
+      step : (t : Bool) → apart a b q ≡ t → most f 0 12 < 2 → most f 0 12 ≡ present t
+      step true e l = omega (arith, apart-met (apart-true a b (semitones q) e))
+      step false e l = none (decLt 0 (most f 0 12)) e l
+
+-- ---- two copies of a class set, one above the other
+
+twice-bit : (later p : ℕ) → later < 4096 → p < 24 → bit (later * 4097) p ≡ bit later (p % 12)
+twice-bit later p h l = ap (λ (n : ℕ). bit n p) twice ∙ pick (decLt p 12)
+  where
+    twice : later * 4097 ≡ later * 2 ^ 12 + later
+    twice = omega arith
+
+    pick : Dec (p < 12) → bit (later * 2 ^ 12 + later) p ≡ bit later (p % 12)
+    pick (yes k) =
+        let e : p % 12 ≡ p = omega arith in
+        rw e (sym (bit-mod (later * 2 ^ 12 + later) p 12 k) ∙ ap (λ (n : ℕ). bit n p) (low later 12 h))
+    pick (no k) =
+        let e : p ≡ 12 + p % 12 = omega arith in
+        ap (bit (later * 2 ^ 12 + later)) e ∙ sym (bit-shr (later * 2 ^ 12 + later) 12 (p % 12)) ∙ ap (λ (n : ℕ). bit n (p % 12)) (high later 12 h)
+
+-- ---- the classes below k are gone through
+
+pub record Turning (earlier later k reached : ℕ) : Type 0 where
+  pub within : k ≤ 12
+  pub left : (q : ℕ) → q < 12 → max (bit reached q) (most (meet earlier later q) k (12 - k)) ≡ most (meet earlier later q) 0 12
+
+module _ (earlier later : ℕ) where
+  pub turning-start : Turning earlier later 0 0
+  turning-start = record { within = zero-le; left = λ q h. omega (arith, bit-high 0 q 0 (omega arith) zero-le) }
+
+  module _ {k reached : ℕ} (t : Turning earlier later k reached) (h : k < 12) where
+    more : (q : ℕ) → most (meet earlier later q) k (12 - k) ≡ max (meet earlier later q k) (most (meet earlier later q) (k + 1) (12 - (k + 1)))
+    more q =
+        let e : 12 - k - 1 ≡ 12 - (k + 1) = omega arith in
+        most-more (meet earlier later q) k (12 - k) (omega arith) ∙ ap (λ (n : ℕ). max (meet earlier later q k) (most (meet earlier later q) (k + 1) n)) e
+
+    pub turning-skip : bit earlier k ≡ 0 → Turning earlier later (k + 1) reached
+    turning-skip e = record { within = omega arith; left = λ q l. omega (arith, more q, t .left q l) }
+
+    pub turning-take : later < 4096 → bit earlier k ≡ 1 → Turning earlier later (k + 1) (bitOr reached (later * 4097 / 2 ^ k))
+    turning-take n e = record { within = omega arith; left = λ q l. omega (arith, more q, t .left q l, turned q l) }
+      where
+        turned : (q : ℕ) → q < 12 → bit (bitOr reached (later * 4097 / 2 ^ k)) q ≡ max (bit reached q) (meet earlier later q k)
+        turned q l =
+            bit-or reached (later * 4097 / 2 ^ k) q
+            ∙ ap (max (bit reached q)) (bit-shr (later * 4097) k q ∙ twice-bit later (k + q) n (omega arith) ∙ omega (arith, bit-lt later ((k + q) % 12)))
+
+  module _ {k reached : ℕ} (t : Turning earlier later k reached) (h : 12 ≤ k) where
+    all-reached : (q : ℕ) → q < 12 → bit reached q ≡ most (meet earlier later q) 0 12
+    all-reached q l =
+        let z : 12 - k ≡ 0 = omega arith in
+        omega (arith, t .left q l, ap (most (meet earlier later q) k) z, most-nil (meet earlier later q) k)
+
+    -- a set has a 0 for each interval that is reached
+    rest-bit : (q : ℕ) → q < 12 → bit (4095 - bitAnd reached 4095) q ≡ 1 - bit reached q
+    rest-bit q l =
+        rw (and-mask reached 12) (bit-not (reached % 2 ^ 12) q 12 (mod-lt reached (zero-lt-suc 4095)) l ∙ ap (λ (n : ℕ). 1 - n) (bit-mod reached q 12 l))
+
+    pub turning-end : SetOf earlier later (4095 - bitAnd reached 4095)
+    turning-end =
+        record {
+          of-columns = λ a b e f. bit-ext 12 (4095 - bitAnd reached 4095) (intervalSet a b) (omega arith) (set-lt a b) (λ q l.
+              rest-bit q l ∙ ap (λ (n : ℕ). 1 - n) (all-reached q l ∙ rw (e, f) (met a b q l)) ∙ flip (apart a b q) ∙ sym (set-number a b q l));
+        }
+      where
+        flip : (s : Bool) → 1 - present s ≡ cond s 0 1
+        flip true = refl
+        flip false = refl
