@@ -3,7 +3,8 @@
 -- What is turned away (demand 1), in `PlainCall` and `QuickCall`: a call turns a page exactly where it is asked right
 -- (`plain-turned`, `quick-turned`); otherwise it gives exactly the first refusal of its rows that applies, with its number
 -- and place (`plain-refused`, `quick-refused`), and nothing lent is written (`plain-kept`, `quick-kept`). `Rows` has each
--- row as plain facts. The contracts leave one answer and one state of the buffers (`plain-unique`, `quick-unique`).
+-- row as plain facts. The contracts leave one answer and one state of the buffers (`plain-unique`, `quick-unique`). An
+-- accepted quick call leaves the theme's table (`quick-fills`).
 -- One page, here: `plain-page` and `quick-page`, the first r pairs at or after the bookmark, what stays behind them, and
 -- where it goes on.
 -- What is listed (demand 3), here: `plain-lists` and `quick-lists`, page after page from the first bookmark, at any room

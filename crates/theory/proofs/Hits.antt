@@ -82,7 +82,7 @@ pub last-map : {A B : Type 0} (f : A → B) (d : A) (xs : List A) → last (f d)
 last-map f d [] = refl
 last-map f d (x ∷ xs) = last-map f x xs
 
--- of what the last of none is, the last of some hangs in nothing
+-- the last of some entries is the same, whatever stands for the last of none
 pub last-some : {A : Type 0} (d e : A) (xs : List A) → 0 < length xs → last d xs ≡ last e xs
 last-some d e [] h = absurd (not-suc-le-zero h)
 last-some d e (x ∷ xs) h = refl
