@@ -3,14 +3,17 @@
 -- What is turned away (demand 1), in `PlainCall` and `QuickCall`: a call turns a page exactly where it is asked right
 -- (`plain-turned`, `quick-turned`); otherwise it gives exactly the first refusal of its rows that applies, with its number
 -- and place (`plain-refused`, `quick-refused`), and nothing lent is written (`plain-kept`, `quick-kept`). `Rows` has each
--- row as plain facts. The contracts leave one answer and one state of the buffers (`plain-unique`, `quick-unique`).
+-- row as plain facts. The contracts leave one answer and one state of the buffers (`plain-unique`, `quick-unique`). An
+-- accepted quick call leaves the theme's table (`quick-fills`).
+-- One page, here: `plain-page` and `quick-page`, the first r pairs at or after the bookmark, what stays behind them, and
+-- where it goes on.
 -- What is listed (demand 3), here: `plain-lists` and `quick-lists`, page after page from the first bookmark, at any room
 -- and whatever the buffers held; `own-lists` with the score's own sets. That the list holds exactly the pairs of the
 -- definition, in order and each once, is `Listed`.
 -- Looks, here: those of a whole list and of a page are at most `mostLooks` (`all-looks-le`, `candidate-looks-le`,
 -- `plain-page-le`, `quick-page-le`), which fits 32 bits (`most-fits`); `quick-same` of `Quicker` says that with the score's
 -- own sets a quick page is the plain page with no more looks. Assumes nothing.
-use mathlib.Core.Path.{_≡_, sym, ap, _∙_}
+use mathlib.Core.Path.{_≡_, refl, sym, ap, _∙_, subst, subst₂}
 use mathlib.Core.List.{List, map}
 use Prim.Native.Nat.{ℕ, _+_, _-_, _*_, _^_, _≤_, _<_}
 use native.Mathlib.Nat.{le-trans}
@@ -31,11 +34,13 @@ use Rattle.search.specs.Pairs.{pairAt, pairs}
 use Rattle.search.specs.Candidates.{themeTable, candidate}
 use Rattle.search.specs.Bookmarks.{firstBookmark, keyOf}
 use Rattle.search.specs.Page.{spent, plainPage, quickPage, quickStarts}
-use Rattle.search.specs.Asking.{Accepted, AcceptedSets}
+use Rattle.search.specs.Asking.{Accepted, AcceptedSets, InRange, PlainAsks}
+use Rattle.search.specs.OnePage.{PageOf}
 use Rattle.search.specs.Demands.{allLooks, candidateLooks, mostLooks, candidatePairs, Lists}
 use Rattle.search.proofs.LookBound.{most-lt, sum-looks-le, sum-looks-none, page-looks-within, reached-page-within}
 use Rattle.search.proofs.Readings.{search-lists}
 use Rattle.search.proofs.Searches.{plainSearch, plain-calls, quickSearch, quick-calls}
+use Rattle.search.proofs.OnePages.{call-page}
 use Rattle.search.proofs.Quicker.{own-sets, own-pairs}
 
 -- ---- looks: of a whole list and of a page at most `mostLooks`, which fits 32 bits
@@ -67,6 +72,19 @@ module _ (cells : List ℕ) (h : ℕ) (theme : List ℕ) (way : Way) where
     quick-page-le table lent =
         le-trans (reached-page-within way (scoreOf cells h) theme (length columns) (keyOf way b) (λ s. candidate table lent (length theme) (s .column))) all-looks-le
 
+-- what the quick starts list
+
+module _ (cells : List ℕ) (h : ℕ) (theme : List ℕ) (way : Way) (lent : List ℕ) where
+  quick-pairs : map (pairAt way) (hits (hit way (scoreOf cells h) theme) (quickStarts way (scoreOf cells h) theme (themeTable theme) lent))
+      ≡ candidatePairs way (scoreOf cells h) theme lent
+  unfolding quickStarts
+  quick-pairs =
+      ap (map (pairAt way))
+      (hits-hits (hit way (scoreOf cells h) theme) (λ (s : Place). candidate (themeTable theme) lent (length theme) (s .column)) (starts way (scoreOf cells h) theme))
+      ∙ sym
+      (hits-map (pairAt way) (λ (pair : Pair). candidate (themeTable theme) lent (length theme) (pair .column .0))
+      (hits (hit way (scoreOf cells h) theme) (starts way (scoreOf cells h) theme)))
+
 -- ---- demand 3
 
 module _ (cells : List ℕ) (h : ℕ) (theme : List ℕ) (way : Way) (a : Accepted cells h theme) (r : ℕ) (room : 1 ≤ r) where
@@ -77,20 +95,10 @@ module _ (cells : List ℕ) (h : ℕ) (theme : List ℕ) (way : Way) (a : Accept
   -- quick, with sets of any score, and at each call any table of 4,096 places: the pairs at candidates
   module _ (lent : List ℕ) (s : AcceptedSets cells h lent) (table : Bookmark → List ℕ → List ℤ → List ℕ)
       (long : (b : Bookmark) (columns : List ℕ) (shifts : List ℤ) → length (table b columns shifts) ≡ 4096) where
-    quick-pairs : map (pairAt way) (hits (hit way (scoreOf cells h) theme) (quickStarts way (scoreOf cells h) theme (themeTable theme) lent))
-        ≡ candidatePairs way (scoreOf cells h) theme lent
-    unfolding quickStarts
-    quick-pairs =
-        ap (map (pairAt way))
-        (hits-hits (hit way (scoreOf cells h) theme) (λ (s : Place). candidate (themeTable theme) lent (length theme) (s .column)) (starts way (scoreOf cells h) theme))
-        ∙ sym
-        (hits-map (pairAt way) (λ (pair : Pair). candidate (themeTable theme) lent (length theme) (pair .column .0))
-        (hits (hit way (scoreOf cells h) theme) (starts way (scoreOf cells h) theme)))
-
     pub quick-lists : Lists (λ b columns shifts. quickPage cells h theme way b lent (table b columns shifts) columns shifts .leaf) r (firstBookmark way)
         (candidatePairs way (scoreOf cells h) theme lent) (candidateLooks way (scoreOf cells h) theme lent)
     quick-lists =
-        rw (← quick-pairs)
+        rw (← quick-pairs cells h theme way lent)
         (search-lists (quickSearch cells h theme way a r room lent s table long)
         (λ b columns shifts. quickPage cells h theme way b lent (table b columns shifts) columns shifts .leaf)
         (quick-calls cells h theme way a r room lent s table long))
@@ -100,3 +108,25 @@ module _ (cells : List ℕ) (h : ℕ) (theme : List ℕ) (way : Way) (a : Accept
       → Lists (λ b columns shifts. quickPage cells h theme way b (sets (scoreOf cells h)) (table b columns shifts) columns shifts .leaf) r (firstBookmark way)
       (pairs way (scoreOf cells h) theme) (candidateLooks way (scoreOf cells h) theme (sets (scoreOf cells h)))
   own-lists table long = rw (← own-pairs cells h theme way a) (quick-lists (sets (scoreOf cells h)) own-sets table long)
+
+-- ---- one page: the first r pairs at or after the bookmark
+
+module _ (cells : List ℕ) (h : ℕ) (theme : List ℕ) (way : Way) (b : Bookmark) (columns : List ℕ) (shifts : List ℤ) (a : PlainAsks cells h theme way b columns shifts) where
+  in-score : InRange way (length (scoreOf cells h)) b
+  in-score = rw (score-length cells h) (a .marked)
+
+  pub plain-page : PageOf (pairs way (scoreOf cells h) theme) way (columnsIn cells h) b columns shifts (plainPage cells h theme way b columns shifts)
+  plain-page =
+      subst (λ (n : ℕ). PageOf (pairs way (scoreOf cells h) theme) way n b columns shifts (plainPage cells h theme way b columns shifts)) (score-length cells h)
+      (call-page (plainSearch cells h theme way (a .accepted) (length columns) (a .room)) (plainPage cells h theme way)
+      (plain-calls cells h theme way (a .accepted) (length columns) (a .room)) b in-score columns shifts refl (a .same-room))
+
+  pub quick-page : (lent table : List ℕ) → AcceptedSets cells h lent → length table ≡ 4096
+      → PageOf (candidatePairs way (scoreOf cells h) theme lent) way (columnsIn cells h) b columns shifts (quickPage cells h theme way b lent table columns shifts .leaf)
+  quick-page lent table s e =
+      subst₂ (λ (n : ℕ) (list : List Pair). PageOf list way n b columns shifts (quickPage cells h theme way b lent table columns shifts .leaf)) (score-length cells h)
+      (quick-pairs cells h theme way lent)
+      (call-page (quickSearch cells h theme way (a .accepted) (length columns) (a .room) lent s (λ b columns shifts. table) (λ b columns shifts. e))
+      (λ b columns shifts. quickPage cells h theme way b lent table columns shifts .leaf)
+      (quick-calls cells h theme way (a .accepted) (length columns) (a .room) lent s (λ b columns shifts. table) (λ b columns shifts. e))
+      b in-score columns shifts refl (a .same-room))

@@ -1,9 +1,9 @@
 -- Laws of this crate's definitions. Places: `Order` (the starts, which they are and that they rise), `Shifts` (codes and
 -- shifts), `Holding` (a column and a note), `Notes` (all notes), `LookBound`. The list: `Listed`. Candidates: `Words` (the
--- theme table), `Filtered`. The demands: `Demands` and what it stands on. The worked cases: `Worked`.
 -- theme table), `Filtered`. The worked cases: `Worked`. Calls: `Judged` and `Rows` (refusals), `Answers`, `PlainCall`,
 -- `QuickCall`. Pages: `Turning` (bookmarks, and what is read back), `Paging` (one page), `Readings` (page after page),
--- `Searches` (plain and quick), `Quicker` (quick and plain compared). What all this comes to: `Demands`.
+-- `Searches` (plain and quick), `Quicker` (quick and plain compared), `AtOrAfter` and `OnePages` (a page, said of pairs).
+-- What all this comes to: `Demands`.
 pub mod Order
 pub mod Shifts
 pub mod Holding
@@ -23,4 +23,6 @@ pub mod Paging
 pub mod Readings
 pub mod Searches
 pub mod Quicker
+pub mod AtOrAfter
+pub mod OnePages
 pub mod Demands

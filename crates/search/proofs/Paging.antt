@@ -79,7 +79,7 @@ module _ (S : Search) (call : Bookmark → List ℕ → List ℤ → Leaf) (call
   -- ---- one call, in range, with buffers of that room
 
   module _ (b : Bookmark) (i : inside S b) (columns : List ℕ) (shifts : List ℤ) (long : length columns ≡ S .room) (same : length shifts ≡ S .room) where
-    call-leaf : call b columns shifts ≡ leafAt S b columns shifts
+    pub call-leaf : call b columns shifts ≡ leafAt S b columns shifts
     call-leaf =
         calls .turns b columns shifts i long same
         ∙ ap (λ (r : ℕ). leafAt (record { way = S .way; score = S .score; theme = S .theme; reached = S .reached; room = r }) b columns shifts) long
@@ -106,17 +106,17 @@ module _ (S : Search) (call : Bookmark → List ℕ → List ℤ → Leaf) (call
 
   -- ---- the bookmark returned is in range, and where the page is full it stands for what is left
 
-  abbrev final : Bookmark → Place
+  abbrev pub final : Bookmark → Place
   final b = last (place 0 0) (places S b)
 
   module _ (b : Bookmark) (f : full (found S) (S .room) (left S b) ≡ true) where
-    final-found : Found (S .way) (length (S .score)) (final b)
+    pub final-found : Found (S .way) (length (S .score)) (final b)
     final-found =
         let e : length (places S b) ≡ S .room = page-full (found S) (S .room) (left S b) f in
         calls .each (final b)
         (in-from key (keyOf (S .way) b) (S .reached) (in-page (found S) (S .room) (left S b) (last-in (place 0 0) (places S b) (omega (arith, calls .some-room)))))
 
-    next-is : answer S b .next ≡ afterPair (pairAt (S .way) (final b))
+    pub next-is : answer S b .next ≡ afterPair (pairAt (S .way) (final b))
     next-is = ap (λ (t : Bool). cond t (afterPair (pairAt (S .way) (final b))) (finishedBookmark (S .way) (columnAt (length (S .score))))) f
 
     pub next-left : left S (answer S b .next) ≡ rest (found S) (S .room) (left S b)

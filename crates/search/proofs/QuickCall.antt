@@ -1,6 +1,6 @@
 -- A quick call: it turns a page exactly where it is asked right, otherwise gives exactly the first refusal that applies
 -- and writes nothing, the table neither; and its contract leaves one answer. Assumes nothing.
-use mathlib.Core.Path.{_≡_, refl, sym, _∙_}
+use mathlib.Core.Path.{_≡_, refl, sym, ap, _∙_}
 use mathlib.Core.Logic.{_↔_}
 use mathlib.Core.List.{List, _++_}
 use Prim.Native.Nat.{ℕ}
@@ -51,6 +51,10 @@ module _ (cells : List ℕ) (h : ℕ) (theme : List ℕ) (way : Way) (b : Bookma
   pub quick-leaf : QuickAsks cells h theme way b sets table columns shifts → quickPage cells h theme way b sets table columns shifts ≡ quickLeaf
   unfolding quickPage
   quick-leaf a = judge-clear quickRefused quickLeaf (quickRows cells h theme way b sets table columns shifts) (quick-clear .0 a)
+
+  -- it leaves the theme's table
+  pub quick-fills : QuickAsks cells h theme way b sets table columns shifts → quickPage cells h theme way b sets table columns shifts .table ≡ themeTable theme
+  quick-fills a = ap (λ (l : QuickLeaf). l .table) (quick-leaf a)
 
   pub quick-turned : ((t : Turn) × (quickPage cells h theme way b sets table columns shifts .leaf .answer ≡ Turned t)) ↔ QuickAsks cells h theme way b sets table columns shifts
   unfolding quickPage

@@ -9,6 +9,7 @@ pub mod Bookmarks
 pub mod Refusals
 pub mod Page
 pub mod Reading
+pub mod OnePage
 pub mod Asking
 pub mod Walk
 pub mod Cases

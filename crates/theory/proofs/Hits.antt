@@ -1,12 +1,15 @@
--- Two tests of a list, made in either order; a test along a map; and a test before or after a bookmark, where the keys
--- rise. Assumes nothing.
-use mathlib.Core.Path.{_≡_, refl, ap}
+-- Two tests of a list, made in either order or that agree; a test, the first entries and the last, along a map; and a
+-- bookmark, as a test of the keys, where they rise. Assumes nothing.
+use mathlib.Core.Path.{_≡_, refl, sym, ap}
 use mathlib.Core.Bool.{Bool, true, false, cond}
 use mathlib.Core.List.{List, [], _∷_, map, List·Memᴰ as In, List·Memᴰ·head as here, List·Memᴰ·tail as later}
-use Prim.Native.Nat.{ℕ, suc, _≤_}
+use Prim.Native.Nat.{ℕ, zero, suc, _≤_, _<_}
+use native.Mathlib.Nat.{not-suc-le-zero}
 use native.Mathlib.Omega.{arith}
-use lib.Dec.{ltb}
-use borrow.Author.Tests.{ltb-false}
+use lib.Dec.{leb, ltb}
+use lib.ListN.{length, take}
+use borrow.Author.Tests.{ltb-true, ltb-false, le-leb, lt-leb}
+use Rattle.theory.specs.Lists.{last}
 use Rattle.theory.specs.Pages.{hits, Rising, from}
 use Rattle.theory.proofs.Bookmarks.{rising-down, from-all}
 use Rattle.theory.proofs.Members.{rising-hits}
@@ -49,3 +52,37 @@ module _ {A : Type 0} (key : A → ℕ) (keep : A → Bool) (b : ℕ) where
       step false false e f ih =
           let h : b ≤ suc (key x) = omega (arith, ltb-false (key x) b f) in
           rw e (from-all key b (hits keep xs) (rising-down key b (suc (key x)) (hits keep xs) h (rising-hits keep key (suc (key x)) xs (up .1))))
+
+-- where the keys rise, what stands after a bookmark is what passes the test of the keys
+pub from-keys : {A : Type 0} (key : A → ℕ) (b a : ℕ) (xs : List A) → Rising key a xs → from key b xs ≡ hits (λ x. leb b (key x)) xs
+from-keys key b a [] up = refl
+from-keys {A} key b a (x ∷ xs) up = step (ltb (key x) b) refl (from-keys key b (suc (key x)) xs (up .1))
+  where
+    step : (t : Bool) → ltb (key x) b ≡ t → from key b xs ≡ hits (λ x. leb b (key x)) xs
+        → cond t (from key b xs) (x ∷ xs) ≡ cond (leb b (key x)) (x ∷ hits (λ x. leb b (key x)) xs) (hits (λ x. leb b (key x)) xs)
+    step true e ih = rw (lt-leb b (key x) (ltb-true (key x) b e)) ih
+    step false e ih =
+        let h : b ≤ key x = ltb-false (key x) b e in
+        rw (le-leb b (key x) h, ← ih) (ap (λ (l : List A). x ∷ l) (sym (from-all key b xs (rising-down key b (suc (key x)) xs (omega arith) (up .1)))))
+
+-- two tests that agree on the entries
+pub hits-same : {A : Type 0} (a b : A → Bool) (xs : List A) → ((x : A) → In x xs → a x ≡ b x) → hits a xs ≡ hits b xs
+hits-same a b [] f = refl
+hits-same {A} a b (x ∷ xs) f =
+    rw (f x (here refl)) (ap (λ (l : List A). cond (b x) (x ∷ l) l) (hits-same a b xs (λ y m. f y (later m))))
+
+-- ---- along a map: the first entries, and the last
+
+pub take-map : {A B : Type 0} (f : A → B) (n : ℕ) (xs : List A) → take n (map f xs) ≡ map f (take n xs)
+take-map f zero xs = refl
+take-map f (suc n) [] = refl
+take-map {B = B} f (suc n) (x ∷ xs) = ap (λ (l : List B). f x ∷ l) (take-map f n xs)
+
+pub last-map : {A B : Type 0} (f : A → B) (d : A) (xs : List A) → last (f d) (map f xs) ≡ f (last d xs)
+last-map f d [] = refl
+last-map f d (x ∷ xs) = last-map f x xs
+
+-- the last of some entries is the same, whatever stands for the last of none
+pub last-some : {A : Type 0} (d e : A) (xs : List A) → 0 < length xs → last d xs ≡ last e xs
+last-some d e [] h = absurd (not-suc-le-zero h)
+last-some d e (x ∷ xs) h = refl

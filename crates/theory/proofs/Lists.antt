@@ -9,7 +9,7 @@ use native.Mathlib.Nat.{eq-or-lt-of-le, lt-irrefl, le-refl, not-suc-le-zero, le-
 use native.Mathlib.Numerals.{add-one}
 use native.Mathlib.Omega.{arith}
 use lib.ListN.{length, take, drop, getD, set, length-append, length-drop, length-map}
-use lib.Seq.{drop-cons, set-at, getD-set-same, getD-set-other, sets}
+use lib.Seq.{drop-cons, drop-at, set-at, getD-set-same, getD-set-other, sets}
 use Rattle.theory.specs.Lists.{over, count, some, first, join}
 
 -- ---- over
@@ -22,6 +22,10 @@ over-more d vs z n v e h =
 
 pub over-length : {A : Type 0} (d vs : List A) → length vs ≤ length d → length (over d vs) ≡ length d
 over-length d vs h = omega (arith, length-append vs (drop (length vs) d), length-drop (length vs) d)
+
+-- what stands behind what is written over the front
+pub over-behind : {A B : Type 0} (d : List A) (f : B → A) (vs : List B) → drop (length vs) (over d (map f vs)) ≡ drop (length vs) d
+over-behind d f vs = drop-at (map f vs) (drop (length (map f vs)) d) (length vs) (length-map vs f) ∙ ap (λ (n : ℕ). drop n d) (length-map vs f)
 
 -- ---- stores from a place on
 
