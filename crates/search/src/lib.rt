@@ -5,6 +5,7 @@
 // column, which makes candidates. A `page` is what a call writes and answers.
 
 pub mod bookmark;
+mod checks;
 pub mod page;
 mod register;
 mod signs;

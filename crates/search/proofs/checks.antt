@@ -1,0 +1,2 @@
+-- Laws of the checks of a call.
+pub mod Laws
