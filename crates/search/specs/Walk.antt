@@ -4,7 +4,7 @@ use mathlib.Core.Path.{_≡_}
 use mathlib.Core.Bool.{Bool, cond}
 use mathlib.Core.List.{List, map}
 use Prim.Native.Nat.{ℕ, _+_, _-_, _*_, _%_, _≤_, _<_}
-use lib.Dec.{leb}
+use lib.Dec.{leb, ltb}
 use lib.IntN.{ℤ, pos, _+ℤ_}
 use lib.ListN.{length, getD, set}
 use lib.Seq.{sets as stored}
@@ -15,10 +15,13 @@ use Rattle.score.specs.declared.quantities.Pitch.{Pitch}
 use Rattle.score.specs.Score.{pitch, columnAt, column, columnsIn}
 use Rattle.search.specs.declared.way.Way.{Way}
 use Rattle.search.specs.declared.way.Way.the-variants.{Exact, Octave}
+use Rattle.search.specs.declared.page.Turn.{Turn}
+use Rattle.search.specs.declared.page.Page.the-variants.{Turned}
 use Rattle.search.specs.Way.{lowest, highest, span, holds}
 use Rattle.search.specs.Definition.{note}
 use Rattle.search.specs.Starts.{Place, place, codes, hit, looks}
-use Rattle.search.specs.Page.{columnsOf, shiftsOf}
+use Rattle.search.specs.Bookmarks.{afterPair, finishedBookmark}
+use Rattle.search.specs.Page.{Leaf, columnsOf, shiftsOf}
 
 -- an accepted score and theme, as far as a walk rests on it
 pub record Ready (cells : List ℕ) (h : ℕ) (theme : List ℕ) : Type 0 where
@@ -37,7 +40,7 @@ pub record Lent (n : ℕ) (sets table : List ℕ) : Type 0 where
   pub table-long : length table ≡ 4096
 
 -- a shift that a bookmark may have: one of the way's, or one above its highest
-pub record InRange (way : Way) (shift : ℤ) : Type 0 where
+pub record ShiftIn (way : Way) (shift : ℤ) : Type 0 where
   pub not-below : lowest way ≤ℤ shift
   pub not-above : shift ≤ℤ (highest way +ℤ pos 1)
 
@@ -89,3 +92,21 @@ pub record Walks (way : Way) (score : List (List ℕ)) (theme : List ℕ) (walke
   pub costs : spent ≡ pageLooks (hit way score theme) (looks way score theme) (length columns) walked
   pub in-columns : columns′ ≡ over columns (columnsOf (pageHits (hit way score theme) (length columns) walked))
   pub in-shifts : shifts′ ≡ over shifts (shiftsOf way (pageHits (hit way score theme) (length columns) walked))
+
+-- the answer of a page, read off the buffers: a full one goes on after its last pair
+abbrev pub readTurn : Way → (n found spent : ℕ) (columns : List ℕ) (shifts : List ℤ) → Turn
+readTurn way n found spent columns shifts =
+    record {
+      written = found;
+      next =
+          cond (ltb found (length columns)) (finishedBookmark way (columnAt n))
+          (afterPair (record { column = columnAt (getD columns (length columns - 1) 0); shift = getD shifts (length columns - 1) (pos 0) }));
+      finished = ltb found (length columns);
+      looks = spent;
+    }
+
+-- what an accepted page leaves: this answer, and these buffers
+pub record Turns (leaf : Leaf) (t : Turn) (columns′ : List ℕ) (shifts′ : List ℤ) : Type 0 where
+  pub answers : Turned t ≡ leaf .answer
+  pub writes-columns : columns′ ≡ leaf .columns
+  pub writes-shifts : shifts′ ≡ leaf .shifts

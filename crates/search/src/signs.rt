@@ -7,7 +7,7 @@ ghost use Prim.Native.Nat.{_≤_};
 ghost use lib.IntN.{pos, _+ℤ_};
 ghost use lib.Signed.{ltZ};
 ghost use Rattle.search.specs.Way.{lowest, highest, span, shiftOf, codeOf};
-ghost use Rattle.search.specs.Walk.{InRange};
+ghost use Rattle.search.specs.Walk.{ShiftIn};
 
 // How many shifts the way has.
 pub fn span_of(way: Way) -> u16
@@ -42,7 +42,7 @@ pub fn shift_of(way: Way, code: u16) -> i16
 
 // The code of a bookmark's shift.
 pub fn code_of(way: Way, shift: i16) -> u16
-    requires { ⌜ InRange way shift ⌝ }
+    requires { ⌜ ShiftIn way shift ⌝ }
     ensures { λ r. ⌜ r ≡ codeOf way shift ⌝ }
 {
     match way {

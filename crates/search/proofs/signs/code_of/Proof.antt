@@ -11,7 +11,7 @@ use lib.Dec.{leb→le}
 use Rattle.theory.proofs.Signed.{Coded, code, add-read}
 use Rattle.search.specs.declared.way.Way.{Way}
 use Rattle.search.specs.declared.way.Way.the-variants.{Exact, Octave}
-use Rattle.search.specs.Walk.{InRange}
+use Rattle.search.specs.Walk.{ShiftIn}
 use mathlib.Core.Path.{_≡_, refl, sym, ap, _∙_}
 use borrow.Author.Needs.{needs}
 use native.Mathlib.Omega.{arith}
@@ -27,7 +27,7 @@ enum-told c = search needs
 -- exact: the code, with what is known of it
 exact : (c : tie.After-enum-told) → (n : ℕ) × (n ≤ 128 + 127) × Coded 127 (c .before .before .args .shift) n
 exact c =
-    let r = subst (λ (w : Way). InRange w (c .before .before .args .shift)) (c .enum-told .given .1) (c .before .before .pre) in
+    let r = subst (λ (w : Way). ShiftIn w (c .before .before .args .shift)) (c .enum-told .given .1) (c .before .before .pre) in
     code 126 128 (c .before .before .args .shift) (r .not-below) (r .not-above)
 
 exact-fits : (c : tie.After-enum-told) → SFits w16 (c .before .before .args .shift +ℤ pos 127)
@@ -37,7 +37,7 @@ exact-read : (c : tie.After-enum-told) → toZ w16 (ofZ w16 (toZ w16 (ofZ w16 (c
 exact-read c = add-read w16 (c .before .before .args .shift) (pos 127) (c .before .before .fits .shift) (exact-fits c) ∙ exact c .2 .up
 
 -- octave: the shift is no less than 0
-octave-fits : (z : ℤ) → InRange Octave z → T (nonNeg z) × Fits w16 (natAbs z)
+octave-fits : (z : ℤ) → ShiftIn Octave z → T (nonNeg z) × Fits w16 (natAbs z)
 octave-fits (pos a) r = (tt, record { fits = let l : a ≤ 12 = leb→le a 12 (r .not-above .le) in omega arith })
 octave-fits (negsuc a) r = absurd (r .not-below .le)
 
@@ -55,7 +55,7 @@ enum-told-2 c = search needs
 
 -- src/shifts.rt:51:24
 cast-result-2 : tie.Need-cast-result-2
-cast-result-2 c = rw (toZ-ofZ (c .before .before .fits .shift)) (octave-fits _ (subst (λ (w : Way). InRange w (c .before .before .args .shift)) (c .enum-told2 .given .1) (c .before .before .pre)))
+cast-result-2 c = rw (toZ-ofZ (c .before .before .fits .shift)) (octave-fits _ (subst (λ (w : Way). ShiftIn w (c .before .before .args .shift)) (c .enum-told2 .given .1) (c .before .before .pre)))
 
 -- src/shifts.rt:45:1
 returns : tie.Need-returns
