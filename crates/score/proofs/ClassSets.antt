@@ -47,7 +47,9 @@ pub class-in : (column : List ℕ) (k : ℕ) → k < 12 → bit (classSet column
 class-in column k h e = step (hasClass column k) refl (sym (class-bit column k h) ∙ e)
   where
     step : (b : Bool) → hasClass column k ≡ b → present b ≡ 1 → (t : Pitch) × In t (pitches column) × (t .0 % 12 ≡ k)
-    step true m e = let found = some-in (λ p. eqb (p .0 % 12) k) (pitches column) m in (found .0, found .1, eqb-true (found .0 .0 % 12) k (found .2))
+    step true m e =
+        let found = some-in (λ p. eqb (p .0 % 12) k) (pitches column) m in
+        (found .0, found .1, eqb-true (found .0 .0 % 12) k (found .2))
     step false m e = absurd (omega arith)
 
 -- a pitch more, and a rest more

@@ -37,10 +37,14 @@ column-le n h cells k = pick (decLt k n)
   where
     pick : Dec (k < n) → length (getD (cut n h cells) k []) ≤ h
     pick (yes l) = omega (arith, ap length (cut-at n h cells k l), length-take h (drop (k * h) cells))
-    pick (no l) = let g : length (cut n h cells) ≤ k = omega (arith, cut-length n h cells) in omega (arith, ap length (List·getD-eq-default (cut n h cells) [] g))
+    pick (no l) =
+        let g : length (cut n h cells) ≤ k = omega (arith, cut-length n h cells) in
+        omega (arith, ap length (List·getD-eq-default (cut n h cells) [] g))
 
 pub column-length : (n h : ℕ) (cells : List ℕ) (k : ℕ) → k < n → (k + 1) * h ≤ length cells → length (getD (cut n h cells) k []) ≡ h
-column-length n h cells k l m = ap length (cut-at n h cells k l) ∙ length-take-le h (drop (k * h) cells) (rw length-drop (omega (arith, add-mul k 1 h, one-mul h)))
+column-length n h cells k l m =
+    let room : h ≤ length (drop (k * h) cells) = omega (arith, length-drop (k * h) cells, add-mul k 1 h, one-mul h) in
+    ap length (cut-at n h cells k l) ∙ length-take-le h (drop (k * h) cells) room
 
 -- ---- the columns of a whole score
 

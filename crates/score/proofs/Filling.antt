@@ -11,8 +11,8 @@ use Rattle.theory.proofs.Lists.{stored-more}
 use Rattle.score.specs.Score.{cut}
 use Rattle.score.specs.Sets.{intervalSet, sets}
 use Rattle.score.specs.Classes.{classSet, SetOf}
-use Rattle.score.proofs.Columns.{cut-length, cut-at}
-use Rattle.score.proofs.IntervalSets.{sets-length, sets-at}
+use Rattle.score.proofs.Columns.{cut-length}
+use Rattle.score.proofs.IntervalSets.{sets-length, cut-sets-at}
 
 -- the cells of column k, from 0
 abbrev pub columnFrom : (cells : List ℕ) (h k : ℕ) → List ℕ
@@ -30,7 +30,8 @@ pub record Filling (cells : List ℕ) (h n : ℕ) (out : List ℕ) (k base earli
   pub stored : (i : ℕ) → i < k → Right cells h i (getD out i 0)
 
 module _ (cells : List ℕ) (h n : ℕ) where
-  pub filling-start : (out : List ℕ) (earlier : ℕ) → length out ≡ n → earlier ≡ classSet (take (h - 0) (drop 0 cells)) → Filling cells h n out 0 h earlier
+  pub filling-start : (out : List ℕ) (earlier : ℕ) → length out ≡ n → earlier ≡ classSet (take (h - 0) (drop 0 cells))
+      → Filling cells h n out 0 h earlier
   filling-start out earlier l e =
       record {
         within = zero-le;
@@ -58,12 +59,13 @@ module _ (cells : List ℕ) (h n : ℕ) where
     pub filling-more : (later v : ℕ) → later ≡ classSet (take (base + h - base) (drop base cells)) → SetOf earlier later v
         → Filling cells h n (set out k v) (k + 1) (base + h) later
     filling-more later v e s =
+        let here = s .of-columns (columnFrom cells h k) (columnFrom cells h (k + 1)) (f .has) next in
         record {
           within = omega arith;
           long = simp length-set (f .long);
           starts = next-starts;
           has = next;
-          stored = stored-more (Right cells h) out k v 0 (f .stored) (omega (arith, f .long)) (s .of-columns (columnFrom cells h k) (columnFrom cells h (k + 1)) (f .has) next);
+          stored = stored-more (Right cells h) out k v 0 (f .stored) (omega (arith, f .long)) here;
         }
       where
         next : later ≡ classSet (columnFrom cells h (k + 1))
@@ -71,8 +73,7 @@ module _ (cells : List ℕ) (h n : ℕ) where
 
   pub filling-end : {out : List ℕ} {k base earlier : ℕ} → Filling cells h n out k base earlier → n ≤ k → out ≡ sets (cut (n + 1) h cells)
   filling-end {out} f m =
-      let score = cut (n + 1) h cells in
-      let l : length (cut (n + 1) h cells) ≡ n + 1 = cut-length (n + 1) h cells in
-      ext-getD 0 out (sets score) (omega (arith, f .long, sets-length score)) (λ i b.
-      f .stored i (omega (arith, f .long))
-      ∙ sym (sets-at score i (omega (arith, f .long)) ∙ ap₂ intervalSet (cut-at (n + 1) h cells i (omega (arith, f .long))) (cut-at (n + 1) h cells (i + 1) (omega (arith, f .long)))))
+      let same : length out ≡ length (sets (cut (n + 1) h cells)) =
+      omega (arith, f .long, sets-length (cut (n + 1) h cells), cut-length (n + 1) h cells) in
+      ext-getD 0 out (sets (cut (n + 1) h cells)) same
+      (λ i b. f .stored i (omega (arith, f .long)) ∙ sym (cut-sets-at (n + 1) h cells i (omega (arith, f .long))))

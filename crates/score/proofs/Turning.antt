@@ -7,7 +7,7 @@ use Prim.Native.Nat.{ℕ, _+_, _-_, _*_, _/_, _%_, _^_, _≤_, _<_, zero-le, min
 use native.Mathlib.Nat.{mod-lt, zero-lt-suc}
 use native.Mathlib.Decide.{decLt}
 use native.Mathlib.Omega.{arith}
-use lib.Bits.{bitOr, bitAnd, and-mask}
+use lib.Bits.{bitOr, bitAnd, bitXor, and-mask, xor-add-and}
 use lib.Pow.{high, low}
 use Rattle.theory.specs.Bits.{bit}
 use Rattle.theory.proofs.Bits.{bit-lt, bit-or, bit-shr, bit-mod, bit-high, bit-not, bit-ext}
@@ -75,6 +75,20 @@ twice-bit later p h l = ap (λ (n : ℕ). bit n p) twice ∙ pick (decLt p 12)
         let e : p ≡ 12 + p % 12 = omega arith in
         ap (bit (later * 2 ^ 12 + later)) e ∙ sym (bit-shr (later * 2 ^ 12 + later) 12 (p % 12)) ∙ ap (λ (n : ℕ). bit n (p % 12)) (high later 12 h)
 
+-- ---- the twelve bits that are not reached, `(x & 4095) ^ 4095`: a set has a 0 for each interval that is
+
+others : (x : ℕ) → bitXor (bitAnd x 4095) 4095 ≡ 4095 - x % 4096
+others x =
+    omega (arith, mod-lt x (zero-lt-suc 4095), and-mask x 12, and-mask (bitAnd x 4095) 12, xor-add-and (bitAnd x 4095) 4095)
+
+others-lt : (x : ℕ) → bitXor (bitAnd x 4095) 4095 < 4096
+others-lt x = omega (arith, others x)
+
+others-bit : (x q : ℕ) → q < 12 → bit (bitXor (bitAnd x 4095) 4095) q ≡ 1 - bit x q
+others-bit x q h =
+    ap (λ (n : ℕ). bit n q) (others x)
+    ∙ bit-not (x % 2 ^ 12) q 12 (mod-lt x (zero-lt-suc 4095)) h ∙ ap (λ (n : ℕ). 1 - n) (bit-mod x q 12 h)
+
 -- ---- the classes below k are gone through
 
 pub record Turning (earlier later k reached : ℕ) : Type 0 where
@@ -108,16 +122,12 @@ module _ (earlier later : ℕ) where
         let z : 12 - k ≡ 0 = omega arith in
         omega (arith, t .left q l, ap (most (meet earlier later q) k) z, most-nil (meet earlier later q) k)
 
-    -- a set has a 0 for each interval that is reached
-    rest-bit : (q : ℕ) → q < 12 → bit (4095 - bitAnd reached 4095) q ≡ 1 - bit reached q
-    rest-bit q l =
-        rw (and-mask reached 12) (bit-not (reached % 2 ^ 12) q 12 (mod-lt reached (zero-lt-suc 4095)) l ∙ ap (λ (n : ℕ). 1 - n) (bit-mod reached q 12 l))
-
-    pub turning-end : SetOf earlier later (4095 - bitAnd reached 4095)
+    pub turning-end : SetOf earlier later (bitXor (bitAnd reached 4095) 4095)
     turning-end =
         record {
-          of-columns = λ a b e f. bit-ext 12 (4095 - bitAnd reached 4095) (intervalSet a b) (omega arith) (set-lt a b) (λ q l.
-              rest-bit q l ∙ ap (λ (n : ℕ). 1 - n) (all-reached q l ∙ rw (e, f) (met a b q l)) ∙ flip (apart a b q) ∙ sym (set-number a b q l));
+          of-columns = λ a b e f. bit-ext 12 (bitXor (bitAnd reached 4095) 4095) (intervalSet a b) (others-lt reached) (set-lt a b) (λ q l.
+              others-bit reached q l ∙ ap (λ (n : ℕ). 1 - n) (all-reached q l ∙ rw (e, f) (met a b q l)) ∙ flip (apart a b q)
+              ∙ sym (set-number a b q l));
         }
       where
         flip : (s : Bool) → 1 - present s ≡ cond s 0 1

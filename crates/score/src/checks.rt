@@ -110,14 +110,14 @@ fn any_bad_cell(cells: &[u8]) -> bool
 fn first_bad_cell(cells: &[u8]) -> usize
     ensures { λ r. ⌜ r ≡ first badCell (now (cells .entry)) ⌝ }
 {
-    let mut i = 0;
-    while i < cells.len() {
-        if bad_cell(cells[i]) {
-            return i;
+    let mut place = 0;
+    while place < cells.len() {
+        if bad_cell(cells[place]) {
+            return place;
         }
-        i += 1;
+        place += 1;
     }
-    i
+    place
 }
 
 fn bad_set(set: u16) -> bool
@@ -131,10 +131,10 @@ fn any_bad_set(sets: &[u16]) -> bool
     ensures { λ r. ⌜ r ≡ some badSet (now (sets .entry)) ⌝ }
 {
     let mut bad = false;
-    let mut i = 0;
-    while i < sets.len() {
-        bad = bad | bad_set(sets[i]);
-        i += 1;
+    let mut k = 0;
+    while k < sets.len() {
+        bad = bad | bad_set(sets[k]);
+        k += 1;
     }
     bad
 }
@@ -143,12 +143,12 @@ fn any_bad_set(sets: &[u16]) -> bool
 fn first_bad_set(sets: &[u16]) -> usize
     ensures { λ r. ⌜ r ≡ first badSet (now (sets .entry)) ⌝ }
 {
-    let mut i = 0;
-    while i < sets.len() {
-        if bad_set(sets[i]) {
-            return i;
+    let mut k = 0;
+    while k < sets.len() {
+        if bad_set(sets[k]) {
+            return k;
         }
-        i += 1;
+        k += 1;
     }
-    i
+    k
 }

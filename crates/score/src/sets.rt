@@ -93,5 +93,5 @@ fn set_of(earlier: u16, later: u16) -> u16
         }
         k += 1;
     }
-    (4095 - (reached & 4095)) as u16
+    ((reached & 4095) ^ 4095) as u16
 }

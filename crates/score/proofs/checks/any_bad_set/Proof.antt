@@ -9,10 +9,10 @@ use Rattle.score.proofs.checks.any_bad_set.Statement.{statement}
 use Rattle.score.proofs.checks.any_bad_set.Tie as tie
 
 abbrev Inv-loop : tie.InvT-loop
-Inv-loop sets bad₀ i₀ bad i = Flagged badSet sets i bad
+Inv-loop sets bad₀ k₀ bad k = Flagged badSet sets k bad
 
 abbrev μ-loop : tie.MeasureT-loop
-μ-loop sets bad₀ i₀ bad i = length sets - i
+μ-loop sets bad₀ k₀ bad k = length sets - k
 
 loop-holds : tie.Need-loop-holds Inv-loop μ-loop
 loop-holds c = flagged-start badSet _
@@ -26,8 +26,8 @@ shared-slice-read-bad-set c = search needs
 bad-set-requires : tie.Need-bad-set-requires Inv-loop μ-loop
 bad-set-requires c κs = search needs
 
-add-i : tie.Need-add-i Inv-loop μ-loop
-add-i c = search needs
+add-k : tie.Need-add-k Inv-loop μ-loop
+add-k c = search needs
 
 loop-less : tie.Need-loop-less Inv-loop μ-loop
 loop-less c = search needs
@@ -48,7 +48,7 @@ any-bad-set-spec =
     mul-bad-set
     shared-slice-read-bad-set
     bad-set-requires
-    add-i
+    add-k
     loop-less
     loop-again
     returns)

@@ -10,10 +10,10 @@ use Rattle.score.proofs.checks.first_bad_cell.Statement.{statement}
 use Rattle.score.proofs.checks.first_bad_cell.Tie as tie
 
 abbrev Inv-loop : tie.InvT-loop
-Inv-loop cells i₀ i = Passed badCell cells i
+Inv-loop cells place₀ place = Passed badCell cells place
 
 abbrev μ-loop : tie.MeasureT-loop
-μ-loop cells i₀ i = length cells - i
+μ-loop cells place₀ place = length cells - place
 
 loop-holds : tie.Need-loop-holds Inv-loop μ-loop
 loop-holds c = passed-start badCell _
@@ -27,8 +27,8 @@ bad-cell-requires c κs = search needs
 returns : tie.Need-returns Inv-loop μ-loop
 returns c = passed-found badCell _ 0 (c .before .before .before .before .loop .inv) (search needs) (sym (c .before .bad-cell .ensures) ∙ c .if1 .taken)
 
-add-i : tie.Need-add-i Inv-loop μ-loop
-add-i c = search needs
+add-place : tie.Need-add-place Inv-loop μ-loop
+add-place c = search needs
 
 loop-less : tie.Need-loop-less Inv-loop μ-loop
 loop-less c = search needs
@@ -49,7 +49,7 @@ first-bad-cell-spec =
     shared-slice-read-bad-cell
     bad-cell-requires
     returns
-    add-i
+    add-place
     loop-less
     loop-again
     returns-2)

@@ -10,10 +10,10 @@ use Rattle.score.proofs.checks.first_bad_set.Statement.{statement}
 use Rattle.score.proofs.checks.first_bad_set.Tie as tie
 
 abbrev Inv-loop : tie.InvT-loop
-Inv-loop sets i₀ i = Passed badSet sets i
+Inv-loop sets k₀ k = Passed badSet sets k
 
 abbrev μ-loop : tie.MeasureT-loop
-μ-loop sets i₀ i = length sets - i
+μ-loop sets k₀ k = length sets - k
 
 loop-holds : tie.Need-loop-holds Inv-loop μ-loop
 loop-holds c = passed-start badSet _
@@ -30,8 +30,8 @@ bad-set-requires c κs = search needs
 returns : tie.Need-returns Inv-loop μ-loop
 returns c = passed-found badSet _ 0 (c .before .before .before .before .loop .inv) (search needs) (sym (c .before .bad-set .ensures) ∙ c .if1 .taken)
 
-add-i : tie.Need-add-i Inv-loop μ-loop
-add-i c = search needs
+add-k : tie.Need-add-k Inv-loop μ-loop
+add-k c = search needs
 
 loop-less : tie.Need-loop-less Inv-loop μ-loop
 loop-less c = search needs
@@ -53,7 +53,7 @@ first-bad-set-spec =
     shared-slice-read-bad-set
     bad-set-requires
     returns
-    add-i
+    add-k
     loop-less
     loop-again
     returns-2)

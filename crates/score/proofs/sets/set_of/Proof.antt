@@ -5,7 +5,7 @@ use mathlib.Core.Path.{sym, _∙_}
 use mathlib.Core.Logic.{⊎-elim}
 use Prim.Native.Nat.{_-_}
 use native.Mathlib.Omega.{arith}
-use lib.Bits.{and-le-r}
+use lib.Bits.{bitAnd, and-le-r, xor-lt}
 use Rattle.theory.proofs.Bits.{bit-lt}
 use Rattle.theory.proofs.Masks.{shr-and-one}
 use Rattle.score.proofs.Turning.{Turning, turning-start, turning-skip, turning-take, turning-end}
@@ -50,11 +50,10 @@ loop-again c =
     (λ w. rw (w .1) (turning-skip _ _ t (search needs) (omega (arith, bit-lt x (a .k), e, w .0 .left))))
     (c .if1 .came)
 
-sub-result : tie.Need-sub-result Inv-loop μ-loop
-sub-result c = and-le-r (c .before .loop .reached) 4095
-
 cast-result : tie.Need-cast-result Inv-loop μ-loop
-cast-result c = search needs
+cast-result c =
+    let x = c .before .loop .reached in
+    record { fits = xor-lt 16 (bitAnd x 4095) _ (omega (arith, and-le-r x 4095)) (omega arith) }
 
 returns : tie.Need-returns Inv-loop μ-loop
 returns c = turning-end _ _ (c .before .loop .inv) (search needs)
@@ -73,6 +72,5 @@ set-of-spec =
     add-k
     loop-less
     loop-again
-    sub-result
     cast-result
     returns)
