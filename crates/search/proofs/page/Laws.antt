@@ -1,41 +1,31 @@
 -- From a walk to an answer: an accepted call meets what the walk asks for; the answer that is read off the buffers is the
 -- page's; and what the checks say of a call is what its definition says. Assumes nothing.
-use mathlib.Core.Path.{_≡_, refl, sym, ap, ap₂, _∙_, subst}
-use mathlib.Core.Bool.{Bool, true, false, cond, not}
-use mathlib.Core.List.{List, [], _∷_, _++_, map}
-use Prim.Native.Nat.{ℕ, zero, suc, _+_, _-_, _*_, _≤_, _<_, zero-le}
+use mathlib.Core.Path.{_≡_, refl, sym, ap, _∙_, subst}
+use mathlib.Core.Bool.{true, false}
+use mathlib.Core.List.{List, [], _∷_, map}
+use Prim.Native.Nat.{ℕ, suc, _-_, _≤_, _<_, zero-le}
 use native.Mathlib.Decide.{decLt}
-use native.Mathlib.Nat.{not-suc-le-zero}
 use native.Mathlib.Omega.{arith}
 use lib.Dec.{leb, ltb}
 use lib.IntN.{ℤ, pos}
 use lib.ListN.{length, getD, drop, length-map, List·getD-append, List·getD-eq-default}
 use borrow.Author.Tests.{lt-ltb, le-ltb, le-leb, lt-leb, ltb-false}
 use Rattle.theory.specs.Lists.{over, last, some}
-use Rattle.theory.specs.Pages.{pageHits, pageLooks, from}
+use Rattle.theory.specs.Pages.{pageHits, from}
 use Rattle.theory.proofs.Lists.{over-length, some-none}
 use Rattle.theory.proofs.Going.{page-le}
-use Rattle.score.specs.declared.refusals.Refusal.{Refusal}
-use Rattle.score.specs.declared.refusals.Verdict.{Verdict}
-use Rattle.score.specs.declared.refusals.Verdict.the-variants as Verdicts
-use Rattle.score.specs.Score.{columnAt, columnsIn, scoreOf}
-use Rattle.score.specs.Refusals.{badSet, judge, verdict, Row}
-use Rattle.score.proofs.Columns.{columns-whole, score-length}
-use Rattle.score.proofs.Judging.{judge-refused, judge-accepted}
+use Rattle.score.specs.Score.{columnsIn}
+use Rattle.score.proofs.Columns.{columns-whole}
 use Rattle.search.specs.declared.way.Way.{Way}
 use Rattle.search.specs.declared.bookmark.Bookmark.{Bookmark}
 use Rattle.search.specs.declared.page.Turn.{Turn}
-use Rattle.search.specs.declared.page.Page.{Page}
-use Rattle.search.specs.declared.page.Page.the-variants.{Turned, Refused}
-use Rattle.search.specs.Way.{codeOf, shiftOf}
-use Rattle.search.specs.Starts.{Place, place, key, hit, looks}
-use Rattle.search.specs.Pairs.{pairAt}
-use Rattle.search.specs.Bookmarks.{afterPair, finishedBookmark, keyOf}
-use Rattle.search.specs.Refusals.{badNote}
-use Rattle.search.specs.Page.{Leaf, columnsOf, shiftsOf, turn, leaf}
+use Rattle.search.specs.declared.page.Page.the-variants.{Turned}
+use Rattle.search.specs.Way.{shiftOf}
+use Rattle.search.specs.Starts.{Place, place, key, hit}
+use Rattle.search.specs.Bookmarks.{keyOf}
+use Rattle.search.specs.Page.{columnsOf, shiftsOf, turn, leaf}
 use Rattle.search.specs.Asking.{Accepted, AcceptedSets}
 use Rattle.search.specs.Walk.{Ready, Lent, Walks, readTurn, Turns}
-use Rattle.search.proofs.Judged.{Clear, judge-clear-of}
 
 -- ---- what is accepted is what the walk asks for
 

@@ -1,19 +1,18 @@
 -- What the loops along a column and along a theme keep, each turn a law over lists and numbers. Groups: the cells of a
 -- column one by one; a pitch sought (`Seeking`); the next code (`Lowering`); the notes of a theme one by one (`Trying`).
 -- Assumes nothing.
-use mathlib.Core.Path.{_≡_, refl, sym, ap, _∙_, subst}
+use mathlib.Core.Path.{_≡_, refl, sym, ap, _∙_}
 use mathlib.Core.Bool.{Bool, true, false, cond, _&&_, true≢false}
 use mathlib.Core.List.{List, [], _∷_, map}
-use Prim.Native.Nat.{ℕ, zero, suc, _+_, _-_, _*_, _%_, _≤_, _<_, zero-le}
-use native.Mathlib.Nat.{suc-mul, le-trans, le-of-eq, mul-le-mul-right, add-sub-cancel-left}
+use Prim.Native.Nat.{ℕ, _+_, _-_, _%_, _≤_, _<_, zero-le}
 use native.Mathlib.Numerals.{add-one}
 use native.Mathlib.Omega.{arith}
 use lib.Dec.{leb, eqb}
 use lib.ListN.{length, getD, take, drop, length-take, length-drop, drop-of-length-le}
-use lib.Seq.{drop-cons, drop-drop, getD-take, getD-drop}
-use borrow.Author.Tests.{le-leb, lt-leb, leb-true, leb-false, eq-eqb, ne-eqb, eqb-true, eqb-false}
-use Rattle.theory.specs.Lists.{count, some, first, lower, lowest}
-use Rattle.theory.proofs.Lowest.{lowest-first, first-agree, lower-took, lower-high, lower-low}
+use lib.Seq.{drop-cons, getD-take, getD-drop}
+use borrow.Author.Tests.{le-leb, leb-true, eq-eqb, ne-eqb, eqb-true, eqb-false}
+use Rattle.theory.specs.Lists.{some, lower, lowest}
+use Rattle.theory.proofs.Lowest.{lowest-first, first-agree}
 use Rattle.score.specs.declared.quantities.Pitch.{Pitch}
 use Rattle.score.specs.Score.{pitch, pitches}
 use Rattle.search.specs.declared.way.Way.{Way}

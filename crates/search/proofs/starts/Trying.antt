@@ -1,19 +1,19 @@
 -- What the loop that tries a start keeps: the notes from the second to the k-th were there, each look counted, and what is
 -- left of the theme is sought in what is left of the score. Assumes nothing.
-use mathlib.Core.Path.{_≡_, refl, sym, ap, _∙_, subst}
+use mathlib.Core.Path.{_≡_, refl, sym, ap, _∙_}
 use mathlib.Core.Bool.{Bool, true, false, cond}
-use mathlib.Core.List.{List, [], _∷_}
+use mathlib.Core.List.{List, []}
 use Prim.Native.Nat.{ℕ, suc, _+_, _-_, _*_, _≤_, _<_}
 use native.Mathlib.Nat.{suc-mul, le-trans, le-of-eq, mul-le-mul-right}
 use native.Mathlib.Numerals.{add-one}
 use native.Mathlib.Omega.{arith}
 use lib.ListN.{length, getD, take, drop, drop-of-length-le}
 use lib.Seq.{drop-cons, drop-drop, getD-drop}
-use Rattle.score.specs.Score.{pitch, columnAt, columnsIn, scoreOf}
+use Rattle.score.specs.Score.{pitch, columnsIn, scoreOf}
 use Rattle.score.proofs.Columns.{cut-at}
 use Rattle.search.specs.declared.way.Way.{Way}
 use Rattle.search.specs.Way.{holds}
-use Rattle.search.specs.Starts.{place, follows, looked, hit, looks}
+use Rattle.search.specs.Starts.{follows, looked, hit, looks}
 use Rattle.search.specs.Walk.{Ready, Fits, Trial}
 
 -- ---- columns by their cells

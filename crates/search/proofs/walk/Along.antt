@@ -1,21 +1,20 @@
 -- What stands at or after a place: the rest of its column's starts, and then the starts from the next column on; nothing
 -- where the theme has no more room. The same where only some columns are kept. Assumes nothing.
-use mathlib.Core.Path.{_≡_, refl, sym, ap, _∙_, subst}
+use mathlib.Core.Path.{_≡_, refl, ap, _∙_}
 use mathlib.Core.Bool.{Bool, true, false, cond}
 use mathlib.Core.List.{List, [], _∷_, _++_, map, map-append, append-assoc, List·Memᴰ as In, List·Memᴰ·head, List·Memᴰ·tail}
 use Prim.Native.Nat.{ℕ, zero, suc, _+_, _-_, _*_, _≤_, _<_}
-use native.Mathlib.Nat.{le-trans, le-refl, suc-mul, mul-le-mul-right, add-suc, suc-add}
-use native.Mathlib.Numerals.{add-one}
+use native.Mathlib.Nat.{le-trans, suc-mul, mul-le-mul-right}
 use native.Mathlib.Omega.{arith}
 use lib.Dec.{leb, ltb}
 use lib.ListN.{length, getD, drop, length-drop}
-use lib.Seq.{drop-cons, drop-nil}
-use borrow.Author.Tests.{le-leb, lt-leb, lt-ltb, le-ltb, ltb-true, ltb-false}
+use lib.Seq.{drop-cons}
+use borrow.Author.Tests.{le-leb, lt-leb, ltb-false}
 use Rattle.theory.specs.Lists.{count}
 use Rattle.theory.specs.Pages.{hits, Rising, from}
 use Rattle.theory.proofs.Pages.{hits-append}
 use Rattle.theory.proofs.Bookmarks.{Below, none, one, below-up, from-past, from-all, rising-append}
-use Rattle.theory.proofs.Members.{in-count, in-hits, rising-count, rising-hits, rising-map, rising-add, below-in}
+use Rattle.theory.proofs.Members.{in-count, in-hits, rising-count, rising-hits, rising-map, rising-add}
 use Rattle.score.specs.declared.quantities.Pitch.{Pitch}
 use Rattle.score.specs.Score.{columnAt, column}
 use Rattle.search.specs.declared.way.Way.{Way}

@@ -1,14 +1,13 @@
 -- What the loop that tries a column's starts keeps. The starts of a column from a code on begin with its next code; each
 -- turn takes one of them, and a hit is written behind those found. Assumes nothing.
-use mathlib.Core.Path.{_≡_, refl, sym, ap, _∙_, subst}
+use mathlib.Core.Path.{_≡_, refl, sym, ap, _∙_}
 use mathlib.Core.Bool.{Bool, true, false, cond}
-use mathlib.Core.List.{List, [], _∷_, _++_, map, map-append, append-nil}
+use mathlib.Core.List.{List, [], _∷_, _++_, map-append}
 use Prim.Native.Nat.{ℕ, zero, suc, _+_, _-_, _*_, _≤_, _<_, zero-le}
 use native.Mathlib.Omega.{arith}
-use native.Mathlib.Numerals.{add-one}
 use lib.IntN.{ℤ}
 use lib.ListN.{length, getD, take, drop, set, length-append, length-map, length-set}
-use lib.Seq.{sets, length-sets}
+use lib.Seq.{sets}
 use Rattle.theory.specs.Lists.{count, first}
 use Rattle.theory.specs.Pages.{hits, pageHits, pageLooks}
 use Rattle.theory.proofs.Lowest.{hits-first, hits-none}
@@ -19,12 +18,10 @@ use Rattle.score.proofs.Columns.{cut-at}
 use Rattle.search.specs.declared.way.Way.{Way}
 use Rattle.search.specs.Way.{span, holds, shiftOf}
 use Rattle.search.specs.Definition.{note}
-use Rattle.search.specs.Starts.{Place, place, codes, hit, looks}
+use Rattle.search.specs.Starts.{Place, place, hit, looks}
 use Rattle.search.specs.Page.{columnsOf, shiftsOf}
 use Rattle.search.specs.Walk.{Ready, Fits, nextCode, Trial, columnStarts, Tries, Keeps}
-use Rattle.search.proofs.Order.{span-lt}
 use Rattle.search.proofs.LookBound.{looks-le}
-use Rattle.search.proofs.starts.Trying.{cells-within}
 
 -- ---- the starts of a column from a code on
 

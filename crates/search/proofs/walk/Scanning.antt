@@ -1,6 +1,6 @@
 -- The walk along candidates: the register has taken the entries before the one that decides column j, so the entry that is
 -- taken next makes j a candidate or not. What the two walks reach, by the starts kept. Assumes nothing.
-use mathlib.Core.Path.{_≡_, refl, sym, ap, _∙_}
+use mathlib.Core.Path.{_≡_, sym, ap, _∙_}
 use mathlib.Core.Bool.{Bool, true, cond}
 use mathlib.Core.List.{List, []}
 use Prim.Native.Nat.{ℕ, _+_, _-_, _*_, _≤_, _<_}
@@ -9,16 +9,16 @@ use lib.Dec.{eqb}
 use lib.IntN.{ℤ}
 use lib.ListN.{length}
 use Rattle.theory.specs.Bits.{bit}
-use Rattle.theory.specs.Pages.{hits, from}
+use Rattle.theory.specs.Pages.{from}
 use Rattle.theory.specs.Register.{step, regFrom}
 use Rattle.theory.proofs.Register.{regFrom-more}
 use Rattle.score.specs.Score.{columnsIn, scoreOf}
 use Rattle.search.specs.declared.way.Way.{Way}
-use Rattle.search.specs.Starts.{Place, key, starts}
+use Rattle.search.specs.Starts.{key, starts}
 use Rattle.search.specs.Candidates.{candidate}
 use Rattle.search.specs.Scan.{entryWord}
 use Rattle.search.specs.Page.{quickStarts}
-use Rattle.search.specs.Walk.{Ready, columnStarts, Tries, Walks}
+use Rattle.search.specs.Walk.{Ready, columnStarts, Tries}
 use Rattle.search.proofs.Order.{starts-rising}
 use Rattle.search.proofs.register.Laws.{regFrom-candidate}
 use Rattle.search.proofs.walk.Along.{from-hits, hits-all, keptFrom}

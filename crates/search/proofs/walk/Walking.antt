@@ -1,17 +1,17 @@
 -- What the loops that go from column to column keep: of the page over the starts kept from a place on, `out` was found and
 -- written, and the starts kept from column j and code x on are left. One law a turn, for every choice of columns.
 -- Assumes nothing.
-use mathlib.Core.Path.{_≡_, refl, sym, ap, _∙_, subst}
-use mathlib.Core.Bool.{Bool, true, false, cond}
-use mathlib.Core.List.{List, [], _∷_, _++_, map, map-append}
-use Prim.Native.Nat.{ℕ, zero, suc, _+_, _-_, _*_, _^_, _≤_, _<_, zero-le}
-use native.Mathlib.Nat.{le-trans, le-refl}
+use mathlib.Core.Path.{_≡_, refl, sym, ap, _∙_}
+use mathlib.Core.Bool.{Bool, cond}
+use mathlib.Core.List.{List, [], _++_, map-append}
+use Prim.Native.Nat.{ℕ, _+_, _-_, _*_, _^_, _≤_, _<_, zero-le}
+use native.Mathlib.Nat.{le-refl}
 use native.Mathlib.Omega.{arith}
 use lib.IntN.{ℤ, pos}
-use lib.ListN.{length, getD, length-append, length-map}
-use lib.Seq.{sets, length-sets}
-use Rattle.theory.specs.Lists.{over, sum}
-use Rattle.theory.specs.Pages.{hits, pageHits, pageLooks, from}
+use lib.ListN.{length, length-append, length-map}
+use lib.Seq.{length-sets}
+use Rattle.theory.specs.Lists.{over}
+use Rattle.theory.specs.Pages.{pageHits, pageLooks, from}
 use Rattle.theory.proofs.Lists.{over-sets}
 use Rattle.theory.proofs.Looks.{page-looks-le, sum-hits, sum-from}
 use Rattle.theory.proofs.Going.{Going, Made, page-le, going-start, going-part, going-full, going-end}

@@ -1,30 +1,20 @@
-use mathlib.Core.List.{[], _∷_, _++_}
-use lib.ListN.{length}
-use Rattle.score.specs.Refusals.{row1, row2, row3, row6, row7}
-use Rattle.score.specs.Score.{columnsIn}
-use Rattle.search.specs.Refusals.{row4, row5, row8, row9, row10}
-use Rattle.search.proofs.checks.Laws.{turned-away, gone-on, scoreRows, themeRows, setsRows}
-use mathlib.Core.Path.{_≡_, refl, sym, ap, _∙_}
+-- `search::checks::check_plain` meets its contract: the rows in parts: the score's, the theme's, the page's. Assumes
+-- nothing.
 use borrow.Author.Needs.{needs}
-use native.Mathlib.Omega.{arith}
+use mathlib.Core.List.{[], _∷_, _++_}
+use mathlib.Core.Path.{sym, _∙_}
+use Rattle.score.specs.Score.{columnsIn}
+use Rattle.search.specs.Refusals.{row9, row10}
+use Rattle.search.proofs.checks.Laws.{turned-away, gone-on, scoreRows, themeRows}
 use Rattle.search.proofs.checks.check_plain.Statement.{statement}
 use Rattle.search.proofs.checks.check_plain.Tie as tie
-use Rattle.search.proofs.checks.check_plain.Reads as reads
-use Rattle.search.proofs.checks.check_plain.Lts as lts
-use Rattle.score.proofs.check_score.Reads as check-score-reads
-use Rattle.score.proofs.columns_in.Reads as columns-in-reads
-use Rattle.search.proofs.checks.check_page.Reads as check-page-reads
-use Rattle.search.proofs.checks.check_theme.Reads as check-theme-reads
 
--- src/checks.rt:32:34
 check-score-requires : tie.Need-check-score-requires
 check-score-requires c κs = search needs
 
--- src/checks.rt:32:29
 enum-known-e : tie.Need-enum-known-e
 enum-known-e c = search needs
 
--- src/checks.rt:33:9
 returns : tie.Need-returns
 returns c =
     let a = c .before .before .before .before .before .before .args in
@@ -33,15 +23,12 @@ returns c =
 enum-told : tie.Need-enum-told
 enum-told c = search needs
 
--- src/checks.rt:35:34
 check-theme-requires : tie.Need-check-theme-requires
 check-theme-requires c κs = search needs
 
--- src/checks.rt:35:29
 enum-known-e-2 : tie.Need-enum-known-e-2
 enum-known-e-2 c = search needs
 
--- src/checks.rt:36:9
 returns-2 : tie.Need-returns-2
 returns-2 c =
     let m = c .before .before .before in
@@ -51,15 +38,12 @@ returns-2 c =
 enum-told-2 : tie.Need-enum-told-2
 enum-told-2 c = search needs
 
--- src/checks.rt:38:21
 columns-in-requires : tie.Need-columns-in-requires
 columns-in-requires c κs = search needs
 
--- src/checks.rt:38:5
 check-page-requires : tie.Need-check-page-requires
 check-page-requires c κs = search needs
 
--- src/checks.rt:21:1
 returns-3 : tie.Need-returns-3
 returns-3 c =
     let m = c .before .before .before .before in

@@ -1,33 +1,21 @@
-use mathlib.Core.List.{[], _∷_, _++_}
-use lib.ListN.{length}
-use Rattle.score.specs.Refusals.{row1, row2, row3, row6, row7}
-use Rattle.score.specs.Score.{columnsIn}
-use Rattle.search.specs.Refusals.{row4, row5, row8, row9, row10}
-use Rattle.search.proofs.checks.Laws.{turned-away, gone-on, scoreRows, themeRows, setsRows}
-use borrow.Author.Tests.{eq-eqb, ne-eqb}
-use mathlib.Core.Path.{_≡_, refl, sym, ap, _∙_}
+-- `search::checks::check_quick` meets its contract: the rows in parts: the score's, the theme's, the sets', the
+-- table's, the page's. Assumes nothing.
 use borrow.Author.Needs.{needs}
-use native.Mathlib.Omega.{arith}
+use mathlib.Core.List.{[], _∷_, _++_}
+use mathlib.Core.Path.{sym, _∙_}
+use borrow.Author.Tests.{eq-eqb, ne-eqb}
+use Rattle.score.specs.Score.{columnsIn}
+use Rattle.search.specs.Refusals.{row8, row9, row10}
+use Rattle.search.proofs.checks.Laws.{turned-away, gone-on, scoreRows, themeRows, setsRows}
 use Rattle.search.proofs.checks.check_quick.Statement.{statement}
 use Rattle.search.proofs.checks.check_quick.Tie as tie
-use Rattle.search.proofs.checks.check_quick.Reads as reads
-use Rattle.search.proofs.checks.check_quick.Lts as lts
-use Rattle.score.proofs.check_score.Reads as check-score-reads
-use Rattle.score.proofs.check_sets.Reads as check-sets-reads
-use Rattle.score.proofs.columns_in.Reads as columns-in-reads
-use Rattle.search.proofs.checks.check_page.Reads as check-page-reads
-use Rattle.search.proofs.checks.check_theme.Reads as check-theme-reads
-use Rattle.search.proofs.checks.refused.Reads as refused-reads
 
--- src/checks.rt:55:34
 check-score-requires : tie.Need-check-score-requires
 check-score-requires c κs = search needs
 
--- src/checks.rt:55:29
 enum-known-e : tie.Need-enum-known-e
 enum-known-e c = search needs
 
--- src/checks.rt:56:9
 returns : tie.Need-returns
 returns c =
     let a = c .before .before .before .before .before .before .before .args in
@@ -36,15 +24,12 @@ returns c =
 enum-told : tie.Need-enum-told
 enum-told c = search needs
 
--- src/checks.rt:58:34
 check-theme-requires : tie.Need-check-theme-requires
 check-theme-requires c κs = search needs
 
--- src/checks.rt:58:29
 enum-known-e-2 : tie.Need-enum-known-e-2
 enum-known-e-2 c = search needs
 
--- src/checks.rt:59:9
 returns-2 : tie.Need-returns-2
 returns-2 c =
     let m = c .before .before .before in
@@ -54,15 +39,12 @@ returns-2 c =
 enum-told-2 : tie.Need-enum-told-2
 enum-told-2 c = search needs
 
--- src/checks.rt:61:34
 check-sets-requires : tie.Need-check-sets-requires
 check-sets-requires c κs = search needs
 
--- src/checks.rt:61:29
 enum-known-e-3 : tie.Need-enum-known-e-3
 enum-known-e-3 c = search needs
 
--- src/checks.rt:62:9
 returns-3 : tie.Need-returns-3
 returns-3 c =
     let k = c .before .before .before in
@@ -74,11 +56,9 @@ returns-3 c =
 enum-told-3 : tie.Need-enum-told-3
 enum-told-3 c = search needs
 
--- src/checks.rt:65:9
 refused-requires : tie.Need-refused-requires
 refused-requires c κs = search needs
 
--- src/checks.rt:65:9
 returns-4 : tie.Need-returns-4
 returns-4 c =
     let k = c .before .before .before .before in
@@ -88,15 +68,12 @@ returns-4 c =
     (gone-on (themeRows (a .theme .now)) ((setsRows (a .cells .now) (a .tracks) (a .sets .now)) ++ (row8 (a .table) ∷ []) ++ (row9 (a .r) (a .other) ∷ row10 (a .way) (columnsIn (a .cells .now) (a .tracks)) (a .bookmark) ∷ [])) (sym (m .check-theme .ensures) ∙ k .before .enum-told2 .given .1)
     (gone-on (setsRows (a .cells .now) (a .tracks) (a .sets .now)) ((row8 (a .table) ∷ []) ++ (row9 (a .r) (a .other) ∷ row10 (a .way) (columnsIn (a .cells .now) (a .tracks)) (a .bookmark) ∷ [])) (sym (k .check-sets .ensures) ∙ c .before .before .enum-told3 .given .1) (c .refused .ensures ∙ rw (ne-eqb (a .table) 4096 (c .before .if1 .taken)))))
 
--- src/checks.rt:67:21
 columns-in-requires : tie.Need-columns-in-requires
 columns-in-requires c κs = search needs
 
--- src/checks.rt:67:5
 check-page-requires : tie.Need-check-page-requires
 check-page-requires c κs = search needs
 
--- src/checks.rt:42:1
 returns-5 : tie.Need-returns-5
 returns-5 c =
     let k = c .before .before .before .before .before in

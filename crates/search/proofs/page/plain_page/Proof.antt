@@ -1,45 +1,35 @@
-use Rattle.search.proofs.page.Calls.{plain-away, plain-asks, plain-turns, quick-away, quick-asks, quick-turns}
-use mathlib.Core.Path.{_≡_, refl, sym, ap, _∙_}
+-- `search::page::plain_page` meets its contract: the checks turn away, or the call is an accepted one and its page is
+-- turned. Assumes nothing.
 use borrow.Author.Needs.{needs}
-use native.Mathlib.Omega.{arith}
+use mathlib.Core.Path.{sym, _∙_}
+use Rattle.search.proofs.page.Calls.{plain-away, plain-asks, plain-turns}
 use Rattle.search.proofs.page.plain_page.Statement.{statement}
 use Rattle.search.proofs.page.plain_page.Tie as tie
-use Rattle.search.proofs.page.plain_page.Reads as reads
-use Rattle.search.proofs.page.plain_page.Lts as lts
-use Rattle.search.proofs.checks.check_plain.Reads as check-plain-reads
-use Rattle.search.proofs.page.turn_plain.Reads as turn-plain-reads
 
--- src/page.rt:47:34
 check-plain-requires : tie.Need-check-plain-requires
 check-plain-requires c κs = search needs
 
--- src/page.rt:47:29
 enum-known-e : tie.Need-enum-known-e
 enum-known-e c = search needs
 
--- src/page.rt:48:9
 returns : tie.Need-returns
 returns c = plain-away _ _ _ _ _ _ _ _ (sym (c .before .before .before .check-plain .ensures) ∙ c .before .e .given .1)
 
 enum-told : tie.Need-enum-told
 enum-told c = search needs
 
--- src/page.rt:50:18
 turn-plain-requires : tie.Need-turn-plain-requires
 turn-plain-requires c κs =
     let e = c .before .before in
     let a = e .before .before .before .before .before .before .args in
     plain-asks (a .cells .now) (a .tracks) (a .theme .now) (a .way) (a .bookmark) (a .columns .now) (a .shifts .now) (sym (e .before .before .check-plain .ensures) ∙ e .enum-told .given .1)
 
--- src/page.rt:36:1
 same-length : tie.Need-same-length
 same-length c = search needs
 
--- src/page.rt:36:1
 same-length-2 : tie.Need-same-length-2
 same-length-2 c = search needs
 
--- src/page.rt:36:1
 returns-2 : tie.Need-returns-2
 returns-2 c =
     let e = c .before .before .before .before .before .before in

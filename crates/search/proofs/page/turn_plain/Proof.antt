@@ -1,29 +1,20 @@
-use Prim.Native.Nat.{_+_, _*_, _≤_}
-use lib.ListN.{length}
+-- `search::page::turn_plain` meets its contract: the walk along every start begins at the bookmark, and its answer is
+-- read off the buffers. Assumes nothing.
+use borrow.Author.Needs.{needs}
+use mathlib.Core.Path.{_≡_, sym, _∙_}
+use native.Mathlib.Omega.{arith}
 use Rattle.score.specs.Score.{scoreOf}
 use Rattle.score.proofs.Columns.{score-length}
-use Rattle.search.specs.Way.{span, codeOf}
+use Rattle.search.specs.Way.{codeOf}
 use Rattle.search.specs.Starts.{starts}
-use Rattle.search.specs.Page.{quickStarts}
 use Rattle.search.proofs.Shifts.{code-le}
-use Rattle.search.proofs.page.Laws.{accepted-ready, accepted-lent, walk-leaf}
-use mathlib.Core.Path.{_≡_, refl, sym, ap, _∙_}
-use borrow.Author.Needs.{needs}
-use native.Mathlib.Omega.{arith}
+use Rattle.search.proofs.page.Laws.{accepted-ready, walk-leaf}
 use Rattle.search.proofs.page.turn_plain.Statement.{statement}
 use Rattle.search.proofs.page.turn_plain.Tie as tie
-use Rattle.search.proofs.page.turn_plain.Reads as reads
-use Rattle.search.proofs.page.turn_plain.Lts as lts
-use Rattle.score.proofs.columns_in.Reads as columns-in-reads
-use Rattle.search.proofs.page.turned.Reads as turned-reads
-use Rattle.search.proofs.signs.code_of.Reads as code-of-reads
-use Rattle.search.proofs.walk.walk_all.Reads as walk-all-reads
 
--- src/page.rt:89:9
 code-of-requires : tie.Need-code-of-requires
 code-of-requires c κs = search needs
 
--- src/page.rt:90:9
 walk-all-requires : tie.Need-walk-all-requires
 walk-all-requires c κs =
     let a = c .before .before in
@@ -31,23 +22,18 @@ walk-all-requires c κs =
     let k : a .code-of .result ≡ codeOf (s .args .way) (s .args .bookmark .shift) = a .code-of .ensures ∙ search needs in
     (accepted-ready (s .pre .accepted), (s .pre .marked .from-first, s .pre .marked .to-end, omega (arith, k, code-le (s .args .way) (s .args .bookmark .shift) (s .pre .marked .not-below) (s .pre .marked .not-above)), s .pre .same-room))
 
--- src/page.rt:91:17
 columns-in-requires : tie.Need-columns-in-requires
 columns-in-requires c κs = search needs
 
--- src/page.rt:91:5
 turned-requires : tie.Need-turned-requires
 turned-requires c κs = search needs
 
--- src/page.rt:76:1
 same-length : tie.Need-same-length
 same-length c = search needs
 
--- src/page.rt:76:1
 same-length-2 : tie.Need-same-length-2
 same-length-2 c = search needs
 
--- src/page.rt:76:1
 returns : tie.Need-returns
 returns c =
     let s = c .before .before .before .before .before .before .before .before .before .before .before .before .before .before .before .before in

@@ -1,29 +1,20 @@
-use Prim.Native.Nat.{_+_, _*_, _≤_}
-use lib.ListN.{length}
+-- `search::page::turn_quick` meets its contract: the walk along candidates begins at the bookmark, and its answer is
+-- read off the buffers. Assumes nothing.
+use borrow.Author.Needs.{needs}
+use mathlib.Core.Path.{_≡_, sym, _∙_}
+use native.Mathlib.Omega.{arith}
 use Rattle.score.specs.Score.{scoreOf}
 use Rattle.score.proofs.Columns.{score-length}
-use Rattle.search.specs.Way.{span, codeOf}
-use Rattle.search.specs.Starts.{starts}
+use Rattle.search.specs.Way.{codeOf}
 use Rattle.search.specs.Page.{quickStarts}
 use Rattle.search.proofs.Shifts.{code-le}
 use Rattle.search.proofs.page.Laws.{accepted-ready, accepted-lent, walk-leaf}
-use mathlib.Core.Path.{_≡_, refl, sym, ap, _∙_}
-use borrow.Author.Needs.{needs}
-use native.Mathlib.Omega.{arith}
 use Rattle.search.proofs.page.turn_quick.Statement.{statement}
 use Rattle.search.proofs.page.turn_quick.Tie as tie
-use Rattle.search.proofs.page.turn_quick.Reads as reads
-use Rattle.search.proofs.page.turn_quick.Lts as lts
-use Rattle.score.proofs.columns_in.Reads as columns-in-reads
-use Rattle.search.proofs.page.turned.Reads as turned-reads
-use Rattle.search.proofs.signs.code_of.Reads as code-of-reads
-use Rattle.search.proofs.walk.walk_candidates.Reads as walk-candidates-reads
 
--- src/page.rt:110:9
 code-of-requires : tie.Need-code-of-requires
 code-of-requires c κs = search needs
 
--- src/page.rt:111:9
 walk-candidates-requires : tie.Need-walk-candidates-requires
 walk-candidates-requires c κs =
     let a = c .before .before in
@@ -31,23 +22,18 @@ walk-candidates-requires c κs =
     let k : a .code-of .result ≡ codeOf (s .args .way) (s .args .bookmark .shift) = a .code-of .ensures ∙ search needs in
     (accepted-ready (s .pre .plain .accepted), (accepted-lent (s .pre .with-sets) (s .pre .table-long), (s .pre .plain .marked .from-first, s .pre .plain .marked .to-end, omega (arith, k, code-le (s .args .way) (s .args .bookmark .shift) (s .pre .plain .marked .not-below) (s .pre .plain .marked .not-above)), s .pre .plain .same-room)))
 
--- src/page.rt:112:17
 columns-in-requires : tie.Need-columns-in-requires
 columns-in-requires c κs = search needs
 
--- src/page.rt:112:5
 turned-requires : tie.Need-turned-requires
 turned-requires c κs = search needs
 
--- src/page.rt:95:1
 same-length : tie.Need-same-length
 same-length c = search needs
 
--- src/page.rt:95:1
 same-length-2 : tie.Need-same-length-2
 same-length-2 c = search needs
 
--- src/page.rt:95:1
 returns : tie.Need-returns
 returns c =
     let s = c .before .before .before .before .before .before .before .before .before .before .before .before .before .before .before .before .before .before in

@@ -1,8 +1,8 @@
 -- `search::register::marks` meets its contract: the lowest bit of the register shifted down is its bit `top`.
 -- Assumes nothing.
+use borrow.Author.Needs.{needs}
 use mathlib.Core.Path.{ap}
 use Prim.Native.Nat.{ℕ}
-use borrow.Author.Needs.{needs}
 use lib.Dec.{eqb}
 use Rattle.theory.proofs.Masks.{shr-and-one}
 use Rattle.search.proofs.register.marks.Statement.{statement}

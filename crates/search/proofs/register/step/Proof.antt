@@ -1,8 +1,8 @@
 -- `search::register::step` meets its contract: the wrapped sum is the double, its top bit lost. Assumes nothing.
+use borrow.Author.Needs.{needs}
 use mathlib.Core.Path.{ap}
 use Prim.Native.Nat.{ℕ}
 use lib.Bits.{bitOr}
-use borrow.Author.Needs.{needs}
 use Rattle.theory.specs.Register.{step}
 use Rattle.search.proofs.register.step.Statement.{statement}
 use Rattle.search.proofs.register.step.Tie as tie

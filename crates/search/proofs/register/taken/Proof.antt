@@ -1,6 +1,6 @@
 -- `search::register::taken` meets its contract: a set below 4,096 has its word in the table. Assumes nothing.
-use native.Mathlib.Omega.{arith}
 use borrow.Author.Needs.{needs}
+use native.Mathlib.Omega.{arith}
 use Rattle.search.proofs.register.taken.Statement.{statement}
 use Rattle.search.proofs.register.taken.Tie as tie
 

@@ -1,9 +1,9 @@
 -- `search::register::warmed` meets its contract. The invariant: the register has taken the words from `from` up to `at`.
 -- The measure is the words left. Assumes nothing.
+use borrow.Author.Needs.{needs}
 use mathlib.Core.Path.{_≡_, sym}
 use Prim.Native.Nat.{_+_, _-_, _≤_}
 use native.Mathlib.Omega.{arith}
-use borrow.Author.Needs.{needs}
 use Rattle.theory.specs.Register.{regFrom}
 use Rattle.theory.proofs.Register.{regFrom-none, regFrom-turn}
 use Rattle.search.specs.Scan.{entryWord}

@@ -1,26 +1,22 @@
-use lib.IntN.{ℤ, pos, negsuc, natAbs, _+ℤ_, _-ℤ_}
-use lib.Signed.{ltZ, nonNeg}
-use lib.Dec.{T}
-use mathlib.Core.Path.{subst, subst₂}
-use mathlib.Core.Bool.{Bool, true, false, cond, _||_}
+-- `search::signs::code_of` meets its contract: the law of a biased code, at 16 bits and the bias 127; in octave the
+-- shift itself. Assumes nothing.
+use borrow.Author.Needs.{needs}
+use mathlib.Core.Path.{subst, _≡_, sym, ap, _∙_}
+use Prim.Native.Nat.{ℕ, _≤_, _+_}
+use native.Mathlib.Omega.{arith}
+use lib.IntN.{ℤ, pos, negsuc, natAbs, _+ℤ_}
+use lib.Signed.{nonNeg}
+use lib.Dec.{T, leb→le}
 use mir.Syntax.{w16}
 use mir.Val.{Fits, SFits, toZ, ofZ}
 use mir.Facts.{toZ-ofZ}
-use Prim.Native.Nat.{ℕ, _≤_, _<_, _+_}
-use lib.Dec.{leb→le}
 use Rattle.theory.proofs.Signed.{Coded, code, add-read}
 use Rattle.search.specs.declared.way.Way.{Way}
-use Rattle.search.specs.declared.way.Way.the-variants.{Exact, Octave}
+use Rattle.search.specs.declared.way.Way.the-variants.{Octave}
 use Rattle.search.specs.Walk.{ShiftIn}
-use mathlib.Core.Path.{_≡_, refl, sym, ap, _∙_}
-use borrow.Author.Needs.{needs}
-use native.Mathlib.Omega.{arith}
 use Rattle.search.proofs.signs.code_of.Statement.{statement}
 use Rattle.search.proofs.signs.code_of.Tie as tie
-use Rattle.search.proofs.signs.code_of.Reads as reads
-use Rattle.search.proofs.signs.code_of.Lts as lts
 
--- src/shifts.rt:50:24
 enum-told : tie.Need-enum-told
 enum-told c = search needs
 
@@ -41,27 +37,21 @@ octave-fits : (z : ℤ) → ShiftIn Octave z → T (nonNeg z) × Fits w16 (natAb
 octave-fits (pos a) r = (tt, record { fits = let l : a ≤ 12 = leb→le a 12 (r .not-above .le) in omega arith })
 octave-fits (negsuc a) r = absurd (r .not-below .le)
 
--- src/shifts.rt:50:24
 add-result : tie.Need-add-result
 add-result c = rw (toZ-ofZ (c .before .before .fits .shift)) (exact-fits c)
 
--- src/shifts.rt:50:23
 cast-result : tie.Need-cast-result
 cast-result c = subst (λ (z : ℤ). T (nonNeg z) × Fits w16 (natAbs z)) (sym (exact-read c)) (tt, record { fits = omega (arith, exact c .1) })
 
--- src/shifts.rt:51:24
 enum-told-2 : tie.Need-enum-told-2
 enum-told-2 c = search needs
 
--- src/shifts.rt:51:24
 cast-result-2 : tie.Need-cast-result-2
 cast-result-2 c = rw (toZ-ofZ (c .before .before .fits .shift)) (octave-fits _ (subst (λ (w : Way). ShiftIn w (c .before .before .args .shift)) (c .enum-told2 .given .1) (c .before .before .pre)))
 
--- src/shifts.rt:45:1
 returns : tie.Need-returns
 returns c = rw (c .enum-told .given .1) (ap natAbs (add-read w16 _ (pos 127) (c .before .before .fits .shift) (exact-fits c)))
 
--- src/shifts.rt:45:1
 returns-2 : tie.Need-returns-2
 returns-2 c = rw (toZ-ofZ (c .before .before .fits .shift), c .enum-told2 .given .1)
 

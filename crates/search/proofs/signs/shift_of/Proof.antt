@@ -1,39 +1,31 @@
+-- `search::signs::shift_of` meets its contract: the law of a difference, at 16 bits; by cases on the way. Assumes
+-- nothing.
+use borrow.Author.Needs.{needs}
+use native.Mathlib.Omega.{arith}
 use mir.Syntax.{w16}
 use mir.Facts.{toZ-pos}
 use Rattle.theory.proofs.Signed.{sub-fits, sub-read}
-use mathlib.Core.Path.{_≡_, refl, sym, ap, _∙_}
-use borrow.Author.Needs.{needs}
-use native.Mathlib.Omega.{arith}
 use Rattle.search.proofs.signs.shift_of.Statement.{statement}
 use Rattle.search.proofs.signs.shift_of.Tie as tie
-use Rattle.search.proofs.signs.shift_of.Reads as reads
-use Rattle.search.proofs.signs.shift_of.Lts as lts
 
--- src/shifts.rt:39:24
 enum-told : tie.Need-enum-told
 enum-told c = search needs
 
--- src/shifts.rt:39:24
 cast-result : tie.Need-cast-result
 cast-result c = search needs
 
--- src/shifts.rt:39:23
 sub-result : tie.Need-sub-result
 sub-result c = sub-fits w16 (c .before .before .args .code) 126 (omega arith) (omega arith)
 
--- src/shifts.rt:40:24
 enum-told-2 : tie.Need-enum-told-2
 enum-told-2 c = search needs
 
--- src/shifts.rt:40:24
 cast-result-2 : tie.Need-cast-result-2
 cast-result-2 c = search needs
 
--- src/shifts.rt:34:1
 returns : tie.Need-returns
 returns c = rw (c .enum-told .given .1) (sub-read w16 (c .before .before .args .code) 126 (omega arith) (omega arith))
 
--- src/shifts.rt:34:1
 returns-2 : tie.Need-returns-2
 returns-2 c = rw (c .enum-told2 .given .1) (toZ-pos w16 (omega arith))
 

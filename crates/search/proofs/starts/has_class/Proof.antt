@@ -1,16 +1,13 @@
-use Prim.Native.Nat.{ℕ, _+_, _-_, _%_, _≤_, _<_}
-use lib.Dec.{eqb}
-use lib.ListN.{length, getD}
-use borrow.Author.Tests.{eq-eqb, ne-eqb, le-leb, lt-leb}
-use Rattle.search.proofs.starts.Laws.{Seeking, seek-start, seek-found, seek-turn, seek-end, class-true, class-false}
-use mathlib.Core.Path.{_≡_, refl, sym, ap, _∙_}
+-- `search::starts::has_class` meets its contract. The invariant: no cell passed is of the class. The measure is the
+-- cells left. Assumes nothing.
 use borrow.Author.Needs.{needs}
-use native.Mathlib.Omega.{arith}
+use mathlib.Core.Path.{sym, _∙_}
+use Prim.Native.Nat.{_+_, _-_, _%_}
+use lib.Dec.{eqb}
+use lib.ListN.{getD}
+use Rattle.search.proofs.starts.Laws.{Seeking, seek-start, seek-found, seek-turn, seek-end, class-true, class-false}
 use Rattle.search.proofs.starts.has_class.Statement.{statement}
 use Rattle.search.proofs.starts.has_class.Tie as tie
-use Rattle.search.proofs.starts.has_class.Reads as reads
-use Rattle.search.proofs.starts.has_class.Lts as lts
-use Rattle.search.proofs.starts.is_class.Reads as is-class-reads
 
 abbrev Inv-loop : tie.InvT-loop
 Inv-loop cells base h class i₀ i = Seeking (λ t. eqb (t .0 % 12) class) cells base h i
@@ -18,23 +15,18 @@ Inv-loop cells base h class i₀ i = Seeking (λ t. eqb (t .0 % 12) class) cells
 abbrev μ-loop : tie.MeasureT-loop
 μ-loop cells base h class i₀ i = h - i
 
--- src/starts.rt:48:5
 loop-holds : tie.Need-loop-holds Inv-loop μ-loop
 loop-holds c = seek-start _ _ _ _
 
--- src/starts.rt:49:27
 add-is-class : tie.Need-add-is-class Inv-loop μ-loop
 add-is-class c = search needs
 
--- src/starts.rt:49:21
 shared-slice-read-is-class : tie.Need-shared-slice-read-is-class Inv-loop μ-loop
 shared-slice-read-is-class c = search needs
 
--- src/starts.rt:49:12
 is-class-requires : tie.Need-is-class-requires Inv-loop μ-loop
 is-class-requires c κs = tt
 
--- src/starts.rt:50:13
 returns : tie.Need-returns Inv-loop μ-loop
 returns c =
     let s = c .before .before .before .before in
@@ -42,19 +34,15 @@ returns c =
     let t = class-true (getD (a .cells .now) (a .base + s .loop .i) 0) (a .class) (sym (c .before .is-class .ensures) ∙ c .if1 .taken) in
     seek-found _ _ _ _ _ (s .before .before .pre) (c .before .before .before .loop-test .taken) (s .loop .inv) (t .0) (t .1)
 
--- src/starts.rt:52:9
 add-i : tie.Need-add-i Inv-loop μ-loop
 add-i c = search needs
 
--- src/starts.rt:48:5
 loop-less : tie.Need-loop-less Inv-loop μ-loop
 loop-less c = search needs
 
--- src/starts.rt:48:5
 loop-again : tie.Need-loop-again Inv-loop μ-loop
 loop-again c = let s = c .before .before .before .before in seek-turn _ _ _ _ _ (s .before .before .pre) (c .before .before .before .loop-test .taken) (s .loop .inv) (class-false _ _ (sym (c .before .is-class .ensures) ∙ c .if1 .left))
 
--- src/starts.rt:43:1
 returns-2 : tie.Need-returns-2 Inv-loop μ-loop
 returns-2 c = seek-end _ _ _ _ _ (c .loop-test .left) (c .before .loop .inv)
 

@@ -1,15 +1,13 @@
+-- `search::starts::try_start` meets its contract. The invariant is `Trying`: the notes passed were there. The measure
+-- is the notes left. Assumes nothing.
+use borrow.Author.Needs.{needs}
 use Prim.Native.Nat.{_-_}
+use native.Mathlib.Omega.{arith}
 use lib.ListN.{length}
 use borrow.Author.Tests.{not-true, not-false}
 use Rattle.search.proofs.starts.Trying.{Trying, first-within, try-first, try-within, try-miss, try-turn, try-end}
-use mathlib.Core.Path.{_≡_, refl, sym, ap, _∙_}
-use borrow.Author.Needs.{needs}
-use native.Mathlib.Omega.{arith}
 use Rattle.search.proofs.starts.try_start.Statement.{statement}
 use Rattle.search.proofs.starts.try_start.Tie as tie
-use Rattle.search.proofs.starts.try_start.Reads as reads
-use Rattle.search.proofs.starts.try_start.Lts as lts
-use Rattle.search.proofs.starts.holds_at.Reads as holds-at-reads
 
 abbrev Inv-loop : tie.InvT-loop
 Inv-loop cells h theme way code j base₀ looks₀ k₀ base looks k = Trying way cells h theme j code base looks k
@@ -17,51 +15,39 @@ Inv-loop cells h theme way code j base₀ looks₀ k₀ base looks k = Trying wa
 abbrev μ-loop : tie.MeasureT-loop
 μ-loop cells h theme way code j base₀ looks₀ k₀ base looks k = length theme - k
 
--- src/starts.rt:134:13
 cast-j : tie.Need-cast-j Inv-loop μ-loop
 cast-j c = search needs
 
--- src/starts.rt:135:20
 mul-base : tie.Need-mul-base Inv-loop μ-loop
 mul-base c = let s = c .before .before .before in omega (arith, first-within (s .args .way) _ _ _ _ (s .args .code) (s .pre .0) (s .pre .1 .0))
 
--- src/starts.rt:138:5
 loop-holds : tie.Need-loop-holds Inv-loop μ-loop
 loop-holds c = let s = c .before .before .before in try-first _ _ _ _ _ _ (s .pre .0) (s .pre .1 .0)
 
--- src/starts.rt:139:9
 add-looks : tie.Need-add-looks Inv-loop μ-loop
 add-looks c = omega (arith, c .before .loop .inv .counted, c .before .loop .inv .upTo, c .before .before .before .before .before .pre .0 .notes-most)
 
--- src/starts.rt:140:55
 shared-slice-read-t14 : tie.Need-shared-slice-read-t14 Inv-loop μ-loop
 shared-slice-read-t14 c = search needs
 
--- src/starts.rt:140:13
 holds-at-requires : tie.Need-holds-at-requires Inv-loop μ-loop
 holds-at-requires c κs = let s = c .before .before .before .before .before .before in (try-within _ _ _ _ _ _ (s .pre .0) (s .pre .1 .0) _ _ _ (c .before .before .loop .inv) (c .before .loop-test .taken), s .pre .0 .sung (c .before .before .loop .k), s .pre .1 .1)
 
--- src/starts.rt:141:13
 returns : tie.Need-returns Inv-loop μ-loop
 returns c = let s = c .before .before .before .before .before .before .before .before in try-miss _ _ _ _ _ _ (s .pre .0) (s .pre .1 .0) _ _ _ (c .before .before .before .before .loop .inv) (c .before .before .before .loop-test .taken) _ (c .before .holds-at .ensures) (not-true _ (c .if1 .taken))
 
--- src/starts.rt:143:9
 add-base : tie.Need-add-base Inv-loop μ-loop
 add-base c = let s = c .before .before .before .before .before .before .before .before in omega (arith, try-within _ _ _ _ _ _ (s .pre .0) (s .pre .1 .0) _ _ _ (c .before .before .before .before .loop .inv) (c .before .before .before .loop-test .taken))
 
--- src/starts.rt:144:9
 add-k : tie.Need-add-k Inv-loop μ-loop
 add-k c = search needs
 
--- src/starts.rt:138:5
 loop-less : tie.Need-loop-less Inv-loop μ-loop
 loop-less c = search needs
 
--- src/starts.rt:138:5
 loop-again : tie.Need-loop-again Inv-loop μ-loop
 loop-again c = let s = c .before .before .before .before .before .before .before .before in try-turn _ _ _ _ _ _ (s .pre .0) (s .pre .1 .0) _ _ _ (c .before .before .before .before .loop .inv) (c .before .before .before .loop-test .taken) _ (c .before .holds-at .ensures) (not-false _ (c .if1 .left))
 
--- src/starts.rt:128:1
 returns-2 : tie.Need-returns-2 Inv-loop μ-loop
 returns-2 c = let s = c .before .before .before .before .before in try-end _ _ _ _ _ _ (s .pre .0) (s .pre .1 .0) _ _ _ (c .before .loop .inv) (c .loop-test .left)
 

@@ -1,7 +1,7 @@
 -- `search::table::double` meets its contract. The invariant: the first i entries are copied. The measure is those left.
 -- Assumes nothing.
-use Prim.Native.Nat.{_-_}
 use borrow.Author.Needs.{needs}
+use Prim.Native.Nat.{_-_}
 use Rattle.search.proofs.table.Doubling.{Half, half-none, half-more, half-all}
 use Rattle.search.proofs.table.double.Statement.{statement}
 use Rattle.search.proofs.table.double.Tie as tie

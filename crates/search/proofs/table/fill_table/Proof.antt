@@ -1,9 +1,9 @@
 -- `search::table::fill_table` meets its contract. The invariant: the power is one of two, and each entry below it is right.
 -- The measure is what is left to 4,096. Assumes nothing.
+use borrow.Author.Needs.{needs}
 use mathlib.Core.Path.{sym, _∙_}
 use Prim.Native.Nat.{_-_}
 use native.Mathlib.Omega.{arith}
-use borrow.Author.Needs.{needs}
 use Rattle.search.specs.Candidates.{word, themeTable}
 use Rattle.search.proofs.table.Laws.{word-above}
 use Rattle.search.proofs.table.Doubling.{Filled, filled-first, filled-pos, filled-room, filled-twice, filled-all}

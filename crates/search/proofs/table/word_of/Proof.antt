@@ -1,8 +1,8 @@
 -- `search::table::word_of` meets its contract. The invariant: the word has its bits from interval i on, moved down by i.
 -- The measure is i. Assumes nothing.
+use borrow.Author.Needs.{needs}
 use mathlib.Core.Path.{ap, _∙_}
 use native.Mathlib.Omega.{arith}
-use borrow.Author.Needs.{needs}
 use Rattle.theory.specs.Bits.{bit}
 use Rattle.theory.specs.Register.{step}
 use Rattle.theory.proofs.Masks.{shr-and-one}

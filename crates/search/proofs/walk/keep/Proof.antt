@@ -1,53 +1,40 @@
-use Rattle.search.proofs.walk.Column.{keep-none, keep-hit}
+-- `search::walk::keep` meets its contract: a hit is stored at its place, and nothing else is. Assumes nothing.
+use borrow.Author.Needs.{needs}
+use mathlib.Core.Path.{_∙_}
+use borrow.Author.Tests.{not-true, not-false}
 use mir.Syntax.{w16}
 use mir.Facts.{toZ-ofZ}
-use borrow.Author.Tests.{not-true, not-false}
-use mathlib.Core.Path.{_≡_, refl, sym, ap, _∙_}
-use borrow.Author.Needs.{needs}
-use native.Mathlib.Omega.{arith}
+use Rattle.search.proofs.walk.Column.{keep-none, keep-hit}
 use Rattle.search.proofs.walk.keep.Statement.{statement}
 use Rattle.search.proofs.walk.keep.Tie as tie
-use Rattle.search.proofs.walk.keep.Reads as reads
-use Rattle.search.proofs.walk.keep.Lts as lts
-use Rattle.search.proofs.signs.shift_of.Reads as shift-of-reads
 
--- src/walk.rt:35:9
 returns : tie.Need-returns
 returns c = keep-none _ _ _ _ _ (not-true _ (c .if1 .taken))
 
--- src/walk.rt:37:5
 mul-columns : tie.Need-mul-columns
 mul-columns c = search needs
 
--- src/walk.rt:37:5
 slice-write-columns : tie.Need-slice-write-columns
 slice-write-columns c = search needs
 
--- src/walk.rt:38:18
 shift-of-requires : tie.Need-shift-of-requires
 shift-of-requires c κs = search needs
 
--- src/walk.rt:38:5
 mul-t9 : tie.Need-mul-t9
 mul-t9 c = search needs
 
--- src/walk.rt:38:5
 slice-set-from-shifts : tie.Need-slice-set-from-shifts
 slice-set-from-shifts c = search needs
 
--- src/walk.rt:39:5
 add-result : tie.Need-add-result
 add-result c = search needs
 
--- src/walk.rt:22:1
 same-length : tie.Need-same-length
 same-length c = search needs
 
--- src/walk.rt:22:1
 same-length-2 : tie.Need-same-length-2
 same-length-2 c = search needs
 
--- src/walk.rt:22:1
 returns-2 : tie.Need-returns-2
 returns-2 c = keep-hit _ _ _ _ _ _ (toZ-ofZ {w = w16} (record { sfits = c .shift-of .ok }) ∙ c .shift-of .ensures) (not-false _ (c .before .if1 .left))
 

@@ -1,21 +1,15 @@
-use Prim.Native.Nat.{_<_}
-use Prim.Native.Nat.{_-_, _*_, _+_}
-use lib.ListN.{length}
+-- `search::walk::try_column` meets its contract. The invariant is `Filling`: what the column gave so far is written.
+-- The measure is the codes left. Assumes nothing.
+use borrow.Author.Needs.{needs}
+use mathlib.Core.Path.{refl, sym, _∙_}
+use Prim.Native.Nat.{_<_, _-_}
+use native.Mathlib.Omega.{arith}
 use Rattle.search.specs.Way.{span}
 use Rattle.search.proofs.Order.{span-lt}
 use Rattle.search.proofs.starts.Trying.{cells-within}
 use Rattle.search.proofs.walk.Column.{Filling, fill-start, fill-none, fill-full, fill-further, fill-bound, fill-turn}
-use mathlib.Core.Path.{_≡_, refl, sym, ap, _∙_}
-use borrow.Author.Needs.{needs}
-use native.Mathlib.Omega.{arith}
 use Rattle.search.proofs.walk.try_column.Statement.{statement}
 use Rattle.search.proofs.walk.try_column.Tie as tie
-use Rattle.search.proofs.walk.try_column.Reads as reads
-use Rattle.search.proofs.walk.try_column.Lts as lts
-use Rattle.search.proofs.signs.span_of.Reads as span-of-reads
-use Rattle.search.proofs.starts.next_code.Reads as next-code-reads
-use Rattle.search.proofs.starts.try_start.Reads as try-start-reads
-use Rattle.search.proofs.walk.keep.Reads as keep-reads
 
 abbrev Inv-loop : tie.InvT-loop
 Inv-loop cells h theme way column x found columns₀ shifts₀ j base p end code₀ at₀ looks₀ columns shifts code at looks =
@@ -25,59 +19,47 @@ abbrev μ-loop : tie.MeasureT-loop
 μ-loop cells h theme way column x found columns₀ shifts₀ j base p end code₀ at₀ looks₀ columns shifts code at looks =
     span way - code
 
--- src/walk.rt:59:13
 cast-j : tie.Need-cast-j Inv-loop μ-loop
 cast-j c = search needs
 
--- src/walk.rt:60:17
 sub-base : tie.Need-sub-base Inv-loop μ-loop
 sub-base c = search needs
 
--- src/walk.rt:60:16
 mul-base : tie.Need-mul-base Inv-loop μ-loop
 mul-base c = let s = c .before .before .before .before in omega (arith, cells-within _ _ _ (s .pre .0) (s .args .column .0 - 1) (omega arith))
 
--- src/walk.rt:61:19
 shared-slice-read-t21 : tie.Need-shared-slice-read-t21 Inv-loop μ-loop
 shared-slice-read-t21 c = search needs
 
--- src/walk.rt:62:9
 span-of-requires : tie.Need-span-of-requires Inv-loop μ-loop
 span-of-requires c κs = tt
 
--- src/walk.rt:66:5
 loop-holds : tie.Need-loop-holds Inv-loop μ-loop
 loop-holds c = let s = c .before .before .before .before .before .before in fill-start _ _ _ _ _ _ _ _ _ (s .pre .1 .1 .0) (s .pre .1 .1 .1) (s .pre .1 .1 .2)
 
--- src/walk.rt:67:13
 next-code-requires : tie.Need-next-code-requires Inv-loop μ-loop
 next-code-requires c κs =
     let s = c .before .before .before .before .before .before .before .before in
     (cells-within _ _ _ (s .pre .0) (s .args .column .0 - 1) (omega arith), s .pre .0 .sung 0, c .before .loop .inv .low)
 
--- src/walk.rt:69:13
 same-length : tie.Need-same-length Inv-loop μ-loop
 same-length c = c .before .before .before .loop .inv .long
 
--- src/walk.rt:69:13
 same-length-2 : tie.Need-same-length-2 Inv-loop μ-loop
 same-length-2 c = let s = c .before .before .before .before .before .before .before .before .before .before in c .before .before .before .loop .inv .long-shifts ∙ sym (s .pre .1 .1 .2)
 
--- src/walk.rt:69:13
 returns : tie.Need-returns Inv-loop μ-loop
 returns c =
     let l = c .before .before .before in
     let s = l .before .before .before .before .before .before .before in
     fill-none _ _ _ _ _ _ _ _ _ _ _ _ _ _ (l .loop .inv) (s .pre .0) (s .pre .1 .0) _ refl _ (c .before .next-code .ensures) (omega (arith, l .before .span-of .ensures, c .if1 .taken))
 
--- src/walk.rt:71:13
 try-start-requires : tie.Need-try-start-requires Inv-loop μ-loop
 try-start-requires c κs =
     let l = c .before .before .before in
     let s = l .before .before .before .before .before .before .before in
     (s .pre .0, (s .pre .1 .0, omega (arith, l .before .span-of .ensures, c .if1 .left, span-lt (s .args .way))))
 
--- src/walk.rt:72:9
 add-looks : tie.Need-add-looks Inv-loop μ-loop
 add-looks c =
     let e = c .before .before in
@@ -86,7 +68,6 @@ add-looks c =
     let q : e .before .next-code .result < span (s .args .way) = omega (arith, l .before .span-of .ensures, e .if1 .left) in
     omega (arith, span-lt (s .args .way), fill-bound _ _ _ _ _ _ _ _ _ _ _ _ _ _ (l .loop .inv) (s .pre .0) (s .pre .1 .0) _ refl _ (e .before .next-code .ensures) q (e .before .before .loop-test .taken) _ _ (c .before .try-start .ensures))
 
--- src/walk.rt:73:9
 keep-requires : tie.Need-keep-requires Inv-loop μ-loop
 keep-requires c κs =
     let e = c .before .before .before .before in
@@ -94,11 +75,9 @@ keep-requires c κs =
     let s = l .before .before .before .before .before .before .before in
     (e .before .before .loop-test .taken, omega (arith, e .before .before .loop-test .taken, l .loop .inv .long, l .loop .inv .long-shifts), omega (arith, l .before .span-of .ensures, e .if1 .left, span-lt (s .args .way)))
 
--- src/walk.rt:74:16
 add-code : tie.Need-add-code Inv-loop μ-loop
 add-code c = search needs
 
--- src/walk.rt:66:5
 loop-less : tie.Need-loop-less Inv-loop μ-loop
 loop-less c =
     let e = c .before .before .before .before .before .before .before .before in
@@ -106,7 +85,6 @@ loop-less c =
     let s = l .before .before .before .before .before .before .before in
     omega (arith, l .before .span-of .ensures, e .if1 .left, fill-further _ _ _ _ _ _ _ _ _ _ _ _ _ _ (l .loop .inv) (s .pre .0) (s .pre .1 .0) _ refl _ (e .before .next-code .ensures))
 
--- src/walk.rt:66:5
 loop-again : tie.Need-loop-again Inv-loop μ-loop
 loop-again c =
     let a = c .before .before .before in
@@ -116,15 +94,12 @@ loop-again c =
     let q : e .before .next-code .result < span (s .args .way) = omega (arith, l .before .span-of .ensures, e .if1 .left) in
     fill-turn _ _ _ _ _ _ _ _ _ _ _ _ _ _ (l .loop .inv) (s .pre .0) (s .pre .1 .0) _ refl _ (e .before .next-code .ensures) q (e .before .before .loop-test .taken) _ _ (a .before .before .before .before .try-start .ensures) _ _ _ (a .keep .ensures)
 
--- src/walk.rt:43:1
 same-length-3 : tie.Need-same-length-3 Inv-loop μ-loop
 same-length-3 c = c .before .loop .inv .long
 
--- src/walk.rt:43:1
 same-length-4 : tie.Need-same-length-4 Inv-loop μ-loop
 same-length-4 c = let s = c .before .before .before .before .before .before .before .before in c .before .loop .inv .long-shifts ∙ sym (s .pre .1 .1 .2)
 
--- src/walk.rt:43:1
 returns-2 : tie.Need-returns-2 Inv-loop μ-loop
 returns-2 c = fill-full _ _ _ _ _ _ _ _ _ _ _ _ _ _ (c .before .loop .inv) (c .loop-test .left)
 

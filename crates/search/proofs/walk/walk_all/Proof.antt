@@ -1,18 +1,14 @@
-use Prim.Native.Nat.{_≤_}
-use mathlib.Core.Bool.{true}
-use Prim.Native.Nat.{_+_, _-_, _<_}
-use lib.ListN.{length}
-use Rattle.search.proofs.walk.Walking.{Walking, walk-start, walk-end, walk-full, walk-bound, walk-turn}
-use Rattle.search.proofs.walk.Scanning.{Scanning, all-kept, candidates-kept, scan-start, scan-bound, scan-turn}
-use mathlib.Core.Path.{_≡_, refl, sym, ap, _∙_}
+-- `search::walk::walk_all` meets its contract. The invariant is `Walking` where every column is kept. The measure is
+-- the columns left. Assumes nothing.
 use borrow.Author.Needs.{needs}
+use mathlib.Core.Bool.{true}
+use mathlib.Core.Path.{sym, _∙_}
+use Prim.Native.Nat.{_≤_, _-_}
 use native.Mathlib.Omega.{arith}
+use Rattle.search.proofs.walk.Walking.{Walking, walk-start, walk-end, walk-full, walk-bound, walk-turn}
+use Rattle.search.proofs.walk.Scanning.{all-kept}
 use Rattle.search.proofs.walk.walk_all.Statement.{statement}
 use Rattle.search.proofs.walk.walk_all.Tie as tie
-use Rattle.search.proofs.walk.walk_all.Reads as reads
-use Rattle.search.proofs.walk.walk_all.Lts as lts
-use Rattle.score.proofs.columns_in.Reads as columns-in-reads
-use Rattle.search.proofs.walk.try_column.Reads as try-column-reads
 
 abbrev Inv-loop : tie.InvT-loop
 Inv-loop cells h theme way x columns₀ shifts₀ past m j₀ code₀ found₀ looks₀ columns shifts j code found looks =
@@ -22,31 +18,24 @@ abbrev μ-loop : tie.MeasureT-loop
 μ-loop cells h theme way x columns₀ shifts₀ past m j₀ code₀ found₀ looks₀ columns shifts j code found looks =
     past - j
 
--- src/walk.rt:124:16
 columns-in-requires : tie.Need-columns-in-requires Inv-loop μ-loop
 columns-in-requires c κs = tt
 
--- src/walk.rt:124:16
 add-past : tie.Need-add-past Inv-loop μ-loop
 add-past c = search needs
 
--- src/walk.rt:126:17
 cast-j : tie.Need-cast-j Inv-loop μ-loop
 cast-j c = search needs
 
--- src/walk.rt:130:5
 loop-holds : tie.Need-loop-holds Inv-loop μ-loop
 loop-holds c = let s = c .before .before .before .before .before in (walk-start _ _ _ _ _ _ _ _ _ (s .pre .1 .2) (s .pre .1 .3), omega (arith, s .pre .1 .1, c .before .columns-in .ensures))
 
--- src/walk.rt:130:11
 add-loop : tie.Need-add-loop Inv-loop μ-loop
 add-loop c = let s = c .before .before .before .before .before .before in omega (arith, c .loop .inv .1, c .before .before .columns-in .ensures, s .pre .0 .columns-most, s .pre .0 .notes-most)
 
--- src/walk.rt:131:57
 cast-t19 : tie.Need-cast-t19 Inv-loop μ-loop
 cast-t19 c = search needs
 
--- src/walk.rt:131:13
 try-column-requires : tie.Need-try-column-requires Inv-loop μ-loop
 try-column-requires c κs =
     let i = c .before .before in
@@ -54,7 +43,6 @@ try-column-requires c κs =
     let s = l .before .before .before .before .before .before in
     (s .pre .0, (record { from-first = omega (arith, s .pre .1 .0, l .loop .inv .0 .forward); to-last = omega (arith, i .loop-test .taken, l .before .before .columns-in .ensures) }, (l .loop .inv .0 .low, omega (arith, l .loop .inv .0 .room, l .loop .inv .0 .long), l .loop .inv .0 .long-shifts ∙ sym (l .loop .inv .0 .long))))
 
--- src/walk.rt:133:9
 add-looks : tie.Need-add-looks Inv-loop μ-loop
 add-looks c =
     let a = c .before .before .before .before in
@@ -63,7 +51,6 @@ add-looks c =
     let i = a .before .before .before in
     omega (arith, walk-bound (λ k. true) _ _ _ _ _ _ _ _ (s .pre .0) (s .pre .1 .0) _ _ _ _ _ _ (l .loop .inv .0) (omega (arith, i .loop-test .taken, l .before .before .columns-in .ensures)) _ _ _ _ (a .try-column .ensures))
 
--- src/walk.rt:135:13
 same-length : tie.Need-same-length Inv-loop μ-loop
 same-length c =
     let a = c .before .before .before .before .before in
@@ -72,7 +59,6 @@ same-length c =
     let i = a .before .before .before in
     (walk-turn (λ k. true) _ _ _ _ _ _ _ _ (s .pre .0) (s .pre .1 .0) _ _ _ _ _ _ (l .loop .inv .0) (omega (arith, i .loop-test .taken, l .before .before .columns-in .ensures)) _ _ _ _ (a .try-column .ensures)) .long
 
--- src/walk.rt:135:13
 same-length-2 : tie.Need-same-length-2 Inv-loop μ-loop
 same-length-2 c =
     let a = c .before .before .before .before .before in
@@ -81,7 +67,6 @@ same-length-2 c =
     let i = a .before .before .before in
     (walk-turn (λ k. true) _ _ _ _ _ _ _ _ (s .pre .0) (s .pre .1 .0) _ _ _ _ _ _ (l .loop .inv .0) (omega (arith, i .loop-test .taken, l .before .before .columns-in .ensures)) _ _ _ _ (a .try-column .ensures)) .long-shifts ∙ sym (s .pre .1 .3)
 
--- src/walk.rt:135:13
 returns : tie.Need-returns Inv-loop μ-loop
 returns c =
     let a = c .before .before .before .before .before in
@@ -90,15 +75,12 @@ returns c =
     let i = a .before .before .before in
     rw (← all-kept _ _ _ _ _) (walk-full _ _ _ _ _ _ _ _ _ (s .pre .0) (s .pre .1 .0) _ _ _ _ _ _ (walk-turn (λ k. true) _ _ _ _ _ _ _ _ (s .pre .0) (s .pre .1 .0) _ _ _ _ _ _ (l .loop .inv .0) (omega (arith, i .loop-test .taken, l .before .before .columns-in .ensures)) _ _ _ _ (a .try-column .ensures)) (c .if1 .taken))
 
--- src/walk.rt:138:9
 add-j : tie.Need-add-j Inv-loop μ-loop
 add-j c = search needs
 
--- src/walk.rt:130:5
 loop-less : tie.Need-loop-less Inv-loop μ-loop
 loop-less c = search needs
 
--- src/walk.rt:130:5
 loop-again : tie.Need-loop-again Inv-loop μ-loop
 loop-again c =
     let a = c .before .before .before .before .before in
@@ -107,15 +89,12 @@ loop-again c =
     let i = a .before .before .before in
     (walk-turn (λ k. true) _ _ _ _ _ _ _ _ (s .pre .0) (s .pre .1 .0) _ _ _ _ _ _ (l .loop .inv .0) (omega (arith, i .loop-test .taken, l .before .before .columns-in .ensures)) _ _ _ _ (a .try-column .ensures), omega (arith, i .loop-test .taken, s .pre .0 .notes))
 
--- src/walk.rt:110:1
 same-length-3 : tie.Need-same-length-3 Inv-loop μ-loop
 same-length-3 c = c .before .loop .inv .0 .long
 
--- src/walk.rt:110:1
 same-length-4 : tie.Need-same-length-4 Inv-loop μ-loop
 same-length-4 c = let s = c .before .before .before .before .before .before .before in c .before .loop .inv .0 .long-shifts ∙ sym (s .pre .1 .3)
 
--- src/walk.rt:110:1
 returns-2 : tie.Need-returns-2 Inv-loop μ-loop
 returns-2 c =
     let l = c .before in

@@ -1,22 +1,15 @@
-use Rattle.search.specs.Candidates.{candidate}
-use Prim.Native.Nat.{_≤_}
-use mathlib.Core.Bool.{true}
-use Prim.Native.Nat.{_+_, _-_, _<_}
-use lib.ListN.{length}
-use Rattle.search.proofs.walk.Walking.{Walking, walk-start, walk-end, walk-full, walk-bound, walk-turn}
-use Rattle.search.proofs.walk.Scanning.{Scanning, all-kept, candidates-kept, scan-start, scan-bound, scan-turn}
-use mathlib.Core.Path.{_≡_, refl, sym, ap, _∙_}
+-- `search::walk::walk_candidates` meets its contract. The invariant is `Scanning`: the register has taken every entry
+-- before the one that decides column j. The measure is the columns left. Assumes nothing.
 use borrow.Author.Needs.{needs}
+use mathlib.Core.Path.{sym, _∙_}
+use Prim.Native.Nat.{_≤_, _-_}
 use native.Mathlib.Omega.{arith}
+use lib.ListN.{length}
+use Rattle.search.specs.Candidates.{candidate}
+use Rattle.search.proofs.walk.Walking.{walk-start, walk-end, walk-full}
+use Rattle.search.proofs.walk.Scanning.{Scanning, candidates-kept, scan-start, scan-bound, scan-turn}
 use Rattle.search.proofs.walk.walk_candidates.Statement.{statement}
 use Rattle.search.proofs.walk.walk_candidates.Tie as tie
-use Rattle.search.proofs.walk.walk_candidates.Reads as reads
-use Rattle.search.proofs.walk.walk_candidates.Lts as lts
-use Rattle.score.proofs.columns_in.Reads as columns-in-reads
-use Rattle.search.proofs.register.marks.Reads as marks-reads
-use Rattle.search.proofs.register.taken.Reads as taken-reads
-use Rattle.search.proofs.register.warmed.Reads as warmed-reads
-use Rattle.search.proofs.walk.try_kept.Reads as try-kept-reads
 
 abbrev Inv-loop : tie.InvT-loop
 Inv-loop cells h theme way x sets table columns₀ shifts₀ past m j₀ top register₀ code₀ found₀ looks₀ columns shifts j register code found looks =
@@ -26,81 +19,64 @@ abbrev μ-loop : tie.MeasureT-loop
 μ-loop cells h theme way x sets table columns₀ shifts₀ past m j₀ top register₀ code₀ found₀ looks₀ columns shifts j register code found looks =
     past - j
 
--- src/walk.rt:161:16
 columns-in-requires : tie.Need-columns-in-requires Inv-loop μ-loop
 columns-in-requires c κs = tt
 
--- src/walk.rt:161:16
 add-past : tie.Need-add-past Inv-loop μ-loop
 add-past c = search needs
 
--- src/walk.rt:163:17
 cast-j : tie.Need-cast-j Inv-loop μ-loop
 cast-j c = search needs
 
--- src/walk.rt:164:15
 add-if1 : tie.Need-add-if1 Inv-loop μ-loop
 add-if1 c = let s = c .before .before .before .before .before .before .before in omega (arith, s .pre .0 .notes-most)
 
--- src/walk.rt:165:9
 returns : tie.Need-returns Inv-loop μ-loop
 returns c =
     let s = c .before .before .before .before .before .before .before .before in
     let keep = candidate (s .args .table .now) (s .args .sets .now) (length (s .args .theme .now)) in
     rw (← candidates-kept _ _ _ _ _ _ _) (walk-end keep _ _ _ _ _ _ _ _ (s .pre .0) (s .pre .1 .1 .0) _ _ _ _ _ _ (walk-start keep _ _ _ _ _ _ _ _ (s .pre .1 .1 .2) (s .pre .1 .1 .3)) (omega (arith, c .if1 .taken, c .before .before .columns-in .ensures)))
 
--- src/walk.rt:167:15
 sub-top : tie.Need-sub-top Inv-loop μ-loop
 sub-top c = search needs
 
--- src/walk.rt:168:44
 sub-warmed : tie.Need-sub-warmed Inv-loop μ-loop
 sub-warmed c = search needs
 
--- src/walk.rt:168:9
 warmed-requires : tie.Need-warmed-requires Inv-loop μ-loop
 warmed-requires c κs =
     let s = c .before .before .before .before .before .before .before .before in
     (omega (arith, c .if1 .left, c .before .before .columns-in .ensures, s .pre .1 .0 .sets-long, s .pre .1 .1 .0, s .pre .0 .notes), (s .pre .1 .0 .table-long, s .pre .1 .0 .sets-small))
 
--- src/walk.rt:172:5
 loop-holds : tie.Need-loop-holds Inv-loop μ-loop
 loop-holds c =
     let s = c .before .before .before .before .before .before .before .before .before in
     (scan-start _ _ _ _ _ _ _ _ _ _ (s .pre .0) (s .pre .1 .1 .0) _ (c .warmed .ensures) (walk-start _ _ _ _ _ _ _ _ _ (s .pre .1 .1 .2) (s .pre .1 .1 .3)), omega (arith, s .pre .1 .1 .1, c .before .before .before .columns-in .ensures))
 
--- src/walk.rt:172:11
 add-loop : tie.Need-add-loop Inv-loop μ-loop
 add-loop c = let s = c .before .before .before .before .before .before .before .before .before .before in omega (arith, c .loop .inv .1, c .before .before .before .before .columns-in .ensures, s .pre .0 .columns-most, s .pre .0 .notes-most)
 
--- src/walk.rt:173:49
 add-taken : tie.Need-add-taken Inv-loop μ-loop
 add-taken c = search needs
 
--- src/walk.rt:173:49
 sub-taken : tie.Need-sub-taken Inv-loop μ-loop
 sub-taken c = search needs
 
--- src/walk.rt:173:9
 taken-requires : tie.Need-taken-requires Inv-loop μ-loop
 taken-requires c κs =
     let l = c .before in
     let s = l .before .before .before .before .before .before .before .before .before .before in
     (omega (arith, c .loop-test .taken, l .before .before .before .before .columns-in .ensures, s .pre .1 .0 .sets-long, s .pre .1 .1 .0, s .pre .0 .notes, l .loop .inv .0 .walking .forward), (s .pre .1 .0 .table-long, s .pre .1 .0 .sets-small))
 
--- src/walk.rt:174:36
 cast-marks : tie.Need-cast-marks Inv-loop μ-loop
 cast-marks c = search needs
 
--- src/walk.rt:174:13
 marks-requires : tie.Need-marks-requires Inv-loop μ-loop
 marks-requires c κs = let s = c .before .before .before .before .before .before .before .before .before .before .before .before in omega (arith, s .pre .0 .notes-most)
 
--- src/walk.rt:175:61
 cast-t27 : tie.Need-cast-t27 Inv-loop μ-loop
 cast-t27 c = search needs
 
--- src/walk.rt:175:13
 try-kept-requires : tie.Need-try-kept-requires Inv-loop μ-loop
 try-kept-requires c κs =
     let k = c .before .before in
@@ -110,7 +86,6 @@ try-kept-requires c κs =
     let w = l .loop .inv .0 .walking in
     (s .pre .0, (record { from-first = omega (arith, s .pre .1 .1 .0, w .forward); to-last = (omega (arith, i .loop-test .taken, l .before .before .before .before .columns-in .ensures)) }, (w .low, omega (arith, w .room, w .long), w .long-shifts ∙ sym (w .long))))
 
--- src/walk.rt:177:9
 add-looks : tie.Need-add-looks Inv-loop μ-loop
 add-looks c =
     let a = c .before .before .before .before in
@@ -120,7 +95,6 @@ add-looks c =
     let s = l .before .before .before .before .before .before .before .before .before .before in
     omega (arith, scan-bound _ _ _ _ _ _ _ _ _ _ (s .pre .0) (s .pre .1 .1 .0) _ _ _ _ _ _ _ (l .loop .inv .0) _ (k .before .taken .ensures) _ (k .marks .ensures) (omega (arith, i .loop-test .taken, l .before .before .before .before .columns-in .ensures)) _ _ _ _ (a .try-kept .ensures))
 
--- src/walk.rt:179:13
 same-length : tie.Need-same-length Inv-loop μ-loop
 same-length c =
     let a = c .before .before .before .before .before in
@@ -130,7 +104,6 @@ same-length c =
     let s = l .before .before .before .before .before .before .before .before .before .before in
     (scan-turn _ _ _ _ _ _ _ _ _ _ (s .pre .0) (s .pre .1 .1 .0) _ _ _ _ _ _ _ (l .loop .inv .0) _ (k .before .taken .ensures) _ (k .marks .ensures) (omega (arith, i .loop-test .taken, l .before .before .before .before .columns-in .ensures)) _ _ _ _ (a .try-kept .ensures)) .walking .long
 
--- src/walk.rt:179:13
 same-length-2 : tie.Need-same-length-2 Inv-loop μ-loop
 same-length-2 c =
     let a = c .before .before .before .before .before in
@@ -140,7 +113,6 @@ same-length-2 c =
     let s = l .before .before .before .before .before .before .before .before .before .before in
     (scan-turn _ _ _ _ _ _ _ _ _ _ (s .pre .0) (s .pre .1 .1 .0) _ _ _ _ _ _ _ (l .loop .inv .0) _ (k .before .taken .ensures) _ (k .marks .ensures) (omega (arith, i .loop-test .taken, l .before .before .before .before .columns-in .ensures)) _ _ _ _ (a .try-kept .ensures)) .walking .long-shifts ∙ sym (s .pre .1 .1 .3)
 
--- src/walk.rt:179:13
 returns-2 : tie.Need-returns-2 Inv-loop μ-loop
 returns-2 c =
     let a = c .before .before .before .before .before in
@@ -150,15 +122,12 @@ returns-2 c =
     let s = l .before .before .before .before .before .before .before .before .before .before in
     rw (← candidates-kept _ _ _ _ _ _ _) (walk-full _ _ _ _ _ _ _ _ _ (s .pre .0) (s .pre .1 .1 .0) _ _ _ _ _ _ ((scan-turn _ _ _ _ _ _ _ _ _ _ (s .pre .0) (s .pre .1 .1 .0) _ _ _ _ _ _ _ (l .loop .inv .0) _ (k .before .taken .ensures) _ (k .marks .ensures) (omega (arith, i .loop-test .taken, l .before .before .before .before .columns-in .ensures)) _ _ _ _ (a .try-kept .ensures)) .walking) (c .if2 .taken))
 
--- src/walk.rt:182:9
 add-j : tie.Need-add-j Inv-loop μ-loop
 add-j c = let i = c .before .before .before .before .before .before .before .before .before .before in omega (arith, i .loop-test .taken, i .before .loop .inv .1, i .before .before .before .before .before .columns-in .ensures, i .before .before .before .before .before .before .before .before .before .before .before .pre .0 .columns-most)
 
--- src/walk.rt:172:5
 loop-less : tie.Need-loop-less Inv-loop μ-loop
 loop-less c = let i = c .before .before .before .before .before .before .before .before .before .before in omega (arith, i .loop-test .taken, i .before .before .before .before .before .before .before .before .before .before .before .pre .0 .notes)
 
--- src/walk.rt:172:5
 loop-again : tie.Need-loop-again Inv-loop μ-loop
 loop-again c =
     let a = c .before .before .before .before .before in
@@ -168,15 +137,12 @@ loop-again c =
     let s = l .before .before .before .before .before .before .before .before .before .before in
     (scan-turn _ _ _ _ _ _ _ _ _ _ (s .pre .0) (s .pre .1 .1 .0) _ _ _ _ _ _ _ (l .loop .inv .0) _ (k .before .taken .ensures) _ (k .marks .ensures) (omega (arith, i .loop-test .taken, l .before .before .before .before .columns-in .ensures)) _ _ _ _ (a .try-kept .ensures), omega (arith, i .loop-test .taken, s .pre .0 .notes))
 
--- src/walk.rt:144:1
 same-length-3 : tie.Need-same-length-3 Inv-loop μ-loop
 same-length-3 c = c .before .loop .inv .0 .walking .long
 
--- src/walk.rt:144:1
 same-length-4 : tie.Need-same-length-4 Inv-loop μ-loop
 same-length-4 c = let s = c .before .before .before .before .before .before .before .before .before .before .before in c .before .loop .inv .0 .walking .long-shifts ∙ sym (s .pre .1 .1 .3)
 
--- src/walk.rt:144:1
 returns-3 : tie.Need-returns-3 Inv-loop μ-loop
 returns-3 c =
     let l = c .before in
