@@ -68,7 +68,8 @@ pub fn check_quick(
     if table != 4096 {
         return refused(8, 0);
     }
-    check_page(way, columns_in(cells, tracks), bookmark, r, other)
+    let n = columns_in(cells, tracks);
+    check_page(way, n, bookmark, r, other)
 }
 
 // The verdict that turns away, by the number and the place.

@@ -6,6 +6,7 @@ use Prim.Native.Nat.{ℕ}
 use native.Mathlib.Omega.{arith}
 use lib.IntN.{ℤ}
 use Rattle.score.specs.declared.refusals.Refusal.{Refusal}
+use Rattle.score.specs.declared.refusals.Verdict.{Verdict}
 use Rattle.score.specs.declared.refusals.Verdict.the-variants.{Accepted as Passed, Refused as Away}
 use Rattle.score.specs.Score.{scoreOf}
 use Rattle.score.specs.Refusals.{Row, verdict}
@@ -31,15 +32,15 @@ accepted-clear rows e = judge-clear-of Away Passed (λ v. v ≡ Passed) (λ r k.
     never r k = let z : _≡_ {A = ℕ} 0 1 = cc in omega arith
 
 module _ (cells : List ℕ) (h : ℕ) (theme : List ℕ) (way : Way) (b : Bookmark) (columns : List ℕ) (shifts : List ℤ) where
-  pub plain-away : (e : Refusal) → verdict (plainRows cells h theme way b columns shifts) ≡ Away e → PlainPages cells h theme way b columns shifts (Refused e) columns shifts
+  pub plain-away : {v : Verdict} (e : Refusal) → v ≡ verdict (plainRows cells h theme way b columns shifts) → v ≡ Away e → PlainPages cells h theme way b columns shifts (Refused e) columns shifts
   unfolding plainPage
-  plain-away e v =
+  plain-away e a v =
       let p : plainPage cells h theme way b columns shifts ≡ plainRefused cells h theme way b columns shifts e =
-      judge-refused (plainRefused cells h theme way b columns shifts) (plainLeaf cells h theme way b columns shifts) (plainRows cells h theme way b columns shifts) [] v in
+      judge-refused (plainRefused cells h theme way b columns shifts) (plainLeaf cells h theme way b columns shifts) (plainRows cells h theme way b columns shifts) [] (sym a ∙ v) in
       record { answers = sym (ap (λ (l : Leaf). l .answer) p); writes-columns = sym (ap (λ (l : Leaf). l .columns) p); writes-shifts = sym (ap (λ (l : Leaf). l .shifts) p) }
 
-  pub plain-asks : verdict (plainRows cells h theme way b columns shifts) ≡ Passed → PlainAsks cells h theme way b columns shifts
-  plain-asks v = plain-clear cells h theme way b columns shifts .1 (accepted-clear (plainRows cells h theme way b columns shifts) v)
+  pub plain-asks : {v : Verdict} → v ≡ verdict (plainRows cells h theme way b columns shifts) → v ≡ Passed → PlainAsks cells h theme way b columns shifts
+  plain-asks a v = plain-clear cells h theme way b columns shifts .1 (accepted-clear (plainRows cells h theme way b columns shifts) (sym a ∙ v))
 
   pub plain-turns : PlainAsks cells h theme way b columns shifts → (t : Turn) (columns′ : List ℕ) (shifts′ : List ℤ)
       → Turns (leaf way (scoreOf cells h) theme (starts way (scoreOf cells h) theme) b columns shifts) t columns′ shifts′
@@ -53,12 +54,12 @@ module _ (cells : List ℕ) (h : ℕ) (theme : List ℕ) (way : Way) (b : Bookma
       }
 
 module _ (cells : List ℕ) (h : ℕ) (theme : List ℕ) (way : Way) (b : Bookmark) (sets table columns : List ℕ) (shifts : List ℤ) where
-  pub quick-away : (e : Refusal) → verdict (quickRows cells h theme way b sets table columns shifts) ≡ Away e
+  pub quick-away : {v : Verdict} (e : Refusal) → v ≡ verdict (quickRows cells h theme way b sets table columns shifts) → v ≡ Away e
       → QuickPages cells h theme way b sets table columns shifts (Refused e) table columns shifts
   unfolding quickPage
-  quick-away e v =
+  quick-away e a v =
       let p : quickPage cells h theme way b sets table columns shifts ≡ quickRefused cells h theme way b sets table columns shifts e =
-      judge-refused (quickRefused cells h theme way b sets table columns shifts) (quickLeaf cells h theme way b sets table columns shifts) (quickRows cells h theme way b sets table columns shifts) [] v in
+      judge-refused (quickRefused cells h theme way b sets table columns shifts) (quickLeaf cells h theme way b sets table columns shifts) (quickRows cells h theme way b sets table columns shifts) [] (sym a ∙ v) in
       record {
         answers = sym (ap (λ (l : QuickLeaf). l .leaf .answer) p);
         fills-table = sym (ap (λ (l : QuickLeaf). l .table) p);
@@ -66,8 +67,8 @@ module _ (cells : List ℕ) (h : ℕ) (theme : List ℕ) (way : Way) (b : Bookma
         writes-shifts = sym (ap (λ (l : QuickLeaf). l .leaf .shifts) p);
       }
 
-  pub quick-asks : verdict (quickRows cells h theme way b sets table columns shifts) ≡ Passed → QuickAsks cells h theme way b sets table columns shifts
-  quick-asks v = quick-clear cells h theme way b sets table columns shifts .1 (accepted-clear (quickRows cells h theme way b sets table columns shifts) v)
+  pub quick-asks : {v : Verdict} → v ≡ verdict (quickRows cells h theme way b sets table columns shifts) → v ≡ Passed → QuickAsks cells h theme way b sets table columns shifts
+  quick-asks a v = quick-clear cells h theme way b sets table columns shifts .1 (accepted-clear (quickRows cells h theme way b sets table columns shifts) (sym a ∙ v))
 
   pub quick-turns : QuickAsks cells h theme way b sets table columns shifts → (t : Turn) (table′ columns′ : List ℕ) (shifts′ : List ℤ) → table′ ≡ themeTable theme
       → Turns (leaf way (scoreOf cells h) theme (quickStarts way (scoreOf cells h) theme (themeTable theme) sets) b columns shifts) t columns′ shifts′

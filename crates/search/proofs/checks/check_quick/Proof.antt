@@ -1,12 +1,7 @@
+use Rattle.search.proofs.checks.Laws.{quick-score, quick-theme, quick-sets, quick-table, quick-page}
 -- `search::checks::check_quick` meets its contract: the rows in parts: the score's, the theme's, the sets', the
 -- table's, the page's. Assumes nothing.
 use borrow.Author.Needs.{needs}
-use mathlib.Core.List.{[], _∷_, _++_}
-use mathlib.Core.Path.{sym, _∙_}
-use borrow.Author.Tests.{eq-eqb, ne-eqb}
-use Rattle.score.specs.Score.{columnsIn}
-use Rattle.search.specs.Refusals.{row8, row9, row10}
-use Rattle.search.proofs.checks.Laws.{turned-away, gone-on, scoreRows, themeRows, setsRows}
 use Rattle.search.proofs.checks.check_quick.Statement.{statement}
 use Rattle.search.proofs.checks.check_quick.Tie as tie
 
@@ -19,7 +14,7 @@ enum-known-e c = search needs
 returns : tie.Need-returns
 returns c =
     let a = c .before .before .before .before .before .before .before .args in
-    turned-away (scoreRows (a .cells .now) (a .tracks)) ((themeRows (a .theme .now)) ++ (setsRows (a .cells .now) (a .tracks) (a .sets .now)) ++ (row8 (a .table) ∷ []) ++ (row9 (a .r) (a .other) ∷ row10 (a .way) (columnsIn (a .cells .now) (a .tracks)) (a .bookmark) ∷ [])) _ (sym (c .before .before .before .check-score .ensures) ∙ c .before .e .given .1)
+    quick-score (a .cells .now) (a .tracks) (a .theme .now) (a .way) (a .bookmark) (a .sets .now) (a .table) (a .r) (a .other) (c .before .before .before .check-score .ensures) (c .before .e .given .1)
 
 enum-told : tie.Need-enum-told
 enum-told c = search needs
@@ -34,7 +29,7 @@ returns-2 : tie.Need-returns-2
 returns-2 c =
     let m = c .before .before .before in
     let a = m .before .before .before .before .before .before .before .args in
-    gone-on (scoreRows (a .cells .now) (a .tracks)) ((themeRows (a .theme .now)) ++ (setsRows (a .cells .now) (a .tracks) (a .sets .now)) ++ (row8 (a .table) ∷ []) ++ (row9 (a .r) (a .other) ∷ row10 (a .way) (columnsIn (a .cells .now) (a .tracks)) (a .bookmark) ∷ [])) (sym (m .before .before .before .check-score .ensures) ∙ m .before .enum-told .given .1) (turned-away (themeRows (a .theme .now)) ((setsRows (a .cells .now) (a .tracks) (a .sets .now)) ++ (row8 (a .table) ∷ []) ++ (row9 (a .r) (a .other) ∷ row10 (a .way) (columnsIn (a .cells .now) (a .tracks)) (a .bookmark) ∷ [])) _ (sym (m .check-theme .ensures) ∙ c .before .e2 .given .1))
+    quick-theme (a .cells .now) (a .tracks) (a .theme .now) (a .way) (a .bookmark) (a .sets .now) (a .table) (a .r) (a .other) (m .before .before .before .check-score .ensures) (m .before .enum-told .given .1) (m .check-theme .ensures) (c .before .e2 .given .1)
 
 enum-told-2 : tie.Need-enum-told-2
 enum-told-2 c = search needs
@@ -50,8 +45,7 @@ returns-3 c =
     let k = c .before .before .before in
     let m = k .before .before .before in
     let a = m .before .before .before .before .before .before .before .args in
-    gone-on (scoreRows (a .cells .now) (a .tracks)) ((themeRows (a .theme .now)) ++ (setsRows (a .cells .now) (a .tracks) (a .sets .now)) ++ (row8 (a .table) ∷ []) ++ (row9 (a .r) (a .other) ∷ row10 (a .way) (columnsIn (a .cells .now) (a .tracks)) (a .bookmark) ∷ [])) (sym (m .before .before .before .check-score .ensures) ∙ m .before .enum-told .given .1)
-    (gone-on (themeRows (a .theme .now)) ((setsRows (a .cells .now) (a .tracks) (a .sets .now)) ++ (row8 (a .table) ∷ []) ++ (row9 (a .r) (a .other) ∷ row10 (a .way) (columnsIn (a .cells .now) (a .tracks)) (a .bookmark) ∷ [])) (sym (m .check-theme .ensures) ∙ k .before .enum-told2 .given .1) (turned-away (setsRows (a .cells .now) (a .tracks) (a .sets .now)) ((row8 (a .table) ∷ []) ++ (row9 (a .r) (a .other) ∷ row10 (a .way) (columnsIn (a .cells .now) (a .tracks)) (a .bookmark) ∷ [])) _ (sym (k .check-sets .ensures) ∙ c .before .e3 .given .1)))
+    quick-sets (a .cells .now) (a .tracks) (a .theme .now) (a .way) (a .bookmark) (a .sets .now) (a .table) (a .r) (a .other) (m .before .before .before .check-score .ensures) (m .before .enum-told .given .1) (m .check-theme .ensures) (k .before .enum-told2 .given .1) (k .check-sets .ensures) (c .before .e3 .given .1)
 
 enum-told-3 : tie.Need-enum-told-3
 enum-told-3 c = search needs
@@ -64,9 +58,7 @@ returns-4 c =
     let k = c .before .before .before .before in
     let m = k .before .before .before in
     let a = m .before .before .before .before .before .before .before .args in
-    gone-on (scoreRows (a .cells .now) (a .tracks)) ((themeRows (a .theme .now)) ++ (setsRows (a .cells .now) (a .tracks) (a .sets .now)) ++ (row8 (a .table) ∷ []) ++ (row9 (a .r) (a .other) ∷ row10 (a .way) (columnsIn (a .cells .now) (a .tracks)) (a .bookmark) ∷ [])) (sym (m .before .before .before .check-score .ensures) ∙ m .before .enum-told .given .1)
-    (gone-on (themeRows (a .theme .now)) ((setsRows (a .cells .now) (a .tracks) (a .sets .now)) ++ (row8 (a .table) ∷ []) ++ (row9 (a .r) (a .other) ∷ row10 (a .way) (columnsIn (a .cells .now) (a .tracks)) (a .bookmark) ∷ [])) (sym (m .check-theme .ensures) ∙ k .before .enum-told2 .given .1)
-    (gone-on (setsRows (a .cells .now) (a .tracks) (a .sets .now)) ((row8 (a .table) ∷ []) ++ (row9 (a .r) (a .other) ∷ row10 (a .way) (columnsIn (a .cells .now) (a .tracks)) (a .bookmark) ∷ [])) (sym (k .check-sets .ensures) ∙ c .before .before .enum-told3 .given .1) (c .refused .ensures ∙ rw (ne-eqb (a .table) 4096 (c .before .if1 .taken)))))
+    quick-table (a .cells .now) (a .tracks) (a .theme .now) (a .way) (a .bookmark) (a .sets .now) (a .table) (a .r) (a .other) (m .before .before .before .check-score .ensures) (m .before .enum-told .given .1) (m .check-theme .ensures) (k .before .enum-told2 .given .1) (k .check-sets .ensures) (c .before .before .enum-told3 .given .1) (c .refused .ensures) (c .before .if1 .taken)
 
 columns-in-requires : tie.Need-columns-in-requires
 columns-in-requires c κs = search needs
@@ -79,10 +71,7 @@ returns-5 c =
     let k = c .before .before .before .before .before in
     let m = k .before .before .before in
     let a = m .before .before .before .before .before .before .before .args in
-    gone-on (scoreRows (a .cells .now) (a .tracks)) ((themeRows (a .theme .now)) ++ (setsRows (a .cells .now) (a .tracks) (a .sets .now)) ++ (row8 (a .table) ∷ []) ++ (row9 (a .r) (a .other) ∷ row10 (a .way) (columnsIn (a .cells .now) (a .tracks)) (a .bookmark) ∷ [])) (sym (m .before .before .before .check-score .ensures) ∙ m .before .enum-told .given .1)
-    (gone-on (themeRows (a .theme .now)) ((setsRows (a .cells .now) (a .tracks) (a .sets .now)) ++ (row8 (a .table) ∷ []) ++ (row9 (a .r) (a .other) ∷ row10 (a .way) (columnsIn (a .cells .now) (a .tracks)) (a .bookmark) ∷ [])) (sym (m .check-theme .ensures) ∙ k .before .enum-told2 .given .1)
-    (gone-on (setsRows (a .cells .now) (a .tracks) (a .sets .now)) ((row8 (a .table) ∷ []) ++ (row9 (a .r) (a .other) ∷ row10 (a .way) (columnsIn (a .cells .now) (a .tracks)) (a .bookmark) ∷ [])) (sym (k .check-sets .ensures) ∙ c .before .before .before .enum-told3 .given .1)
-    (gone-on (row8 (a .table) ∷ []) (row9 (a .r) (a .other) ∷ row10 (a .way) (columnsIn (a .cells .now) (a .tracks)) (a .bookmark) ∷ []) (rw (eq-eqb (a .table) 4096 (c .before .before .if1 .left))) (rw (c .before .columns-in .ensures) at (c .check-page .ensures)))))
+    quick-page (a .cells .now) (a .tracks) (a .theme .now) (a .way) (a .bookmark) (a .sets .now) (a .table) (a .r) (a .other) (m .before .before .before .check-score .ensures) (m .before .enum-told .given .1) (m .check-theme .ensures) (k .before .enum-told2 .given .1) (k .check-sets .ensures) (c .before .before .before .enum-told3 .given .1) (c .before .before .if1 .left) (c .before .columns-in .ensures) (c .check-page .ensures)
 
 pub check-quick-spec : {M : Type 1} → statement M
 check-quick-spec =

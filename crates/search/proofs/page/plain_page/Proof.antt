@@ -13,7 +13,7 @@ enum-known-e : tie.Need-enum-known-e
 enum-known-e c = search needs
 
 returns : tie.Need-returns
-returns c = plain-away _ _ _ _ _ _ _ _ (sym (c .before .before .before .check-plain .ensures) ∙ c .before .e .given .1)
+returns c = plain-away _ _ _ _ _ _ _ _ (c .before .before .before .check-plain .ensures) (c .before .e .given .1)
 
 enum-told : tie.Need-enum-told
 enum-told c = search needs
@@ -22,7 +22,7 @@ turn-plain-requires : tie.Need-turn-plain-requires
 turn-plain-requires c κs =
     let e = c .before .before in
     let a = e .before .before .before .before .before .before .args in
-    plain-asks (a .cells .now) (a .tracks) (a .theme .now) (a .way) (a .bookmark) (a .columns .now) (a .shifts .now) (sym (e .before .before .check-plain .ensures) ∙ e .enum-told .given .1)
+    plain-asks (a .cells .now) (a .tracks) (a .theme .now) (a .way) (a .bookmark) (a .columns .now) (a .shifts .now) (e .before .before .check-plain .ensures) (e .enum-told .given .1)
 
 same-length : tie.Need-same-length
 same-length c = search needs
@@ -34,7 +34,7 @@ returns-2 : tie.Need-returns-2
 returns-2 c =
     let e = c .before .before .before .before .before .before in
     let a = e .before .before .before .before .before .before .args in
-    plain-turns _ _ _ _ _ _ _ (plain-asks (a .cells .now) (a .tracks) (a .theme .now) (a .way) (a .bookmark) (a .columns .now) (a .shifts .now) (sym (e .before .before .check-plain .ensures) ∙ e .enum-told .given .1)) _ _ _ (c .before .before .before .turn-plain .ensures)
+    plain-turns _ _ _ _ _ _ _ (plain-asks (a .cells .now) (a .tracks) (a .theme .now) (a .way) (a .bookmark) (a .columns .now) (a .shifts .now) (e .before .before .check-plain .ensures) (e .enum-told .given .1)) _ _ _ (c .before .before .before .turn-plain .ensures)
 
 pub plain-page-spec : {M : Type 1} → statement M
 plain-page-spec =

@@ -16,7 +16,7 @@ enum-known-e : tie.Need-enum-known-e
 enum-known-e c = search needs
 
 returns : tie.Need-returns
-returns c = quick-away _ _ _ _ _ _ _ _ _ _ (sym (c .before .before .before .check-quick .ensures) ∙ c .before .e .given .1)
+returns c = quick-away _ _ _ _ _ _ _ _ _ _ (c .before .before .before .check-quick .ensures) (c .before .e .given .1)
 
 enum-told : tie.Need-enum-told
 enum-told c = search needs
@@ -25,14 +25,14 @@ fill-table-requires : tie.Need-fill-table-requires
 fill-table-requires c κs =
     let e = c .before in
     let a = e .before .before .before .before .before .before .before .before .args in
-    let q = quick-asks (a .cells .now) (a .tracks) (a .theme .now) (a .way) (a .bookmark) (a .sets .now) (a .table .now) (a .columns .now) (a .shifts .now) (sym (e .before .before .check-quick .ensures) ∙ e .enum-told .given .1) in
+    let q = quick-asks (a .cells .now) (a .tracks) (a .theme .now) (a .way) (a .bookmark) (a .sets .now) (a .table .now) (a .columns .now) (a .shifts .now) (e .before .before .check-quick .ensures) (e .enum-told .given .1) in
     (omega (arith, q .plain .accepted .notes-some), q .table-long)
 
 turn-quick-requires : tie.Need-turn-quick-requires
 turn-quick-requires c κs =
     let e = c .before .before .before .before .before .before .before in
     let a = e .before .before .before .before .before .before .before .before .args in
-    let q = quick-asks (a .cells .now) (a .tracks) (a .theme .now) (a .way) (a .bookmark) (a .sets .now) (a .table .now) (a .columns .now) (a .shifts .now) (sym (e .before .before .check-quick .ensures) ∙ e .enum-told .given .1) in
+    let q = quick-asks (a .cells .now) (a .tracks) (a .theme .now) (a .way) (a .bookmark) (a .sets .now) (a .table .now) (a .columns .now) (a .shifts .now) (e .before .before .check-quick .ensures) (e .enum-told .given .1) in
     record { plain = q .plain; with-sets = q .with-sets; table-long = ap length (c .before .before .before .before .before .fill-table .ensures) ∙ table-length (a .theme .now) }
 
 same-length : tie.Need-same-length
@@ -48,7 +48,7 @@ returns-2 : tie.Need-returns-2
 returns-2 c =
     let e = c .before .before .before .before .before .before .before .before .before .before .before in
     let a = e .before .before .before .before .before .before .before .before .args in
-    let q = quick-asks (a .cells .now) (a .tracks) (a .theme .now) (a .way) (a .bookmark) (a .sets .now) (a .table .now) (a .columns .now) (a .shifts .now) (sym (e .before .before .check-quick .ensures) ∙ e .enum-told .given .1) in
+    let q = quick-asks (a .cells .now) (a .tracks) (a .theme .now) (a .way) (a .bookmark) (a .sets .now) (a .table .now) (a .columns .now) (a .shifts .now) (e .before .before .check-quick .ensures) (e .enum-told .given .1) in
     quick-turns _ _ _ _ _ _ _ _ _ q _ _ _ _ (c .before .before .before .before .before .before .before .before .before .fill-table .ensures) (rw (c .before .before .before .before .before .before .before .before .before .fill-table .ensures) at (c .before .before .before .turn-quick .ensures))
 
 pub quick-page-spec : {M : Type 1} → statement M
