@@ -3,10 +3,10 @@
 // `quantities` keeps pitch, interval and column number apart; `refusals` says what a refusal holds; `checks` says what is
 // refused and where; then `sets` prepares.
 
-mod checks;
-mod quantities;
-mod refusals;
-mod sets;
+pub mod checks;
+pub mod quantities;
+pub mod refusals;
+pub mod sets;
 
 pub use checks::check_score;
 pub use checks::check_sets;
