@@ -7,16 +7,20 @@ use Rattle.score.specs.declared.sets.Preparation.{Preparation}
 use Rattle.score.specs.declared.sets.Preparation.the-variants.{Prepared, Refused}
 use Rattle.score.specs.Score.{scoreOf}
 use Rattle.score.specs.Sets.{sets}
-use Rattle.score.specs.Refusals.{judge, row1, row2, row3, row6}
+use Rattle.score.specs.Refusals.{Row, judge, row1, row2, row3, row6}
 
 -- the answer, and the lent sets after the call
 pub record Filled : Type 0 where
   pub answer : Preparation
   pub sets : List ℕ
 
+-- 1, 2, 3, 6, in this order
+abbrev pub prepareRows : (cells : List ℕ) (h : ℕ) (lent : List ℕ) → List Row
+prepareRows cells h lent = row1 h ∷ row2 cells h ∷ row3 cells ∷ row6 cells h lent ∷ []
+
 abbrev pub prepared : (cells : List ℕ) (h : ℕ) (lent : List ℕ) → Filled
 prepared cells h lent =
-    judge (row1 h ∷ row2 cells h ∷ row3 cells ∷ row6 cells h lent ∷ [])
+    judge (prepareRows cells h lent)
     (λ r. record { answer = Refused r; sets = lent })
     (record { answer = Prepared; sets = sets (scoreOf cells h) })
 

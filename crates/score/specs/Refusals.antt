@@ -1,6 +1,7 @@
 -- What is turned away: the table of refusals, row by row, with the rows of this crate (1 to 3, 6 and 7). A call names its
 -- rows in order, and the first that applies is given, with its number and its place. Assumes nothing.
-use mathlib.Core.Bool.{Bool, cond, not, _&&_, _||_}
+use mathlib.Core.Path.{_≡_}
+use mathlib.Core.Bool.{Bool, true, false, cond, not, _&&_, _||_}
 use mathlib.Core.List.{List, [], _∷_}
 use Prim.Native.Nat.{ℕ, _-_, _%_}
 use lib.Dec.{leb, ltb, eqb}
@@ -53,3 +54,15 @@ badSet set = ltb 4095 set
 
 abbrev pub row7 : (sets : List ℕ) → Row
 row7 sets = row 7 (some badSet sets) (first badSet sets)
+
+-- ---- when a refusal is given, over any rows
+
+-- refusal k is given: no row before that of number k applies, and that one does
+abbrev pub GivenBy : List Row → (k : ℕ) → Type 0
+GivenBy [] k = ⊥
+GivenBy (row ∷ rows) k = cond (eqb (row .given .number) k) (row .applies ≡ true) ((row .applies ≡ false) × GivenBy rows k)
+
+-- the place that the row of number k names
+abbrev pub placeBy : List Row → (k : ℕ) → ℕ
+placeBy [] k = 0
+placeBy (row ∷ rows) k = cond (eqb (row .given .number) k) (row .given .place) (placeBy rows k)

@@ -20,7 +20,7 @@ abbrev pub cut : (n h : ℕ) → List ℕ → List (List ℕ)
 cut zero h cells = []
 cut (suc n) h cells = take h cells ∷ cut n h (drop h cells)
 
--- how many columns the cells make
+-- how many columns the cells make; of no tracks, none
 abbrev pub columnsIn : (cells : List ℕ) (h : ℕ) → ℕ
 columnsIn cells h = length cells / h
 
@@ -28,7 +28,7 @@ columnsIn cells h = length cells / h
 abbrev pub scoreOf : (cells : List ℕ) (h : ℕ) → List (List ℕ)
 scoreOf cells h = cut (columnsIn cells h) h cells
 
--- the cells of column k; columns are numbered from 1
+-- the cells of column k; columns are numbered from 1 (there is no column 0, and nothing asks for it)
 abbrev pub column : (score : List (List ℕ)) → Column → List ℕ
 column score k = getD score (k .0 - 1) []
 
@@ -36,7 +36,8 @@ column score k = getD score (k .0 - 1) []
 abbrev pub onward : (score : List (List ℕ)) → Column → List (List ℕ)
 onward score j = drop (j .0 - 1) score
 
--- the pitches of a column: its cells 0 to 127. A rest is none, so a column of rests only holds no pitch
+-- the pitches of a column: its cells 0 to 127. A rest is none, so a column of rests only holds no pitch. A pitch may stand
+-- twice; whoever asks of this list asks whether some pitch is in it, so equal pitches count once
 abbrev pub pitches : (column : List ℕ) → List Pitch
 pitches [] = []
 pitches (cell ∷ cells) = cond (leb cell 127) (pitch cell ∷ pitches cells) (pitches cells)

@@ -3,10 +3,10 @@
 ghost use mathlib.Core.Path.{_≡_};
 ghost use Rattle.score.specs.Sets.{interval};
 
-// A MIDI pitch, 0 to 127.
+// A MIDI pitch: 0 to 127 where it was checked.
 pub struct Pitch(pub u8);
 
-// The distance of two pitches with octaves ignored, 0 to 11 semitones upwards.
+// The distance of two pitches with octaves ignored, in semitones upwards: 0 to 11 where `interval_of` made it.
 pub struct Interval(pub u8);
 
 // The number of a column, counted from 1.

@@ -11,8 +11,8 @@ use Rattle.score.specs.Refusals.{Row, judge}
 use Rattle.search.specs.declared.page.Turn.{Turn}
 use Rattle.search.specs.declared.page.Page.{Page}
 use Rattle.search.specs.declared.page.Page.the-variants.{Turned, Refused}
-use Rattle.search.specs.Asking.{GivenBy, placeBy}
-use Rattle.search.proofs.Judged.{Clear, number, judge-either, judge-clear, judge-given, judge-clear-of, judge-shown}
+use Rattle.score.specs.Refusals.{GivenBy, placeBy}
+use Rattle.score.proofs.Judged.{Clear, number, judge-either, judge-clear, judge-given, judge-clear-of, judge-shown}
 
 -- ---- a page that was turned is no refusal, and a refusal tells itself
 

@@ -1,6 +1,6 @@
 -- Laws of this crate's definitions. Places: `Order` (the starts, which they are and that they rise), `Shifts` (codes and
 -- shifts), `Holding` (a column and a note), `Notes` (all notes), `LookBound`. The list: `Listed`. Candidates: `Words` (the
--- theme table), `Filtered`. The worked cases: `Worked`. Calls: `Judged` and `Rows` (refusals), `Answers`, `PlainCall`,
+-- theme table), `Filtered`. The worked cases: `Worked`. Calls: `Rows` (refusals), `Answers`, `PlainCall`,
 -- `QuickCall`. Pages: `Turning` (bookmarks, and what is read back), `Paging` (one page), `Readings` (page after page),
 -- `Searches` (plain and quick), `Quicker` (quick and plain compared), `AtOrAfter` and `OnePages` (a page, said of pairs).
 -- What all this comes to: `Demands`.
@@ -10,10 +10,10 @@ pub mod Holding
 pub mod Notes
 pub mod LookBound
 pub mod Listed
+pub mod Once
 pub mod Words
 pub mod Filtered
 pub mod Worked
-pub mod Judged
 pub mod Rows
 pub mod Answers
 pub mod PlainCall
@@ -26,3 +26,4 @@ pub mod Quicker
 pub mod AtOrAfter
 pub mod OnePages
 pub mod Demands
+pub mod Truths

@@ -8,6 +8,7 @@ use native.Mathlib.Omega.{arith}
 use lib.IntN.{ℤ}
 use Rattle.score.specs.declared.refusals.Refusal.{Refusal}
 use Rattle.score.specs.Score.{columnsIn, scoreOf}
+use Rattle.score.specs.Refusals.{GivenBy, placeBy}
 use Rattle.search.specs.declared.way.Way.{Way}
 use Rattle.search.specs.declared.bookmark.Bookmark.{Bookmark}
 use Rattle.search.specs.declared.page.Turn.{Turn}
@@ -15,8 +16,9 @@ use Rattle.search.specs.declared.page.Page.{Page}
 use Rattle.search.specs.declared.page.Page.the-variants.{Turned, Refused}
 use Rattle.search.specs.Candidates.{themeTable}
 use Rattle.search.specs.Page.{QuickLeaf, leaf, quickPage, quickStarts, QuickPages}
-use Rattle.search.specs.Asking.{QuickAsks, quickRows, GivenBy, placeBy}
-use Rattle.search.proofs.Judged.{Clear, clear-append, clear-split, judge-clear}
+use Rattle.search.specs.Asking.{QuickAsks}
+use Rattle.search.specs.Refusals.{quickRows}
+use Rattle.score.proofs.Judged.{Clear, clear-append, clear-split, judge-clear}
 use Rattle.search.proofs.Rows.{scoreRows, setsRows, pageRows, accepted-clear, sets-clear, page-clear}
 use Rattle.search.proofs.Answers.{answer-turned, answer-refused, answer-kept}
 

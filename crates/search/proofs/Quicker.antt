@@ -34,7 +34,7 @@ use Rattle.search.specs.Asking.{Accepted, AcceptedSets}
 use Rattle.search.specs.Demands.{turned, refused, SamePage, candidatePairs}
 use Rattle.search.proofs.Order.{starts-rising}
 use Rattle.search.proofs.Filtered.{hit-candidate}
-use Rattle.search.proofs.Judged.{clear-append, judge-skip, judge-both}
+use Rattle.score.proofs.Judged.{clear-append, judge-skip, judge-both}
 use Rattle.search.proofs.Rows.{scoreRows, setsRows, pageRows, accepted-clear, sets-clear}
 use Rattle.search.proofs.PlainCall.{plainRefused, plainLeaf}
 use Rattle.search.proofs.QuickCall.{quickRefused, quickLeaf}

@@ -18,7 +18,7 @@ use Rattle.search.specs.declared.bookmark.Bookmark.{Bookmark}
 use Rattle.search.specs.Way.{lowest, highest}
 use Rattle.search.specs.Refusals.{row4, row5, row8, row9, row10}
 use Rattle.search.specs.Asking.{Accepted, AcceptedSets, InRange}
-use Rattle.search.proofs.Judged.{Clear}
+use Rattle.score.proofs.Judged.{Clear}
 
 -- ---- tests that fail
 

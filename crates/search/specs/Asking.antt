@@ -1,5 +1,5 @@
--- What a call asks for (`PlainAsks`, `QuickAsks`), and when it gives which refusal (`GivenBy`, `placeBy`): in the words of
--- the table of refusals, apart from any method. Assumes nothing.
+-- What a call asks for (`PlainAsks`, `QuickAsks`), in the words of the table of refusals turned round and apart from any
+-- method. Assumes nothing.
 use mathlib.Core.Path.{_≡_}
 use mathlib.Core.Bool.{true, false, cond}
 use mathlib.Core.List.{List, [], _∷_}
@@ -10,11 +10,11 @@ use lib.ListN.{length}
 use lib.Signed.{_≤ℤ_}
 use Rattle.theory.specs.Lists.{some}
 use Rattle.score.specs.Score.{columnsIn}
-use Rattle.score.specs.Refusals.{Row, badCell, badSet, row1, row2, row3, row6, row7}
+use Rattle.score.specs.Refusals.{Row, badCell, badSet}
 use Rattle.search.specs.declared.way.Way.{Way}
 use Rattle.search.specs.declared.bookmark.Bookmark.{Bookmark}
 use Rattle.search.specs.Way.{lowest, highest}
-use Rattle.search.specs.Refusals.{badNote, row4, row5, row8, row9, row10}
+use Rattle.search.specs.Refusals.{badNote}
 
 -- ---- what is accepted
 
@@ -54,24 +54,3 @@ pub record QuickAsks (cells : List ℕ) (h : ℕ) (theme : List ℕ) (way : Way)
   pub plain : PlainAsks cells h theme way b columns shifts
   pub with-sets : AcceptedSets cells h sets
   pub table-long : length table ≡ 4096
-
--- ---- what is refused: the rows of each call, in order
-
-abbrev pub plainRows : (cells : List ℕ) (h : ℕ) (theme : List ℕ) → Way → Bookmark → (columns : List ℕ) (shifts : List ℤ) → List Row
-plainRows cells h theme way b columns shifts =
-    row1 h ∷ row2 cells h ∷ row3 cells ∷ row4 theme ∷ row5 theme ∷ row9 (length columns) (length shifts) ∷ row10 way (columnsIn cells h) b ∷ []
-
-abbrev pub quickRows : (cells : List ℕ) (h : ℕ) (theme : List ℕ) → Way → Bookmark → (sets table columns : List ℕ) (shifts : List ℤ) → List Row
-quickRows cells h theme way b sets table columns shifts =
-    row1 h ∷ row2 cells h ∷ row3 cells ∷ row4 theme ∷ row5 theme ∷ row6 cells h sets ∷ row7 sets ∷ row8 (length table)
-    ∷ row9 (length columns) (length shifts) ∷ row10 way (columnsIn cells h) b ∷ []
-
--- refusal k is given: no row before that of number k applies, and that one does
-abbrev pub GivenBy : List Row → (k : ℕ) → Type 0
-GivenBy [] k = ⊥
-GivenBy (row ∷ rows) k = cond (eqb (row .given .number) k) (row .applies ≡ true) ((row .applies ≡ false) × GivenBy rows k)
-
--- the place that the row of number k names
-abbrev pub placeBy : List Row → (k : ℕ) → ℕ
-placeBy [] k = 0
-placeBy (row ∷ rows) k = cond (eqb (row .given .number) k) (row .given .place) (placeBy rows k)

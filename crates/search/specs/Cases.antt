@@ -37,7 +37,7 @@ abbrev mark : ℕ → ℤ → Bookmark
 mark j c = record { column = columnAt j; shift = c }
 
 -- the question: score, theme, way and room; the answers: the score's sets, the candidates that they make, the plain
--- pages up to the first that is finished, and the looks of each quick page
+-- pages up to the first that is finished (of three at most), and the looks of each quick page
 pub record Case : Type 0 where
   pub cells : List ℕ
   pub tracks : ℕ

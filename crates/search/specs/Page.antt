@@ -10,7 +10,7 @@ use lib.ListN.{length}
 use Rattle.theory.specs.Lists.{over, last}
 use Rattle.theory.specs.Pages.{hits, pageHits, pageLooks, from}
 use Rattle.score.specs.Score.{columnAt, columnsIn, scoreOf}
-use Rattle.score.specs.Refusals.{judge, row1, row2, row3, row6, row7}
+use Rattle.score.specs.Refusals.{judge}
 use Rattle.search.specs.declared.way.Way.{Way}
 use Rattle.search.specs.declared.bookmark.Bookmark.{Bookmark}
 use Rattle.search.specs.declared.page.Turn.{Turn}
@@ -21,7 +21,7 @@ use Rattle.search.specs.Starts.{Place, place, key, starts, hit, looks}
 use Rattle.search.specs.Pairs.{pairAt}
 use Rattle.search.specs.Candidates.{themeTable, candidate}
 use Rattle.search.specs.Bookmarks.{firstBookmark, afterPair, finishedBookmark, keyOf}
-use Rattle.search.specs.Refusals.{row4, row5, row8, row9, row10}
+use Rattle.search.specs.Refusals.{plainRows, quickRows}
 
 -- a call's answer, and the two lent buffers of pairs after it
 pub record Leaf : Type 0 where
@@ -68,7 +68,7 @@ module _ (way : Way) (score : List (List ℕ)) (theme : List ℕ) (reached : Lis
 -- the plain way reaches every start: refusals 1 to 5, 9, 10
 unfoldable pub plainPage : (cells : List ℕ) (h : ℕ) (theme : List ℕ) → Way → Bookmark → (columns : List ℕ) (shifts : List ℤ) → Leaf
 plainPage cells h theme way b columns shifts =
-    judge (row1 h ∷ row2 cells h ∷ row3 cells ∷ row4 theme ∷ row5 theme ∷ row9 (length columns) (length shifts) ∷ row10 way (columnsIn cells h) b ∷ [])
+    judge (plainRows cells h theme way b columns shifts)
     (λ r. record { answer = Refused r; columns = columns; shifts = shifts })
     (leaf way (scoreOf cells h) theme (starts way (scoreOf cells h) theme) b columns shifts)
 
@@ -84,9 +84,7 @@ pub record QuickLeaf : Type 0 where
 -- the quick way reaches the starts at candidates: refusals 1 to 10; an accepted call leaves the theme's table
 unfoldable pub quickPage : (cells : List ℕ) (h : ℕ) (theme : List ℕ) → Way → Bookmark → (sets table columns : List ℕ) (shifts : List ℤ) → QuickLeaf
 quickPage cells h theme way b sets table columns shifts =
-    judge
-    (row1 h ∷ row2 cells h ∷ row3 cells ∷ row4 theme ∷ row5 theme ∷ row6 cells h sets ∷ row7 sets ∷ row8 (length table) ∷ row9 (length columns) (length shifts)
-    ∷ row10 way (columnsIn cells h) b ∷ [])
+    judge (quickRows cells h theme way b sets table columns shifts)
     (λ r. record { leaf = record { answer = Refused r; columns = columns; shifts = shifts }; table = table })
     (record {
       leaf = leaf way (scoreOf cells h) theme (quickStarts way (scoreOf cells h) theme (themeTable theme) sets) b columns shifts;

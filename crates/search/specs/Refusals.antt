@@ -1,14 +1,15 @@
--- The rows of the table of refusals that a search adds: 4, 5, 8, 9, 10. Rows 1 to 3, 6 and 7 are the score's.
--- Assumes nothing.
+-- The rows of the table of refusals that a search adds: 4, 5, 8, 9, 10; rows 1 to 3, 6 and 7 are the score's. Last, the
+-- rows of each call, in order: `plainRows` and `quickRows`. Assumes nothing.
 use mathlib.Core.Bool.{Bool, not, _||_}
-use mathlib.Core.List.{List}
+use mathlib.Core.List.{List, [], _∷_}
 use Prim.Native.Nat.{ℕ, _+_}
 use lib.Dec.{ltb, eqb}
-use lib.IntN.{pos, _+ℤ_}
+use lib.IntN.{ℤ, pos, _+ℤ_}
 use lib.ListN.{length}
 use lib.Signed.{ltZ}
 use Rattle.theory.specs.Lists.{some, first}
-use Rattle.score.specs.Refusals.{Row, row}
+use Rattle.score.specs.Score.{columnsIn}
+use Rattle.score.specs.Refusals.{Row, row, row1, row2, row3, row6, row7}
 use Rattle.search.specs.declared.way.Way.{Way}
 use Rattle.search.specs.declared.bookmark.Bookmark.{Bookmark}
 use Rattle.search.specs.Way.{lowest, highest}
@@ -38,3 +39,16 @@ row10 way n b =
     row 10
     (eqb (b .column .0) 0 || ltb (n + 1) (b .column .0) || ltZ (b .shift) (lowest way) || ltZ (highest way +ℤ pos 1) (b .shift))
     0
+
+-- ---- the rows of each call, in order
+
+-- plain: 1 to 5, 9, 10
+abbrev pub plainRows : (cells : List ℕ) (h : ℕ) (theme : List ℕ) → Way → Bookmark → (columns : List ℕ) (shifts : List ℤ) → List Row
+plainRows cells h theme way b columns shifts =
+    row1 h ∷ row2 cells h ∷ row3 cells ∷ row4 theme ∷ row5 theme ∷ row9 (length columns) (length shifts) ∷ row10 way (columnsIn cells h) b ∷ []
+
+-- quick: 1 to 10
+abbrev pub quickRows : (cells : List ℕ) (h : ℕ) (theme : List ℕ) → Way → Bookmark → (sets table columns : List ℕ) (shifts : List ℤ) → List Row
+quickRows cells h theme way b sets table columns shifts =
+    row1 h ∷ row2 cells h ∷ row3 cells ∷ row4 theme ∷ row5 theme ∷ row6 cells h sets ∷ row7 sets ∷ row8 (length table)
+    ∷ row9 (length columns) (length shifts) ∷ row10 way (columnsIn cells h) b ∷ []

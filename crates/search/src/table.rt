@@ -4,23 +4,13 @@
 // the theme's notes, and all others come by doubling what stands before them.
 
 use crate::register::step;
-use score::Interval;
 use score::Pitch;
+use score::interval_of;
 ghost use mathlib.Core.Path.{_≡_};
 ghost use Prim.Native.Nat.{_+_, _≤_};
 ghost use lib.ListN.{length};
-ghost use Rattle.score.specs.Sets.{interval};
 ghost use Rattle.search.specs.Candidates.{word, themeTable};
 ghost use Rattle.search.specs.Scan.{Doubled};
-
-// The interval from one pitch to the next. Twenty-two octaves are added first, so that a falling one is not cut at zero.
-fn step_up(x: Pitch, y: Pitch) -> Interval
-    ensures { λ r. ⌜ r ≡ interval x y ⌝ }
-{
-    let from = x.0 as u16;
-    let to = y.0 as u16;
-    Interval(((to + 264 - from) % 12) as u8)
-}
 
 // The table's word for a set, from the theme's last interval to its first: each puts its bit in at the bottom and moves
 // the others up, so the bits past the theme's intervals are the ones that the word began with.
@@ -34,7 +24,7 @@ fn word_of(theme: &[u8], set: u32) -> u32
         i -= 1;
         let note = theme[i];
         let next = theme[i + 1];
-        let d = step_up(Pitch(note), Pitch(next));
+        let d = interval_of(Pitch(note), Pitch(next));
         word = step(word, (set >> d.0) & 1);
     }
     word

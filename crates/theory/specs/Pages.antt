@@ -41,7 +41,7 @@ module _ {A : Type 0} (key : A → ℕ) where
   Rising b [] = Unit {0}
   Rising b (x ∷ xs) = (b ≤ key x) × Rising (suc (key x)) xs
 
-  -- what stands at or after the key b
+  -- what stands at or after the key b, along a list whose keys rise
   abbrev pub from : ℕ → List A → List A
   from b [] = []
   from b (x ∷ xs) = cond (ltb (key x) b) (from b xs) (x ∷ xs)

@@ -18,9 +18,10 @@ use Rattle.search.specs.declared.page.Page.the-variants.{Turned, Refused
 use Rattle.search.specs.Starts.{starts}
 use Rattle.search.specs.Candidates.{themeTable}
 use Rattle.search.specs.Page.{Leaf, QuickLeaf, plainPage, quickPage, quickStarts, leaf, PlainPages, QuickPages}
-use Rattle.search.specs.Asking.{PlainAsks, QuickAsks, plainRows, quickRows}
+use Rattle.search.specs.Asking.{PlainAsks, QuickAsks}
+use Rattle.search.specs.Refusals.{plainRows, quickRows}
 use Rattle.search.specs.Walk.{Turns}
-use Rattle.search.proofs.Judged.{Clear, judge-clear-of}
+use Rattle.score.proofs.Judged.{Clear, judge-clear-of}
 use Rattle.search.proofs.PlainCall.{plainRefused, plainLeaf, plain-clear, plain-leaf}
 use Rattle.search.proofs.QuickCall.{quickRefused, quickLeaf, quick-clear, quick-leaf}
 

@@ -35,14 +35,14 @@ add-next c = search needs
 shared-slice-read-next : tie.Need-shared-slice-read-next Inv-loop μ-loop
 shared-slice-read-next c = search needs
 
-step-up-requires : tie.Need-step-up-requires Inv-loop μ-loop
-step-up-requires c κs = search needs
+interval-of-requires : tie.Need-interval-of-requires Inv-loop μ-loop
+interval-of-requires c κs = search needs
 
 cast-step : tie.Need-cast-step Inv-loop μ-loop
 cast-step c = search needs
 
 shr-step : tie.Need-shr-step Inv-loop μ-loop
-shr-step c = omega (arith, ap (λ (d : Interval). d .0) (c .before .step-up .ensures))
+shr-step c = omega (arith, ap (λ (d : Interval). d .0) (c .before .interval-of .ensures))
 
 step-requires : tie.Need-step-requires Inv-loop μ-loop
 step-requires c κs = search needs
@@ -53,7 +53,7 @@ loop-less c = search needs
 -- the word takes the set's bit for the interval, which is the lowest of the set shifted down
 loop-again : tie.Need-loop-again Inv-loop μ-loop
 loop-again c =
-    let up = c .before .before .step-up in
+    let up = c .before .before .interval-of in
     let test = c .before .before .before .before .before in
     let set = test .before .before .before .args .set in
     building-more (omega arith) (test .loop-test .taken) (test .before .loop .inv)
@@ -74,7 +74,7 @@ word-of-spec =
     shared-slice-read-note
     add-next
     shared-slice-read-next
-    step-up-requires
+    interval-of-requires
     cast-step
     shr-step
     step-requires

@@ -8,9 +8,8 @@ use native.Mathlib.Omega.{arith}
 use lib.Dec.{eqb}
 use borrow.Author.Tests.{eq-eqb, ne-eqb, eqb-true}
 use Rattle.theory.specs.Pages.{Rising}
 use Rattle.score.specs.declared.refusals.Refusal.{Refusal}
-use Rattle.score.specs.Refusals.{Row, judge}
-use Rattle.search.specs.Asking.{GivenBy, placeBy}
+use Rattle.score.specs.Refusals.{Row, judge, GivenBy, placeBy}
 
 -- no row applies
 abbrev pub Clear : List Row → Type 0

@@ -1,0 +1,78 @@
+-- What a preparation promises, read off its definition: it is accepted exactly where no row of its call applies, refused with
+-- a number and a place exactly where that row is the first that does, and then nothing is written; otherwise every set is
+-- the one of its two columns. Assumes nothing.
+use mathlib.Core.Path.{_≡_, refl, sym, ap, _∙_}
+use mathlib.Core.Bool.{Bool, true, false, true≢false}
+use mathlib.Core.Logic.{_↔_}
+use mathlib.Core.List.{List, [], _∷_}
+use Prim.Native.Nat.{ℕ, _+_, _-_, _≤_, _<_}
+use native.Mathlib.Omega.{arith}
+use lib.ListN.{length, getD}
+use Rattle.theory.specs.Bits.{bit}
+use Rattle.score.specs.declared.refusals.Refusal.{Refusal}
+use Rattle.score.specs.declared.quantities.Interval.{Interval}
+use Rattle.score.specs.declared.sets.Preparation.{Preparation}
+use Rattle.score.specs.declared.sets.Preparation.the-variants.{Prepared, Refused}
+use Rattle.score.specs.Score.{columnAt, column, scoreOf}
+use Rattle.score.specs.Sets.{Apart, sets}
+use Rattle.score.specs.Refusals.{GivenBy, placeBy}
+use Rattle.score.specs.Preparing.{Filled, prepareRows, prepared}
+use Rattle.score.proofs.IntervalSets.{sets-at, set-bit}
+use Rattle.score.proofs.Judged.{Clear, judge-either, judge-clear, judge-given, judge-clear-of, judge-shown}
+
+-- an accepted answer is no refusal, and a refusal tells itself
+abbrev isPrepared : Preparation → Bool
+isPrepared Prepared = true
+isPrepared (Refused r) = false
+
+abbrev refusalOf : Refusal → Preparation → Refusal
+refusalOf d Prepared = d
+refusalOf d (Refused r) = r
+
+prepared-refused : {r : Refusal} → Prepared ≡ Refused r → ⊥
+prepared-refused e = true≢false (ap isPrepared e)
+
+refused-same : {r s : Refusal} → Refused r ≡ Refused s → r ≡ s
+refused-same {r} e = ap (refusalOf r) e
+
+module _ (cells : List ℕ) (h : ℕ) (lent : List ℕ) where
+  abbrev refuse : Refusal → Filled
+  refuse r = record { answer = Refused r; sets = lent }
+
+  abbrev full : Filled
+  full = record { answer = Prepared; sets = sets (scoreOf cells h) }
+
+  pub prepare-accepted : (prepared cells h lent .answer ≡ Prepared) ↔ Clear (prepareRows cells h lent)
+  prepare-accepted = (
+    λ e. judge-clear-of refuse full (λ (x : Filled). x .answer ≡ Prepared) (λ r k. prepared-refused (sym k)) (prepareRows cells h lent) e,
+    λ c. ap (λ (x : Filled). x .answer) (judge-clear refuse full (prepareRows cells h lent) c),
+  )
+
+  pub prepare-refused : (k p : ℕ) → (prepared cells h lent .answer ≡ Refused (record { number = k; place = p }))
+      ↔ (GivenBy (prepareRows cells h lent) k × (p ≡ placeBy (prepareRows cells h lent) k))
+  prepare-refused k p = (
+    judge-shown refuse full (λ (x : Filled) s. x .answer ≡ Refused s) (λ r s e. refused-same e) (λ s e. prepared-refused e) (prepareRows cells h lent) 0 (omega arith)
+        (record { number = k; place = p }),
+    λ g. ap (λ (x : Filled). x .answer) (judge-given refuse full (prepareRows cells h lent) k (g .0))
+        ∙ ap (λ (q : ℕ). Refused (record { number = k; place = q })) (sym (g .1)),
+  )
+
+  -- a refused call writes nothing, an accepted one fills every set
+  pub prepare-kept : (r : Refusal) → prepared cells h lent .answer ≡ Refused r → prepared cells h lent .sets ≡ lent
+  prepare-kept r =
+      judge-either refuse full (λ (x : Filled). x .answer ≡ Refused r → x .sets ≡ lent) (λ s e. refl) (λ e. absurd (prepared-refused e)) (prepareRows cells h lent)
+
+  pub prepare-fills : prepared cells h lent .answer ≡ Prepared → prepared cells h lent .sets ≡ sets (scoreOf cells h)
+  prepare-fills =
+      judge-either refuse full (λ (x : Filled). x .answer ≡ Prepared → x .sets ≡ sets (scoreOf cells h)) (λ s e. absurd (prepared-refused (sym e))) (λ e. refl)
+      (prepareRows cells h lent)
+
+  -- entry k, from 1, belongs to columns k and k + 1: its bit d is 0 exactly when they have pitches d apart
+  pub prepare-bit : prepared cells h lent .answer ≡ Prepared → (k : ℕ) → 1 ≤ k → k < length (scoreOf cells h) → (d : Interval) → d .0 < 12
+      → (bit (getD (prepared cells h lent .sets) (k - 1) 0) (d .0) ≡ 0)
+      ↔ Apart (column (scoreOf cells h) (columnAt k)) (column (scoreOf cells h) (columnAt (k + 1))) d
+  prepare-bit e k low high d small =
+      let b : k - 1 + 1 ≡ k = omega arith in
+      let c : k + 1 - 1 ≡ k = omega arith in
+      let at = sets-at (scoreOf cells h) (k - 1) (omega arith) in
+      rw (prepare-fills e, at, b, c) (set-bit (column (scoreOf cells h) (columnAt k)) (getD (scoreOf cells h) k []) d small)
