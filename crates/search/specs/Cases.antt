@@ -1,5 +1,5 @@
 -- The worked cases, as one table: a question, and what is said of it. `made` asks the definitions the same question, and
--- that every row comes out as it stands is one theorem (`proofs/Worked`). Assumes nothing.
+-- that every row comes out as it stands is one theorem (`proofs/Worked`). `negsuc 126` is -127. Assumes nothing.
 use mathlib.Core.Bool.{Bool, true, false, cond}
 use mathlib.Core.List.{List, [], _∷_, map}
 use Prim.Native.Nat.{ℕ, zero, suc, _+_, _-_}

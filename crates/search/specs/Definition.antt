@@ -1,5 +1,5 @@
 -- The definition: when the pair (j, c) stands for a theme p1..pm in a score of n columns. It is the published one and no
--- method: `Stands`. Assumes nothing.
+-- method: `Stands`. Notes and columns are numbered from 1. Assumes nothing.
 use mathlib.Core.List.{List, []}
 use Prim.Native.Nat.{ℕ, _+_, _-_, _≤_}
 use lib.ListN.{length, getD}

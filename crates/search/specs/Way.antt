@@ -31,7 +31,7 @@ abbrev pub Holds : Way → (column : List ℕ) → Pitch → ℤ → Type 0
 Holds Exact column p c = HoldsExact column p c
 Holds Octave column p c = HoldsOctave column p c
 
--- the lowest and the highest shift: -127 to 127, or 0 to 11
+-- the lowest and the highest shift: -127 (which is `negsuc 126`) to 127, or 0 to 11
 abbrev pub lowest : Way → ℤ
 lowest Exact = negsuc 126
 lowest Octave = pos 0
