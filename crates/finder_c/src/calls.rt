@@ -71,11 +71,12 @@ pub extern "C" fn finder_quick_page(
         column: Column(column),
         shift,
     };
+    let asked = way_of(way);
     let p = quick_page(
         cells,
         tracks,
         theme,
-        way_of(way),
+        asked,
         bookmark,
         sets,
         table,
