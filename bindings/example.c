@@ -1,0 +1,40 @@
+/* How C calls the finder: prepares a small score, and lists a theme's pairs page by page. */
+#include <finder.h>
+#include <stdio.h>
+
+int main(void)
+{
+    /* five columns of two tracks; 255 is a rest */
+    static const uint8_t cells[] = {60, 67, 62, 69, 64, 255, 65, 72, 255, 67};
+    static const uint8_t theme[] = {67, 62};
+    static const uint16_t expected[] = {1, 2, 4};
+    static uint32_t table[FINDER_TABLE_LEN];
+    uint16_t sets[4], columns[2];
+    int16_t shifts[2];
+    int64_t answer[FINDER_ANSWER_LEN] = {0, 1, -127, 0, 0};
+    int64_t looks = 0, i;
+    size_t pairs = 0;
+
+    int64_t result = finder_prepare(cells, sizeof cells, 2, sets, 4);
+    if (result != 0)
+        return 1;
+    while (answer[3] == 0) {
+        result = finder_quick_page(cells, sizeof cells, 2, theme, sizeof theme, FINDER_EXACT, (uint16_t)answer[1],
+                                   (int16_t)answer[2], sets, 4, table, FINDER_TABLE_LEN, columns, 2, shifts, 2, answer, 5);
+        if (result != 0) {
+            fprintf(stderr, "refused %d at %zu\n", FINDER_NUMBER(result), FINDER_PLACE(result));
+            return 1;
+        }
+        for (i = 0; i < answer[0]; i++, pairs++) {
+            printf("column %d, shift %d\n", columns[i], shifts[i]);
+            if (pairs >= 3 || columns[i] != expected[pairs])
+                return 1;
+        }
+        looks += answer[4];
+    }
+    printf("%zu pairs, %lld looks\n", pairs, (long long)looks);
+    /* a way that is none */
+    return pairs == 3 && looks == 6
+        && finder_plain_page(cells, sizeof cells, 2, theme, sizeof theme, 2, 1, 0, columns, 2, shifts, 2, answer, 5) == FINDER_NO_CALL
+        ? 0 : 1;
+}

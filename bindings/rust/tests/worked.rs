@@ -1,0 +1,123 @@
+//! The worked examples: pages to try by hand, and the limits.
+
+use finder::{pairs, plain_page, prepare, quick_page, Bookmark, Page, Pair, Refusal, Way, TABLE_LEN};
+
+/// Five columns of two tracks.
+const K: [u8; 10] = [60, 67, 62, 69, 64, 255, 65, 72, 255, 67];
+
+fn sets_of(cells: &[u8], tracks: usize) -> Vec<u16> {
+    let mut sets = vec![7; cells.len() / tracks - 1];
+    prepare(cells, tracks, &mut sets).unwrap();
+    sets
+}
+
+/// The pages of a list, with the pairs of each, by room.
+fn pages(quick: bool, cells: &[u8], tracks: usize, theme: &[u8], way: Way, room: usize) -> Vec<(Vec<(u16, i16)>, Page)> {
+    let sets = sets_of(cells, tracks);
+    let mut at = way.first();
+    let mut turned = Vec::new();
+    loop {
+        let (mut columns, mut shifts) = (vec![9999; room], vec![9999; room]);
+        let page = if quick {
+            quick_page(cells, tracks, theme, way, at, &sets, &mut [5; TABLE_LEN], &mut columns, &mut shifts).unwrap()
+        } else {
+            plain_page(cells, tracks, theme, way, at, &mut columns, &mut shifts).unwrap()
+        };
+        assert!(columns[page.written..].iter().all(|c| *c == 9999) && shifts[page.written..].iter().all(|c| *c == 9999));
+        turned.push((columns.into_iter().zip(shifts).take(page.written).collect(), page));
+        at = page.next;
+        if page.finished {
+            return turned;
+        }
+    }
+}
+
+/// The whole list, which both ways of searching give, with the looks of each.
+fn list(cells: &[u8], tracks: usize, theme: &[u8], way: Way) -> (Vec<(u16, i16)>, u32, u32) {
+    let mut plain = pages(false, cells, tracks, theme, way, 1000);
+    let mut quick = pages(true, cells, tracks, theme, way, 1000);
+    assert_eq!((plain.len(), quick.len()), (1, 1));
+    let ((found, p), (also, q)) = (plain.remove(0), quick.remove(0));
+    assert_eq!(found, also);
+    let all: Vec<_> = pairs(cells, tracks, theme, way).unwrap().map(|p| (p.column, p.shift)).collect();
+    assert_eq!(found, all);
+    (found, p.looks, q.looks)
+}
+
+#[test]
+fn sets_of_k() {
+    assert_eq!(sets_of(&K, 2), [3451, 3963, 3837, 3963]);
+}
+
+#[test]
+fn lists_of_k() {
+    assert_eq!(list(&K, 2, &[60, 62, 64], Way::Exact), (vec![(1, 0)], 8, 4));
+    assert_eq!(list(&K, 2, &[67, 62], Way::Exact), (vec![(1, 0), (2, 2), (4, 5)], 7, 6));
+    assert_eq!(list(&K, 2, &[60, 67, 69], Way::Exact).0, []);
+    assert_eq!(list(&K, 2, &[60, 67, 69], Way::Octave).0, [(1, 7)]);
+    let (none, plain, quick) = list(&K, 2, &[60, 69, 71], Way::Octave);
+    assert_eq!((none, plain, quick), (vec![], 6, 3));
+}
+
+#[test]
+fn pages_of_k() {
+    let turned = pages(false, &K, 2, &[67, 62], Way::Exact, 2);
+    let page = |written, column, shift, finished, looks| Page { written, next: Bookmark { column, shift }, finished, looks };
+    assert_eq!(turned, [(vec![(1, 0), (2, 2)], page(2, 2, 3, false, 4)), (vec![(4, 5)], page(1, 6, -127, true, 3))]);
+    let turned = pages(false, &K, 2, &[67, 62], Way::Exact, 3);
+    assert_eq!((turned.len(), turned[0].0.len()), (2, 3));
+    assert_eq!((turned[0].1.next, turned[0].1.finished), (Bookmark { column: 4, shift: 6 }, false));
+    assert_eq!((turned[1].0.len(), turned[1].1.finished), (0, true));
+}
+
+#[test]
+fn one_track() {
+    assert_eq!(list(&[0, 0], 1, &[127, 127], Way::Exact).0, [(1, -127)]);
+    assert_eq!(list(&[127, 127], 1, &[0, 0], Way::Exact).0, [(1, 127)]);
+    assert_eq!(list(&[120, 0], 1, &[0, 12], Way::Exact).0, []);
+    assert_eq!(list(&[120, 0], 1, &[0, 12], Way::Octave).0, [(1, 0)]);
+    assert_eq!(list(&[60, 255, 62], 1, &[60, 62], Way::Exact).0, []);
+    assert_eq!(sets_of(&[60, 255, 62], 1), [4095, 4095]);
+}
+
+#[test]
+fn limits() {
+    let refused = |cells: &[u8], tracks, theme: &[u8]| pairs(cells, tracks, theme, Way::Exact).err().map(|r| (r.number, r.place));
+    let long = vec![60; 2048 * 16];
+    assert_eq!(refused(&K, 2, &[60]), Some((4, 0)));
+    assert_eq!(refused(&K, 2, &[60; 33]), Some((4, 0)));
+    assert_eq!(refused(&K, 2, &[60; 2]), None);
+    assert_eq!(refused(&K, 2, &[60; 32]), None);
+    assert_eq!(refused(&long, 16, &[60; 2]), None);
+    assert_eq!(refused(&long[..2048], 1, &[60; 2]), None);
+    assert_eq!(refused(&long[..2049], 1, &[60; 2]), Some((2, 0)));
+    assert_eq!(refused(&long, 17, &[60; 2]), Some((1, 0)));
+    assert_eq!(refused(&long, 0, &[60; 2]), Some((1, 0)));
+    assert_eq!(refused(&[], 1, &[60; 2]), Some((2, 0)));
+    assert_eq!(refused(&K[..9], 2, &[60; 2]), Some((2, 0)));
+    for (cell, answer) in [(127, None), (255, None), (128, Some((3, 1))), (254, Some((3, 1)))] {
+        assert_eq!(refused(&[60, cell, 60], 1, &[60; 2]), answer);
+    }
+    assert_eq!(refused(&K, 2, &[60, 128]), Some((5, 1)));
+    // the last cell of the longest score: the highest place that a refusal names
+    let mut bad = long;
+    bad[32767] = 200;
+    assert_eq!(refused(&bad, 16, &[60; 2]), Some((3, 32767)));
+}
+
+#[test]
+fn iterator_goes_on_over_pages() {
+    // 2,047 pairs: 31 full pages and one of 63
+    let cells = [60; 2048];
+    let mut all = pairs(&cells, 1, &[0, 0], Way::Exact).unwrap();
+    for column in 1..=2047 {
+        assert_eq!(all.next(), Some(Pair { column, shift: 60 }));
+    }
+    assert_eq!((all.next(), all.next(), all.looks()), (None, None, 2047));
+}
+
+#[test]
+fn refusals_say_why() {
+    let said = Refusal { number: 3, place: 12 }.to_string();
+    assert_eq!(said, "3: cell 12 is neither a pitch nor a rest");
+}

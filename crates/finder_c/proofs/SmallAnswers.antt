@@ -1,0 +1,135 @@
+-- Every answer of the finder is small: a refused place is below 65,536, and no page has more pairs than looks. The idea: a
+-- row names a place only after the rows that bound the length of what it goes through, and each start costs a look at
+-- least. Assumes nothing.
+use mathlib.Core.Path.{_≡_, refl}
+use mathlib.Core.Bool.{Bool, true, false, cond}
+use mathlib.Core.List.{List, [], _∷_}
+use Prim.Native.Nat.{ℕ, zero, suc, _+_, _*_, _≤_, _<_, zero-le}
+use native.Mathlib.Nat.{mul-le-mul}
+use native.Mathlib.Omega.{arith}
+use lib.IntN.{ℤ}
+use lib.ListN.{length, getD, drop}
+use Rattle.theory.specs.Pages.{pageHits, pageLooks, from}
+use Rattle.theory.proofs.Lists.{some-first}
+use Rattle.score.specs.declared.refusals.Refusal.{Refusal}
+use Rattle.score.specs.Score.{columnsIn, scoreOf, pitch, columnAt, onward}
+use Rattle.score.specs.Refusals.{Row, judge, row1, row2, row3, row6, row7, badCell, badSet}
+use Rattle.score.specs.Sets.{sets as setsOf}
+use Rattle.score.specs.declared.sets.Preparation.the-variants.{Prepared, Refused as Away}
+use Rattle.score.specs.Preparing.{Filled, prepared}
+use Rattle.score.proofs.Columns.{columns-whole}
+use Rattle.search.specs.declared.way.Way.{Way}
+use Rattle.search.specs.declared.bookmark.Bookmark.{Bookmark}
+use Rattle.search.specs.Starts.{Place, key, starts, looked, hit, looks}
+use Rattle.search.specs.Bookmarks.{keyOf}
+use Rattle.search.specs.Refusals.{row4, row5, row8, row9, row10, badNote}
+use Rattle.search.specs.Candidates.{themeTable}
+use Rattle.search.specs.Page.{Leaf, QuickLeaf, leaf, plainPage, quickPage, quickStarts}
+use Rattle.search.specs.Asking.{plainRows, quickRows}
+use Rattle.search.proofs.Rows.{row1-clear, row2-clear, row4-clear, row6-clear, pageRows}
+use Rattle.search.proofs.PlainCall.{plainRefused, plainLeaf}
+use Rattle.search.proofs.QuickCall.{quickRefused, quickLeaf}
+use Rattle.finder_c.specs.Small.{SmallPlace, SmallPreparation, SmallPage}
+
+-- ---- rows
+
+-- each row that applies after those that do not names a small place, and after all rows X
+abbrev SmallRows : (X : Type 0) → List Row → Type 0
+SmallRows X [] = X
+SmallRows X (r ∷ rows) = (r .applies ≡ true → SmallPlace (r .given)) × (r .applies ≡ false → SmallRows X rows)
+
+judge-small : {A : Type 0} (P : A → Type 0) (refused : Refusal → A) (accepted : A) → ((r : Refusal) → SmallPlace r → P (refused r)) → (rows : List Row)
+    → SmallRows (P accepted) rows → P (judge rows refused accepted)
+judge-small P refused accepted f [] s = s
+judge-small P refused accepted f (r ∷ rows) s = step (r .applies) refl (λ e. judge-small P refused accepted f rows (s .1 e))
+  where
+    step : (b : Bool) → r .applies ≡ b → (r .applies ≡ false → P (judge rows refused accepted)) → P (cond b (refused (r .given)) (judge rows refused accepted))
+    step true e more = f (r .given) (s .0 e)
+    step false e more = more e
+
+-- a row that names no place
+nowhere : {number : ℕ} → SmallPlace (record { number = number; place = 0 })
+nowhere = record { place = omega arith }
+
+-- ---- rows that name one
+
+cells-few : (cells : List ℕ) (h : ℕ) → row1 h .applies ≡ false → row2 cells h .applies ≡ false → length cells ≤ 32768
+cells-few cells h a b =
+    let one = row1-clear h .0 a in
+    let two = row2-clear cells h .0 b in
+    omega (arith, columns-whole cells h (two .0 .0), mul-le-mul {n₁ = columnsIn cells h} {m₁ = h} {n₂ = 2048} {m₂ = 16} (two .1) (one .1))
+
+score-small : (X : Type 0) (cells : List ℕ) (h : ℕ) (rows : List Row) → (row2 cells h .applies ≡ false → SmallRows X rows)
+    → SmallRows X (row1 h ∷ row2 cells h ∷ row3 cells ∷ rows)
+score-small X cells h rows more = (
+  λ e. nowhere,
+  λ a. (λ e. nowhere, λ b. (λ e. record { place = omega (arith, some-first badCell cells e, cells-few cells h a b) }, λ d. more b)),
+)
+
+theme-small : (X : Type 0) (theme : List ℕ) (rows : List Row) → (2 ≤ length theme → SmallRows X rows) → SmallRows X (row4 theme ∷ row5 theme ∷ rows)
+theme-small X theme rows more = (
+  λ e. nowhere,
+  λ a. (λ e. record { place = omega (arith, some-first badNote theme e, row4-clear theme .0 a .1) }, λ d. more (row4-clear theme .0 a .0)),
+)
+
+sets-small : (X : Type 0) (cells : List ℕ) (h : ℕ) (sets : List ℕ) (rows : List Row) → row2 cells h .applies ≡ false → SmallRows X rows
+    → SmallRows X (row6 cells h sets ∷ row7 sets ∷ rows)
+sets-small X cells h sets rows b more = (
+  λ e. nowhere,
+  λ a. (λ e. record { place = omega (arith, some-first badSet sets e, row6-clear cells h sets .0 a, row2-clear cells h .0 b .1) }, λ d. more),
+)
+
+-- ---- a page: each pair costs a look at least
+
+page-pays : {A : Type 0} (hit : A → Bool) (looks : A → ℕ) → ((x : A) → 1 ≤ looks x) → (r : ℕ) (xs : List A)
+    → length (pageHits hit r xs) ≤ pageLooks hit looks r xs
+page-pays hit looks pays zero xs = zero-le
+page-pays hit looks pays (suc r) [] = zero-le
+page-pays hit looks pays (suc r) (x ∷ xs) = step (hit x) (page-pays hit looks pays r xs) (page-pays hit looks pays (suc r) xs)
+  where
+    step : (b : Bool) → length (pageHits hit r xs) ≤ pageLooks hit looks r xs → length (pageHits hit (suc r) xs) ≤ pageLooks hit looks (suc r) xs
+        → length (cond b (x ∷ pageHits hit r xs) (pageHits hit (suc r) xs)) ≤ looks x + cond b (pageLooks hit looks r xs) (pageLooks hit looks (suc r) xs)
+    step true p q = omega (arith, p, pays x)
+    step false p q = omega (arith, q)
+
+looks-some : (way : Way) (score : List (List ℕ)) (theme : List ℕ) → 2 ≤ length theme → (s : Place) → 1 ≤ looks way score theme s
+unfolding looks
+looks-some way score [] m s = absurd (omega arith)
+looks-some way score (p ∷ []) m s = absurd (omega arith)
+looks-some way score (p ∷ q ∷ theme) m s = omega arith
+
+-- ---- the calls
+
+pub prepared-small : (cells : List ℕ) (h : ℕ) (sets : List ℕ) → SmallPreparation (prepared cells h sets .answer)
+prepared-small cells h sets =
+    judge-small (λ (f : Filled). SmallPreparation (f .answer)) (λ r. record { answer = Away r; sets = sets })
+    (record { answer = Prepared; sets = setsOf (scoreOf cells h) }) (λ r s. s) (row1 h ∷ row2 cells h ∷ row3 cells ∷ row6 cells h sets ∷ [])
+    (score-small _ cells h (row6 cells h sets ∷ []) (λ b. (λ e. nowhere, λ d. tt {0})))
+
+module _ (cells : List ℕ) (h : ℕ) (theme : List ℕ) (way : Way) (b : Bookmark) (reached : List Place) (columns : List ℕ) (shifts : List ℤ) where
+  -- the rows of the room and of the bookmark, and then the page
+  page-small : 2 ≤ length theme
+      → SmallRows (SmallPage (leaf way (scoreOf cells h) theme reached b columns shifts .answer)) (pageRows way (columnsIn cells h) b columns shifts)
+  page-small m = (
+    λ e. nowhere,
+    λ a. (λ e. nowhere, λ d. record { written = page-pays (hit way (scoreOf cells h) theme) (looks way (scoreOf cells h) theme) (looks-some way (scoreOf cells h) theme m) (length columns) (from key (keyOf way b) reached) }),
+  )
+
+module _ (cells : List ℕ) (h : ℕ) (theme : List ℕ) (way : Way) (b : Bookmark) where
+  pub plain-small : (columns : List ℕ) (shifts : List ℤ) → SmallPage (plainPage cells h theme way b columns shifts .answer)
+  unfolding plainPage
+  plain-small columns shifts =
+      let page = pageRows way (columnsIn cells h) b columns shifts in
+      judge-small (λ (l : Leaf). SmallPage (l .answer)) (plainRefused cells h theme way b columns shifts) (plainLeaf cells h theme way b columns shifts) (λ r s. s) (plainRows cells h theme way b columns shifts)
+      (score-small _ cells h (row4 theme ∷ row5 theme ∷ page) (λ e. theme-small _ theme page (page-small cells h theme way b (starts way (scoreOf cells h) theme) columns shifts)))
+
+  pub quick-small : (sets table columns : List ℕ) (shifts : List ℤ) → SmallPage (quickPage cells h theme way b sets table columns shifts .leaf .answer)
+  unfolding quickPage
+  quick-small sets table columns shifts =
+      let page = pageRows way (columnsIn cells h) b columns shifts in
+      let lent = row6 cells h sets ∷ row7 sets ∷ row8 (length table) ∷ page in
+      let reached = quickStarts way (scoreOf cells h) theme (themeTable theme) sets in
+      judge-small (λ (q : QuickLeaf). SmallPage (q .leaf .answer)) (quickRefused cells h theme way b sets table columns shifts)
+      (quickLeaf cells h theme way b sets table columns shifts) (λ r s. s) (quickRows cells h theme way b sets table columns shifts)
+      (score-small _ cells h (row4 theme ∷ row5 theme ∷ lent)
+      (λ e. theme-small _ theme lent (λ m. sets-small _ cells h sets (row8 (length table) ∷ page) e (λ t. nowhere, λ t. page-small cells h theme way b reached columns shifts m))))

@@ -1,0 +1,4 @@
+-- The calls for other languages: how answers are told in numbers, and what each call leaves.
+pub mod Numbers
+pub mod Small
+pub mod Calls

@@ -1,0 +1,23 @@
+-- What makes an answer's numbers fit 64 bits: a refused place is below 65,536, and no page has more pairs than looks. Asked
+-- by inner functions only; that every answer of the finder is so is a law of this crate. Assumes nothing.
+use Prim.Native.Nat.{ℕ, _≤_, _<_}
+use Rattle.score.specs.declared.refusals.Refusal.{Refusal}
+use Rattle.score.specs.declared.sets.Preparation.{Preparation}
+use Rattle.score.specs.declared.sets.Preparation.the-variants as preparation
+use Rattle.search.specs.declared.page.Turn.{Turn}
+use Rattle.search.specs.declared.page.Page.{Page}
+use Rattle.search.specs.declared.page.Page.the-variants.{Turned, Refused}
+
+pub record SmallPlace (r : Refusal) : Type 0 where
+  pub place : r .place < 65536
+
+pub record SmallTurn (t : Turn) : Type 0 where
+  pub written : t .written ≤ t .looks
+
+abbrev pub SmallPreparation : Preparation → Type 0
+SmallPreparation preparation.Prepared = Unit {0}
+SmallPreparation (preparation.Refused r) = SmallPlace r
+
+abbrev pub SmallPage : Page → Type 0
+SmallPage (Turned t) = SmallTurn t
+SmallPage (Refused r) = SmallPlace r

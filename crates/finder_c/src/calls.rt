@@ -1,0 +1,87 @@
+// The exported calls. A slice is a pointer and a length in C, and a number is itself. No call asks anything of its caller
+// but that the memory lent is there: what cannot be answered is refused, and a refused call writes nothing.
+
+use crate::told::no_call;
+use crate::told::told_page;
+use crate::told::told_preparation;
+use crate::told::way_of;
+use score::Column;
+use score::prepare;
+use search::Bookmark;
+use search::plain_page;
+use search::quick_page;
+ghost use Rattle.finder_c.specs.Calls.{CPrepares, CPlainPages, CQuickPages};
+
+// Fills all n - 1 sets of the score: 0. Otherwise the refusal, 1, 2, 3 or 6, as number + 256 * place.
+#[no_mangle]
+pub extern "C" fn finder_prepare(cells: &[u8], tracks: usize, sets: &mut [u16]) -> i64
+    ensures { λ r. ⌜ CPrepares (now (cells .entry)) tracks (now (sets .entry)) r (now (sets .exit)) ⌝ }
+{
+    told_preparation(prepare(cells, tracks, sets))
+}
+
+// A plain page from the bookmark (column, shift): 0, and the five numbers of the page in `answer`. Otherwise the refusal,
+// 1 to 5, 9 or 10, as number + 256 * place; or 255 where `way` is no way or `answer` is not 5 long.
+#[no_mangle]
+pub extern "C" fn finder_plain_page(
+    cells: &[u8],
+    tracks: usize,
+    theme: &[u8],
+    way: u8,
+    column: u16,
+    shift: i16,
+    columns: &mut [u16],
+    shifts: &mut [i16],
+    answer: &mut [i64],
+) -> i64
+    ensures { λ r. ⌜ CPlainPages (now (cells .entry)) tracks (now (theme .entry)) way column shift (now (columns .entry)) (now (shifts .entry)) (now (answer .entry)) r (now (columns .exit)) (now (shifts .exit)) (now (answer .exit)) ⌝ }
+{
+    if no_call(way, answer.len()) {
+        return 255;
+    }
+    let bookmark = Bookmark {
+        column: Column(column),
+        shift,
+    };
+    let p = plain_page(cells, tracks, theme, way_of(way), bookmark, columns, shifts);
+    told_page(p, answer)
+}
+
+// A quick page: the same, with the prepared sets of the score; the theme's table is left in `table`. Refuses 1 to 10.
+#[no_mangle]
+pub extern "C" fn finder_quick_page(
+    cells: &[u8],
+    tracks: usize,
+    theme: &[u8],
+    way: u8,
+    column: u16,
+    shift: i16,
+    sets: &[u16],
+    table: &mut [u32],
+    columns: &mut [u16],
+    shifts: &mut [i16],
+    answer: &mut [i64],
+) -> i64
+    ensures { λ r. ⌜ CQuickPages (now (cells .entry)) tracks (now (theme .entry)) way column shift (now (sets .entry)) (now (table .entry)) (now (columns .entry)) (now (shifts .entry)) (now (answer .entry)) r (now (table .exit)) (now (columns .exit)) (now (shifts .exit)) (now (answer .exit)) ⌝ }
+{
+    if no_call(way, answer.len()) {
+        return 255;
+    }
+    let bookmark = Bookmark {
+        column: Column(column),
+        shift,
+    };
+    let asked = way_of(way);
+    let p = quick_page(
+        cells,
+        tracks,
+        theme,
+        asked,
+        bookmark,
+        sets,
+        table,
+        columns,
+        shifts,
+    );
+    told_page(p, answer)
+}

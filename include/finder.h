@@ -1,0 +1,89 @@
+/* finder.h: where does a tune stand in a score?
+ *
+ * Link with libfinder_c.a: bindings/native-lib builds it for the processor at hand; on x86-64 so does
+ * `rt staticlib finder_c`, which writes target/staticlib/libfinder_c.a. The library calls nothing, not even the C
+ * library: it allocates nothing, keeps nothing between calls and may be called from several threads at once, each with
+ * buffers of its own.
+ *
+ * A score is `cells`, column after column, `tracks` cells a column, one per track. A cell 0 to 127 is a MIDI pitch and
+ * 255 is a rest. There are 1 to 16 tracks and n = 1 to 2,048 columns, numbered from 1. A theme is 2 to 32 pitches.
+ *
+ * A pair (column, shift) says that the theme stands at that column with that shift: each note moved by the shift (score
+ * minus theme) is in its column, whichever track has it.
+ *   way 0, exact:  shifts -127 to 127.
+ *   way 1, octave: shifts 0 to 11, octaves ignored.
+ * Pairs are listed by rising column, then by rising shift.
+ *
+ * A page call writes the first pairs at or after its bookmark (column, shift), as many as the buffers have places. The
+ * first bookmark is (1, -127), for octave (1, 0). `answer` has 5 places:
+ *   answer[0]  pairs written, from the front of `columns` and `shifts`; places behind them keep their contents
+ *   answer[1]  next bookmark: column
+ *   answer[2]  next bookmark: shift
+ *   answer[3]  1 where the list is finished, otherwise 0
+ *   answer[4]  looks: how many notes after a theme's first were looked for
+ * A page that is full is never finished: the next one, from the next bookmark, may be empty.
+ *
+ * Each call returns 0 where it is accepted, and otherwise the refusal, number + 256 * place, the lowest number that
+ * applies; place is 0 where none is named. A refused call writes nothing.
+ *    1  tracks is 0 or over 16
+ *    2  cells aren't a multiple of tracks, or there are 0 or over 2,048 columns
+ *    3  a cell is 128 to 254; place: the first such cell, from 0
+ *    4  theme under 2 or over 32 notes
+ *    5  a theme byte over 127; place: the first such, from 0
+ *    6  sets aren't n - 1 long
+ *    7  a lent set is over 4095; place: the first such, from 0
+ *    8  table isn't 4,096 long
+ *    9  columns is empty, or columns and shifts differ in length
+ *   10  bookmark column 0 or over n + 1, or shift outside -127..128 (octave 0..12)
+ *  255  way is neither 0 nor 1, or answer isn't 5 long
+ *
+ * What the caller owes: each pointer has its length's elements behind it (of an empty buffer it is not read), they are
+ * aligned for their type, no buffer that is written (sets in finder_prepare; table, columns, shifts, answer) overlaps
+ * another buffer of the call, and no other thread writes any of them meanwhile. All else is answered or refused. Lengths
+ * count elements, not bytes.
+ */
+#ifndef FINDER_H
+#define FINDER_H
+
+#include <stddef.h>
+#include <stdint.h>
+
+#ifdef __cplusplus
+extern "C" {
+#endif
+
+enum {
+    FINDER_EXACT = 0,         /* ways */
+    FINDER_OCTAVE = 1,
+    FINDER_NO_CALL = 255,     /* the result where the call itself is none */
+    FINDER_TABLE_LEN = 4096,  /* places of a theme table */
+    FINDER_ANSWER_LEN = 5
+};
+
+/* The refusal in a result other than 0 and 255. */
+#define FINDER_NUMBER(result) ((int)((result) % 256))
+#define FINDER_PLACE(result) ((size_t)((result) / 256))
+
+/* Fills all n - 1 interval sets of the score. Refuses 1, 2, 3, 6. */
+int64_t finder_prepare(const uint8_t *cells, size_t cells_len, size_t tracks, uint16_t *sets, size_t sets_len);
+
+/* A page of the plain search. Refuses 1 to 5, 9, 10. */
+int64_t finder_plain_page(const uint8_t *cells, size_t cells_len, size_t tracks,
+                          const uint8_t *theme, size_t theme_len, uint8_t way, uint16_t column, int16_t shift,
+                          uint16_t *columns, size_t columns_len, int16_t *shifts, size_t shifts_len,
+                          int64_t *answer, size_t answer_len);
+
+/* A page of the quick search: with the score's own sets the same pairs, with no more looks. With sets of another score,
+ * the pairs at the columns that those sets make candidates. The theme's table is left in `table`, whatever it held.
+ * Refuses 1 to 10. */
+int64_t finder_quick_page(const uint8_t *cells, size_t cells_len, size_t tracks,
+                          const uint8_t *theme, size_t theme_len, uint8_t way, uint16_t column, int16_t shift,
+                          const uint16_t *sets, size_t sets_len, uint32_t *table, size_t table_len,
+                          uint16_t *columns, size_t columns_len, int16_t *shifts, size_t shifts_len,
+                          int64_t *answer, size_t answer_len);
+
+#ifdef __cplusplus
+}
+#endif
+
+#endif
