@@ -25,7 +25,7 @@ use Rattle.search.specs.Bookmarks.{keyOf}
 use Rattle.search.specs.Refusals.{row4, row5, row8, row9, row10, badNote}
 use Rattle.search.specs.Candidates.{themeTable}
 use Rattle.search.specs.Page.{Leaf, QuickLeaf, leaf, plainPage, quickPage, quickStarts}
-use Rattle.search.specs.Asking.{plainRows, quickRows}
+use Rattle.search.specs.Refusals.{plainRows, quickRows}
 use Rattle.search.proofs.Rows.{row1-clear, row2-clear, row4-clear, row6-clear, pageRows}
 use Rattle.search.proofs.PlainCall.{plainRefused, plainLeaf}
 use Rattle.search.proofs.QuickCall.{quickRefused, quickLeaf}
