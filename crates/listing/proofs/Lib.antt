@@ -1,0 +1,4 @@
+-- Laws of this crate's definitions.
+mod Places
+mod Standing
+mod Filling

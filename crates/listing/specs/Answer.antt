@@ -1,0 +1,43 @@
+-- The whole output for every input: `output`. Assumes nothing.
+use mathlib.Core.List.{List, [], _∷_, _++_, map}
+use Prim.Native.Nat.{ℕ}
+use lib.ListN.{length}
+use Rattle.theory.specs.Lists.{join}
+use Rattle.score.specs.Sets.{sets}
+use Rattle.search.specs.declared.bookmark.Pair.{Pair}
+use Rattle.search.specs.Pairs.{pairs}
+use Rattle.search.specs.Demands.{candidateLooks}
+use Rattle.listing.specs.Text.{hitWord, endWord, refusedWord, decimal, signed, field}
+use Rattle.listing.specs.Request.{Request, Meaning, right, faulty, meaning}
+
+-- `hit`, the column and the shift
+unfoldable pub hitLine : Pair → List ℕ
+hitLine pair = hitWord ++ field (decimal (pair .column .0)) ++ field (signed (pair .shift)) ++ (10 ∷ [])
+
+-- `end`, the number of pairs and the looks
+unfoldable pub endLine : (found looks : ℕ) → List ℕ
+endLine found looks = endWord ++ field (decimal found) ++ field (decimal looks) ++ (10 ∷ [])
+
+-- `refused`, 11 and the line
+unfoldable pub refusedLine : (line : ℕ) → List ℕ
+refusedLine line = refusedWord ++ field (decimal 11) ++ field (decimal line) ++ (10 ∷ [])
+
+-- the pairs of the request, and the looks of all its pages: the quick way, with the score's own sets
+abbrev pub pairsOf : Request → List Pair
+pairsOf q = pairs (q .theme .way) (q .columns) (q .theme .notes)
+
+abbrev pub looksOf : Request → ℕ
+looksOf q = candidateLooks (q .theme .way) (q .columns) (q .theme .notes) (sets (q .columns))
+
+abbrev pub hitLines : List Pair → List ℕ
+hitLines list = join (map hitLine list)
+
+unfoldable pub listed : Request → List ℕ
+listed q = hitLines (pairsOf q) ++ endLine (length (pairsOf q)) (looksOf q)
+
+abbrev pub answer : Meaning → List ℕ
+answer (right q) = listed q
+answer (faulty line) = refusedLine line
+
+unfoldable pub output : List ℕ → List ℕ
+output input = answer (meaning input)

@@ -1,0 +1,56 @@
+-- What the inner functions promise: what is seen and read at a place of the input, as what `Reading` reads of the text from
+-- there on; and what is written at a place of the output. Assumes nothing.
+use mathlib.Core.Path.{_≡_}
+use mathlib.Core.List.{List, [], _∷_}
+use Prim.Native.Nat.{ℕ, _+_, _*_, _≤_, _<_}
+use lib.ListN.{length, take, drop}
+use lib.Seq.{sets as stored}
+use Rattle.theory.specs.Lists.{join}
+use Rattle.listing.specs.declared.numbers.Numeral.{Numeral}
+use Rattle.listing.specs.declared.numbers.Numeral.the-variants as Number
+use Rattle.listing.specs.declared.lines.Line.{Line}
+use Rattle.listing.specs.declared.lines.Line.the-variants as Line
+use Rattle.listing.specs.Reading.{Read, got, bad, front}
+
+-- the byte at a place; one that is not 0 stands within the text
+pub record Seen (text : List ℕ) (at b : ℕ) : Type 0 where
+  pub byte : b ≡ front (drop at text)
+  pub within : 1 ≤ b → at < length text
+
+-- ---- what an answer stands for: the value, and what is left of the text
+
+abbrev pub numberRead : (text : List ℕ) → Numeral → Read ℕ
+numberRead text (Number.At value next) = got value (drop next text)
+numberRead text Number.Bad = bad
+
+abbrev pub numberNext : Numeral → ℕ
+numberNext (Number.At value next) = next
+numberNext Number.Bad = 0
+
+abbrev pub numberValue : Numeral → ℕ
+numberValue (Number.At value next) = value
+numberValue Number.Bad = 0
+
+pub record Numbered (text : List ℕ) (r : Numeral) (want : Read ℕ) : Type 0 where
+  pub is : numberRead text r ≡ want
+  pub within : numberNext r ≤ length text
+
+abbrev pub lineRead : (text : List ℕ) (base : ℕ) (into : List ℕ) → Line → Read (List ℕ)
+lineRead text base into (Line.Read count next) = got (take count (drop base into)) (drop next text)
+lineRead text base into Line.Bad = bad
+
+abbrev pub lineNext : Line → ℕ
+lineNext (Line.Read count next) = next
+lineNext Line.Bad = 0
+
+abbrev pub lineCount : Line → ℕ
+lineCount (Line.Read count next) = count
+lineCount Line.Bad = 0
+
+-- the values of a line stand in the buffer from the base on, and what stood before them still does
+pub record Filled (text : List ℕ) (limit base : ℕ) (into : List ℕ) (r : Line) (into′ : List ℕ) (want : Read (List ℕ)) : Type 0 where
+  pub is : lineRead text base into′ r ≡ want
+  pub within : lineNext r ≤ length text
+  pub few : lineCount r ≤ limit
+  pub long : length into′ ≡ length into
+  pub before : take base into′ ≡ take base into
