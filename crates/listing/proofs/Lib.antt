@@ -2,3 +2,5 @@
 mod Places
 mod Standing
 mod Filling
+mod Lining
+mod Scoring
