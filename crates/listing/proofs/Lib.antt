@@ -4,3 +4,7 @@ mod Standing
 mod Filling
 mod Lining
 mod Scoring
+mod Puts
+mod Decimals
+mod Sizes
+mod Hitting

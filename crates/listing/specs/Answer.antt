@@ -1,26 +1,31 @@
 -- The whole output for every input: `output`. Assumes nothing.
 use mathlib.Core.List.{List, [], _∷_, _++_, map}
 use Prim.Native.Nat.{ℕ}
+use lib.IntN.{ℤ}
 use lib.ListN.{length}
 use Rattle.theory.specs.Lists.{join}
+use Rattle.score.specs.Score.{columnAt}
 use Rattle.score.specs.Sets.{sets}
 use Rattle.search.specs.declared.bookmark.Pair.{Pair}
 use Rattle.search.specs.Pairs.{pairs}
 use Rattle.search.specs.Demands.{candidateLooks}
-use Rattle.listing.specs.Text.{hitWord, endWord, refusedWord, decimal, signed, field}
+use Rattle.listing.specs.Text.{hitWord, endWord, refusedWord, decimal, signed, line}
 use Rattle.listing.specs.Request.{Request, Meaning, right, faulty, meaning}
+
+abbrev pub pairOf : (column : ℕ) (shift : ℤ) → Pair
+pairOf column shift = record { column = columnAt column; shift = shift }
 
 -- `hit`, the column and the shift
 unfoldable pub hitLine : Pair → List ℕ
-hitLine pair = hitWord ++ field (decimal (pair .column .0)) ++ field (signed (pair .shift)) ++ (10 ∷ [])
+hitLine pair = line hitWord (decimal (pair .column .0)) (signed (pair .shift))
 
 -- `end`, the number of pairs and the looks
 unfoldable pub endLine : (found looks : ℕ) → List ℕ
-endLine found looks = endWord ++ field (decimal found) ++ field (decimal looks) ++ (10 ∷ [])
+endLine found looks = line endWord (decimal found) (decimal looks)
 
 -- `refused`, 11 and the line
-unfoldable pub refusedLine : (line : ℕ) → List ℕ
-refusedLine line = refusedWord ++ field (decimal 11) ++ field (decimal line) ++ (10 ∷ [])
+unfoldable pub refusedLine : (n : ℕ) → List ℕ
+refusedLine n = line refusedWord (decimal 11) (decimal n)
 
 -- the pairs of the request, and the looks of all its pages: the quick way, with the score's own sets
 abbrev pub pairsOf : Request → List Pair
@@ -37,7 +42,7 @@ listed q = hitLines (pairsOf q) ++ endLine (length (pairsOf q)) (looksOf q)
 
 abbrev pub answer : Meaning → List ℕ
 answer (right q) = listed q
-answer (faulty line) = refusedLine line
+answer (faulty n) = refusedLine n
 
 unfoldable pub output : List ℕ → List ℕ
 output input = answer (meaning input)

@@ -10,7 +10,7 @@ use lib.ListN.{length}
 use Rattle.theory.specs.Lists.{join}
 use Rattle.search.specs.declared.way.Way.{Way}
 use Rattle.search.specs.declared.way.Way.the-variants.{Exact, Octave}
-use Rattle.listing.specs.Text.{themeWord, exactWord, octaveWord, chordWord, decimal, field}
+use Rattle.listing.specs.Text.{themeWord, exactWord, octaveWord, chordWord, decimal}
 use Rattle.listing.specs.Reading.{Read, got, bad, Theme, themeLine, chordLine}
 
 -- a theme and a score, column after column
@@ -62,7 +62,7 @@ cellText value = cond (eqb value 255) (45 ∷ []) (decimal value)
 
 unfoldable pub fieldsText : List ℕ → List ℕ
 fieldsText [] = 10 ∷ []
-fieldsText (value ∷ values) = 9 ∷ cellText value ++ fieldsText values
+fieldsText (value ∷ values) = 9 ∷ (cellText value ++ fieldsText values)
 
 abbrev pub wayWord : Way → List ℕ
 wayWord Exact = exactWord
@@ -72,7 +72,7 @@ abbrev pub chordText : List ℕ → List ℕ
 chordText column = chordWord ++ fieldsText column
 
 abbrev pub themeText : Theme → List ℕ
-themeText theme = themeWord ++ wayWord (theme .way) ++ fieldsText (theme .notes)
+themeText theme = themeWord ++ (wayWord (theme .way) ++ fieldsText (theme .notes))
 
 unfoldable pub textOf : Request → List ℕ
 textOf q = themeText (q .theme) ++ join (map chordText (q .columns))

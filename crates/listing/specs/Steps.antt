@@ -96,3 +96,10 @@ pub record Scored (r : ChordLines) (cells : List ℕ) (want : Chords) : Type 0 w
   pub is : chordsRead cells r ≡ want
   pub few : chordsCount r ≤ 2048
   pub narrow : chordsTracks r ≤ 16
+
+-- ---- what is written at a place of the output
+
+-- these bytes from the place on, and the place behind them
+pub record Wrote (bytes : List ℕ) (at : ℕ) (out : List ℕ) (r : ℕ) (out′ : List ℕ) : Type 0 where
+  pub place : r ≡ at + length bytes
+  pub is : out′ ≡ stored out at bytes

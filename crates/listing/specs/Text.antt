@@ -45,3 +45,7 @@ signed (negsuc n) = 45 ∷ decimal (suc n)
 -- a field, with the tab before it
 abbrev pub field : List ℕ → List ℕ
 field text = 9 ∷ text
+
+-- a line of a word and two fields
+abbrev pub line : (word first second : List ℕ) → List ℕ
+line word first second = word ++ (field first ++ (field second ++ (10 ∷ [])))

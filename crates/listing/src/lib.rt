@@ -6,3 +6,4 @@
 mod bytes;
 mod lines;
 mod numbers;
+mod writing;
