@@ -8,3 +8,6 @@ mod Puts
 mod Decimals
 mod Sizes
 mod Hitting
+mod Widths
+mod Searching
+mod Paged

@@ -6,11 +6,12 @@ use lib.ListN.{length}
 use Rattle.theory.specs.Lists.{join}
 use Rattle.score.specs.Score.{columnAt}
 use Rattle.score.specs.Sets.{sets}
+use Rattle.search.specs.declared.way.Way.{Way}
 use Rattle.search.specs.declared.bookmark.Pair.{Pair}
 use Rattle.search.specs.Pairs.{pairs}
 use Rattle.search.specs.Demands.{candidateLooks}
 use Rattle.listing.specs.Text.{hitWord, endWord, refusedWord, decimal, signed, line}
-use Rattle.listing.specs.Request.{Request, Meaning, right, faulty, meaning}
+use Rattle.listing.specs.Request.{Meaning, right, faulty, meaning}
 
 abbrev pub pairOf : (column : ℕ) (shift : ℤ) → Pair
 pairOf column shift = record { column = columnAt column; shift = shift }
@@ -27,21 +28,16 @@ endLine found looks = line endWord (decimal found) (decimal looks)
 unfoldable pub refusedLine : (n : ℕ) → List ℕ
 refusedLine n = line refusedWord (decimal 11) (decimal n)
 
--- the pairs of the request, and the looks of all its pages: the quick way, with the score's own sets
-abbrev pub pairsOf : Request → List Pair
-pairsOf q = pairs (q .theme .way) (q .columns) (q .theme .notes)
-
-abbrev pub looksOf : Request → ℕ
-looksOf q = candidateLooks (q .theme .way) (q .columns) (q .theme .notes) (sets (q .columns))
-
 abbrev pub hitLines : List Pair → List ℕ
 hitLines list = join (map hitLine list)
 
-unfoldable pub listed : Request → List ℕ
-listed q = hitLines (pairsOf q) ++ endLine (length (pairsOf q)) (looksOf q)
+-- a line for each pair, and the line behind them with the looks of all pages: the quick way, with the score's own sets
+unfoldable pub linesOf : Way → (score : List (List ℕ)) (theme : List ℕ) → List ℕ
+linesOf way score theme =
+    hitLines (pairs way score theme) ++ endLine (length (pairs way score theme)) (candidateLooks way score theme (sets score))
 
 abbrev pub answer : Meaning → List ℕ
-answer (right q) = listed q
+answer (right q) = linesOf (q .theme .way) (q .columns) (q .theme .notes)
 answer (faulty n) = refusedLine n
 
 unfoldable pub output : List ℕ → List ℕ

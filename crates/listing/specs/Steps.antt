@@ -3,6 +3,7 @@
 use mathlib.Core.Path.{_≡_}
 use mathlib.Core.List.{List, [], _∷_}
 use Prim.Native.Nat.{ℕ, _+_, _*_, _≤_, _<_}
+use lib.IntN.{ℤ}
 use lib.ListN.{length, take, drop}
 use lib.Seq.{sets as stored}
 use Rattle.theory.specs.Lists.{join}
@@ -14,7 +15,9 @@ use Rattle.listing.specs.declared.lines.ThemeLine.{ThemeLine}
 use Rattle.listing.specs.declared.lines.ThemeLine.the-variants as ThemeLine
 use Rattle.listing.specs.declared.lines.ChordLines.{ChordLines}
 use Rattle.listing.specs.declared.lines.ChordLines.the-variants as ChordLines
-use Rattle.score.specs.Score.{cut}
+use Rattle.score.specs.Score.{cut, scoreOf}
+use Rattle.score.specs.Sets.{sets as setsOf}
+use Rattle.search.specs.Asking.{Accepted}
 use Rattle.listing.specs.Reading.{Read, got, bad, front, Theme}
 use Rattle.listing.specs.Request.{Chords, all, fault}
 
@@ -103,3 +106,12 @@ pub record Scored (r : ChordLines) (cells : List ℕ) (want : Chords) : Type 0 w
 pub record Wrote (bytes : List ℕ) (at : ℕ) (out : List ℕ) (r : ℕ) (out′ : List ℕ) : Type 0 where
   pub place : r ≡ at + length bytes
   pub is : out′ ≡ stored out at bytes
+
+-- what the pages are written of: an accepted score and theme, the score's own sets, and room for all
+pub record Asked (cells : List ℕ) (h : ℕ) (theme sets table columns : List ℕ) (shifts : List ℤ) (out : List ℕ) : Type 0 where
+  pub accepted : Accepted cells h theme
+  pub own : sets ≡ setsOf (scoreOf cells h)
+  pub table-long : length table ≡ 4096
+  pub columns-long : length columns ≡ 256
+  pub shifts-long : length shifts ≡ 256
+  pub room : 458546 ≤ length out

@@ -6,4 +6,5 @@
 mod bytes;
 mod lines;
 mod numbers;
+mod pages;
 mod writing;
