@@ -11,3 +11,7 @@ mod Hitting
 mod Widths
 mod Searching
 mod Paged
+mod Rights
+mod RightLines
+mod Acceptance
+mod Meanings

@@ -50,7 +50,7 @@ drop-take (suc h) zero a = let e : 0 - suc h ≡ 0 = omega arith in rw e
 drop-take (suc h) (suc k) [] = sym (take-nil (suc k - suc h))
 drop-take (suc h) (suc k) (x ∷ a) = rw suc-sub-suc (drop-take h k a)
 
-cut-take : (n h k : ℕ) (a : List ℕ) → n * h ≤ k → cut n h (take k a) ≡ cut n h a
+pub cut-take : (n h k : ℕ) (a : List ℕ) → n * h ≤ k → cut n h (take k a) ≡ cut n h a
 cut-take zero h k a l = refl
 cut-take (suc n) h k a l =
     let e : suc n * h ≡ n * h + h = suc-mul n h in

@@ -3,4 +3,5 @@ pub mod Text
 pub mod Reading
 pub mod Request
 pub mod Answer
+pub mod Listing
 pub mod Steps

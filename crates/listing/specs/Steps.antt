@@ -2,7 +2,7 @@
 -- there on; and what is written at a place of the output. Assumes nothing.
 use mathlib.Core.Path.{_≡_}
 use mathlib.Core.List.{List, [], _∷_}
-use Prim.Native.Nat.{ℕ, _+_, _*_, _≤_, _<_}
+use Prim.Native.Nat.{ℕ, _+_, _-_, _≤_, _<_}
 use lib.IntN.{ℤ}
 use lib.ListN.{length, take, drop}
 use lib.Seq.{sets as stored}
@@ -15,7 +15,7 @@ use Rattle.listing.specs.declared.lines.ThemeLine.{ThemeLine}
 use Rattle.listing.specs.declared.lines.ThemeLine.the-variants as ThemeLine
 use Rattle.listing.specs.declared.lines.ChordLines.{ChordLines}
 use Rattle.listing.specs.declared.lines.ChordLines.the-variants as ChordLines
-use Rattle.score.specs.Score.{cut, scoreOf}
+use Rattle.score.specs.Score.{cut, columnsIn, scoreOf}
 use Rattle.score.specs.Sets.{sets as setsOf}
 use Rattle.search.specs.Asking.{Accepted}
 use Rattle.listing.specs.Reading.{Read, got, bad, front, Theme}
@@ -106,6 +106,25 @@ pub record Scored (r : ChordLines) (cells : List ℕ) (want : Chords) : Type 0 w
 pub record Wrote (bytes : List ℕ) (at : ℕ) (out : List ℕ) (r : ℕ) (out′ : List ℕ) : Type 0 where
   pub place : r ≡ at + length bytes
   pub is : out′ ≡ stored out at bytes
+
+-- what a search is given: an accepted score and theme, and room for all
+pub record Sought (cells : List ℕ) (h n : ℕ) (theme sets table columns : List ℕ) (shifts : List ℤ) (out : List ℕ) : Type 0 where
+  pub accepted : Accepted cells h theme
+  pub columns-are : n ≡ columnsIn cells h
+  pub sets-room : length sets ≡ 2047
+  pub table-long : length table ≡ 4096
+  pub columns-long : length columns ≡ 256
+  pub shifts-long : length shifts ≡ 256
+  pub room : 458546 ≤ length out
+
+-- the same with just the room that its sets take
+pub record Lent (cells : List ℕ) (h : ℕ) (theme sets table columns : List ℕ) (shifts : List ℤ) (out : List ℕ) : Type 0 where
+  pub accepted : Accepted cells h theme
+  pub sets-long : length sets ≡ columnsIn cells h - 1
+  pub table-long : length table ≡ 4096
+  pub columns-long : length columns ≡ 256
+  pub shifts-long : length shifts ≡ 256
+  pub room : 458546 ≤ length out
 
 -- what the pages are written of: an accepted score and theme, the score's own sets, and room for all
 pub record Asked (cells : List ℕ) (h : ℕ) (theme sets table columns : List ℕ) (shifts : List ℤ) (out : List ℕ) : Type 0 where
