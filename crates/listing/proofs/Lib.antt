@@ -15,3 +15,5 @@ mod Rights
 mod RightLines
 mod Acceptance
 mod Meanings
+pub mod Outputs
+pub mod Listings

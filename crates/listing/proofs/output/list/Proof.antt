@@ -1,3 +1,5 @@
+-- `listing::output::list` meets its contract. Assumes nothing.
+use Rattle.listing.proofs.Listings.{list-short, list-written}
 use borrow.Author.Needs.{needs}
 use Rattle.listing.proofs.output.list.Statement.{statement}
 use Rattle.listing.proofs.output.list.Tie as tie
@@ -7,7 +9,7 @@ use Rattle.listing.proofs.output.answer.Reads as answer-reads
 
 -- src/output.rt:28:9
 returns : tie.Need-returns
-returns c = ?
+returns c = list-short _ _ (c .if1 .taken)
 
 -- src/output.rt:32:36
 slice-aggregate-answer : tie.Need-slice-aggregate-answer
@@ -27,7 +29,7 @@ same-length c = search needs
 
 -- src/output.rt:24:1
 returns-2 : tie.Need-returns-2
-returns-2 c = ?
+returns-2 c = list-written _ _ (c .before .before .before .before .before .before .before .before .if1 .left) (c .before .before .before .before .answer .ensures)
 
 pub list-spec : {M : Type 1} → statement M
 list-spec =
