@@ -1,0 +1,19 @@
+-- Laws of this crate's definitions.
+mod Places
+mod Standing
+mod Filling
+mod Lining
+mod Scoring
+mod Puts
+mod Decimals
+mod Sizes
+mod Hitting
+mod Widths
+mod Searching
+mod Paged
+mod Rights
+mod RightLines
+mod Acceptance
+mod Meanings
+pub mod Outputs
+pub mod Listings

@@ -1,0 +1,35 @@
+-- The call's promise, from what was written; and it leaves one answer and one state of the buffer (`lists-unique`). The sizes:
+-- a buffer of `room` bytes suffices for every input (`output-few` of `Outputs`). Assumes nothing.
+use mathlib.Core.Path.{_≡_, refl, sym, ap, _∙_}
+use mathlib.Core.List.{List, []}
+use Prim.Native.Nat.{ℕ, _+_, _≤_, _<_}
+use native.Mathlib.Nat.{zero-add}
+use native.Mathlib.Omega.{arith}
+use lib.ListN.{length}
+use borrow.Author.Tests.{lt-ltb, le-ltb}
+use Rattle.theory.specs.Lists.{over}
+use Rattle.theory.proofs.Lists.{over-sets}
+use Rattle.listing.specs.declared.output.Listing.{Listing}
+use Rattle.listing.specs.declared.output.Listing.the-variants.{Written, Short}
+use Rattle.listing.specs.Answer.{output}
+use Rattle.listing.specs.Listing.{room, Lists}
+use Rattle.listing.specs.Steps.{Wrote}
+use Rattle.listing.proofs.Outputs.{output-few}
+
+module _ (input out : List ℕ) where
+  pub list-short : length out < room → Lists input out Short out
+  list-short h = record { answers = rw (lt-ltb (length out) 458546 h); writes = rw (lt-ltb (length out) 458546 h) }
+
+  module _ (h : room ≤ length out) {r : ℕ} {out′ : List ℕ} (w : Wrote (output input) 0 out r out′) where
+    count : r ≡ length (output input)
+    count = w .place ∙ zero-add (length (output input))
+
+    pub list-written : Lists input out (Written r) out′
+    list-written =
+        record {
+          answers = rw (le-ltb (length out) 458546 h) (ap Written count);
+          writes = rw (le-ltb (length out) 458546 h) (w .is ∙ over-sets out [] 0 (output input) 0 refl (omega (arith, output-few input)));
+        }
+
+  pub lists-unique : {a b : Listing} {s t : List ℕ} → Lists input out a s → Lists input out b t → (a ≡ b) × (s ≡ t)
+  lists-unique p q = (p .answers ∙ sym (q .answers), p .writes ∙ sym (q .writes))

@@ -1,0 +1,63 @@
+-- `listing::pages::prepared_pages` meets its contract. Assumes nothing.
+use Rattle.listing.proofs.Acceptance.{prepared-own}
+use borrow.Author.Needs.{needs}
+use Rattle.listing.proofs.pages.prepared_pages.Statement.{statement}
+use Rattle.listing.proofs.pages.prepared_pages.Tie as tie
+use Rattle.listing.proofs.pages.prepared_pages.Reads as reads
+use Rattle.listing.proofs.pages.prepared_pages.Lts as lts
+use Rattle.listing.proofs.pages.pages.Reads as pages-reads
+use Rattle.score.proofs.prepare.Reads as prepare-reads
+
+-- src/pages.rt:80:5
+prepare-requires : tie.Need-prepare-requires
+prepare-requires c κs = search needs
+
+-- src/pages.rt:81:5
+pages-requires : tie.Need-pages-requires
+pages-requires c κs =
+    let a = c .before .before .before .before .before .before .before .before .before .before .before .before .before .before .before in
+    record {
+      accepted = a .pre .accepted;
+      own = prepared-own _ _ _ (a .pre .accepted) (a .pre .sets-long) (c .before .before .before .before .before .before .before .prepare .ensures);
+      table-long = a .pre .table-long;
+      columns-long = a .pre .columns-long;
+      shifts-long = a .pre .shifts-long;
+      room = a .pre .room;
+    }
+
+-- src/pages.rt:66:1
+same-length : tie.Need-same-length
+same-length c = search needs
+
+-- src/pages.rt:66:1
+same-length-2 : tie.Need-same-length-2
+same-length-2 c = search needs
+
+-- src/pages.rt:66:1
+same-length-3 : tie.Need-same-length-3
+same-length-3 c = search needs
+
+-- src/pages.rt:66:1
+same-length-4 : tie.Need-same-length-4
+same-length-4 c = search needs
+
+-- src/pages.rt:66:1
+same-length-5 : tie.Need-same-length-5
+same-length-5 c = search needs
+
+-- src/pages.rt:66:1
+returns : tie.Need-returns
+returns c = search needs
+
+pub prepared-pages-spec : {M : Type 1} → statement M
+prepared-pages-spec =
+    tie.close
+    (tie.spec
+    prepare-requires
+    pages-requires
+    same-length
+    same-length-2
+    same-length-3
+    same-length-4
+    same-length-5
+    returns)

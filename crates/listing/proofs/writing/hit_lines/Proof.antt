@@ -1,0 +1,96 @@
+-- `listing::writing::hit_lines` meets its contract. The invariant: the lines so far are written, and those of the pairs left
+-- are to come. The measure is how many are left. Assumes nothing.
+use borrow.Author.Needs.{needs}
+use Prim.Native.Nat.{_-_}
+use mathlib.Core.Path.{sym, subst}
+use Prim.Native.Nat.{_+_, _≤_}
+use native.Mathlib.Omega.{arith}
+use lib.IntN.{ℤ}
+use lib.ListN.{length, getD}
+use mir.Syntax.{w16}
+use mir.Facts.{toZ-ofZ}
+use Rattle.listing.specs.Answer.{pairOf, hitLine}
+use Rattle.listing.specs.Steps.{Wrote}
+use Rattle.listing.proofs.Hitting.{Hitting, hitting-start, hitting-room, hitting-more, hitting-end, hitting-length}
+use Rattle.listing.proofs.writing.hit_lines.Statement.{statement}
+use Rattle.listing.proofs.writing.hit_lines.Tie as tie
+use Rattle.listing.proofs.writing.hit_lines.Reads as reads
+use Rattle.listing.proofs.writing.hit_lines.Lts as lts
+use Rattle.listing.proofs.writing.hit_line.Reads as hit-line-reads
+
+abbrev Inv-loop : tie.InvT-loop
+Inv-loop out₀ from columns shifts found at₀ i₀ out at i = Hitting columns shifts found from out₀ out at i
+
+abbrev μ-loop : tie.MeasureT-loop
+μ-loop out₀ from columns shifts found at₀ i₀ out at i = found - i
+
+-- src/writing.rt:102:5
+loop-holds : tie.Need-loop-holds Inv-loop μ-loop
+loop-holds c = hitting-start _ _ _ _ _ (c .before .before .pre .1)
+
+-- src/writing.rt:103:32
+mul-hit-line : tie.Need-mul-hit-line Inv-loop μ-loop
+mul-hit-line c = search needs
+
+-- src/writing.rt:103:32
+shared-slice-read-hit-line : tie.Need-shared-slice-read-hit-line Inv-loop μ-loop
+shared-slice-read-hit-line c = search needs
+
+-- src/writing.rt:103:44
+mul-hit-line-2 : tie.Need-mul-hit-line-2 Inv-loop μ-loop
+mul-hit-line-2 c = search needs
+
+-- src/writing.rt:103:44
+shared-slice-copy-out-hit-line : tie.Need-shared-slice-copy-out-hit-line Inv-loop μ-loop
+shared-slice-copy-out-hit-line c = search needs
+
+-- src/writing.rt:103:9
+hit-line-requires : tie.Need-hit-line-requires Inv-loop μ-loop
+hit-line-requires c κs =
+    let l = c .before .before .before in
+    let a = l .before .before .before .before in
+    subst (λ (z : ℤ). l .before .loop .at + length (hitLine (pairOf (getD (a .args .columns .now) (l .before .loop .i) 0) z)) ≤ length (l .before .loop .out)) (sym (toZ-ofZ {w = w16} (record { sfits = c .hit-line-arg2 .given })))
+    (hitting-room _ _ _ _ _ (l .before .loop .inv) (l .loop-test .taken) (a .pre .0 .0) (a .pre .0 .1))
+
+-- src/writing.rt:104:9
+add-i : tie.Need-add-i Inv-loop μ-loop
+add-i c = search needs
+
+-- src/writing.rt:102:5
+loop-less : tie.Need-loop-less Inv-loop μ-loop
+loop-less c = search needs
+
+-- src/writing.rt:102:5
+loop-again : tie.Need-loop-again Inv-loop μ-loop
+loop-again c =
+    let w = c .before .before in
+    let l = w .before .before .before .before in
+    let a = l .before .before .before .before in
+    hitting-more _ _ _ _ _ (l .before .loop .inv) (l .loop-test .taken) (a .pre .0 .0) (a .pre .0 .1)
+    (subst (λ (z : ℤ). Wrote (hitLine (pairOf (getD (a .args .columns .now) (l .before .loop .i) 0) z)) (l .before .loop .at) (l .before .loop .out) (w .hit-line .result) (w .hit-line .last .0)) (toZ-ofZ {w = w16} (record { sfits = w .before .hit-line-arg2 .given })) (w .hit-line .ensures))
+
+-- src/writing.rt:89:1
+same-length : tie.Need-same-length Inv-loop μ-loop
+same-length c = hitting-length _ _ _ _ _ (c .before .loop .inv)
+
+-- src/writing.rt:89:1
+returns : tie.Need-returns Inv-loop μ-loop
+returns c = hitting-end _ _ _ _ _ (c .before .loop .inv) (c .loop-test .left)
+
+pub hit-lines-spec : {M : Type 1} → statement M
+hit-lines-spec =
+    tie.close
+    (tie.spec
+    Inv-loop
+    μ-loop
+    loop-holds
+    mul-hit-line
+    shared-slice-read-hit-line
+    mul-hit-line-2
+    shared-slice-copy-out-hit-line
+    hit-line-requires
+    add-i
+    loop-less
+    loop-again
+    same-length
+    returns)

@@ -1,0 +1,53 @@
+// The call: from an input to its whole output.
+
+use crate::lines::ChordLines;
+use crate::lines::ThemeLine;
+use crate::lines::chord_lines;
+use crate::lines::theme_line;
+use crate::pages::search_lines;
+use crate::writing::refused_line;
+ghost use mathlib.Core.Path.{_≡_};
+ghost use Prim.Native.Nat.{_≤_};
+ghost use lib.ListN.{length};
+ghost use Rattle.listing.specs.Answer.{output};
+ghost use Rattle.listing.specs.Listing.{Lists};
+ghost use Rattle.listing.specs.Steps.{Wrote};
+
+// How many bytes were written; or the output buffer is too short for some inputs, and nothing was written.
+pub enum Listing {
+    Written(usize),
+    Short,
+}
+
+// Writes the whole output of the input from the front of a buffer of 458,546 bytes or more, and keeps what stands behind it.
+// No input needs more room. A shorter buffer is turned away, whatever the input is.
+pub fn list(input: &[u8], out: &mut [u8]) -> Listing
+    ensures { λ r. ⌜ Lists (now (input .entry)) (now (out .entry)) r (now (out .exit)) ⌝ }
+{
+    if out.len() < 458546 {
+        return Listing::Short;
+    }
+    let mut theme = [0u8; 32];
+    let mut cells = [0u8; 32768];
+    Listing::Written(answer(input, &mut theme, &mut cells, out))
+}
+
+// The output, by way of room for a theme and for cells.
+fn answer(input: &[u8], theme: &mut [u8], cells: &mut [u8], out: &mut [u8]) -> usize
+    requires { ⌜ (length (now theme) ≡ 32) × (length (now cells) ≡ 32768) × (458546 ≤ length (now out)) ⌝ }
+    ensures { λ r. ⌜ Wrote (output (now (input .entry))) 0 (now (out .entry)) r (now (out .exit)) ⌝ }
+{
+    match theme_line(input, theme) {
+        ThemeLine::Read { way, count, next } => match chord_lines(input, next, cells) {
+            ChordLines::Read { tracks, columns } => {
+                if columns == 0 {
+                    return refused_line(out, 0, 2);
+                }
+                let long = columns * tracks;
+                search_lines(&cells[0..long], tracks, columns, &theme[0..count], way, out)
+            }
+            ChordLines::Faulty(before) => refused_line(out, 0, before as u32 + 2),
+        },
+        ThemeLine::Bad => refused_line(out, 0, 1),
+    }
+}
