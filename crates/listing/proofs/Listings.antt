@@ -1,12 +1,14 @@
 -- The call's promise, from what was written; and it leaves one answer and one state of the buffer (`lists-unique`). The sizes:
 -- a buffer of `room` bytes suffices for every input (`output-few` of `Outputs`). Assumes nothing.
 use mathlib.Core.Path.{_≡_, refl, sym, ap, _∙_}
+use mathlib.Core.Bool.{Bool, true, false, cond}
 use mathlib.Core.List.{List, []}
 use Prim.Native.Nat.{ℕ, _+_, _≤_, _<_}
 use native.Mathlib.Nat.{zero-add}
 use native.Mathlib.Omega.{arith}
+use lib.Dec.{ltb}
 use lib.ListN.{length}
-use borrow.Author.Tests.{lt-ltb, le-ltb}
+use borrow.Author.Tests.{lt-ltb, le-ltb, ltb-false}
 use Rattle.theory.specs.Lists.{over}
 use Rattle.theory.proofs.Lists.{over-sets}
 use Rattle.listing.specs.declared.output.Listing.{Listing}
@@ -33,3 +35,17 @@ module _ (input out : List ℕ) where
 
   pub lists-unique : {a b : Listing} {s t : List ℕ} → Lists input out a s → Lists input out b t → (a ≡ b) × (s ≡ t)
   lists-unique p q = (p .answers ∙ sym (q .answers), p .writes ∙ sym (q .writes))
+
+-- what was written lies within the buffer
+short-written : {n : ℕ} → Short ≡ Written n → ⊥
+short-written e = let z : _≡_ {A = ℕ} 0 1 = cc in omega arith
+
+written-same : {m n : ℕ} → Written m ≡ Written n → m ≡ n
+written-same e = cc
+
+pub lists-within : {input out out′ : List ℕ} {answer : Listing} {n : ℕ} → Lists input out answer out′ → answer ≡ Written n → n ≤ length out
+lists-within {input} {out} {out′} {answer} {n} p e = step (ltb (length out) 458546) refl (sym (p .answers) ∙ e)
+  where
+    step : (t : Bool) → ltb (length out) 458546 ≡ t → cond t Short (Written (length (output input))) ≡ Written n → n ≤ length out
+    step true q k = absurd (short-written k)
+    step false q k = let s : length (output input) ≡ n = written-same k in omega (arith, output-few input, ltb-false (length out) 458546 q)
