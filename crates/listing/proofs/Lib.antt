@@ -15,5 +15,8 @@ mod Rights
 mod RightLines
 mod Acceptance
 mod Meanings
+pub mod Texts
 pub mod Outputs
 pub mod Listings
+pub mod Behind
+pub mod Answers

@@ -59,7 +59,7 @@ fn fields(text: &[u8], from: usize, rests: bool, limit: usize, into: &mut [u8], 
             }
         }
     }
-    Line::Bad
+    Line::Bad // no line feed
 }
 
 // The chord line at the place, into the cells from a base on: as many cells as h, or any number where h is 0.
