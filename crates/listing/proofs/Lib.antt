@@ -20,3 +20,4 @@ pub mod Outputs
 pub mod Listings
 pub mod Behind
 pub mod Answers
+pub mod Worked

@@ -6,7 +6,7 @@
 mod bytes;
 mod lines;
 mod numbers;
-mod output;
+pub mod output;
 mod pages;
 mod writing;
 
