@@ -18,15 +18,15 @@ use Rattle.score.specs.Sets.{sets as setsOf}
 use Rattle.score.specs.declared.sets.Preparation.the-variants.{Prepared, Refused as Away}
 use Rattle.score.specs.Preparing.{Filled, prepared}
 use Rattle.score.proofs.Columns.{columns-whole}
-use Rattle.search.specs.declared.way.Way.{Way}
-use Rattle.search.specs.declared.bookmark.Bookmark.{Bookmark}
+use Rattle.asking.specs.declared.way.Way.{Way}
+use Rattle.asking.specs.declared.bookmark.Bookmark.{Bookmark}
 use Rattle.search.specs.Starts.{Place, key, starts, looked, hit, looks}
-use Rattle.search.specs.Bookmarks.{keyOf}
-use Rattle.search.specs.Refusals.{row4, row5, row8, row9, row10, badNote}
+use Rattle.asking.specs.Bookmarks.{keyOf}
+use Rattle.asking.specs.Refusals.{row4, row5, row8, row9, row10, badNote}
 use Rattle.search.specs.Candidates.{themeTable}
 use Rattle.search.specs.Page.{Leaf, QuickLeaf, leaf, plainPage, quickPage, quickStarts}
-use Rattle.search.specs.Refusals.{plainRows, quickRows}
-use Rattle.search.proofs.Rows.{row1-clear, row2-clear, row4-clear, row6-clear, pageRows}
+use Rattle.asking.specs.Refusals.{plainRows, quickRows}
+use Rattle.asking.proofs.Rows.{row1-clear, row2-clear, row4-clear, row6-clear, pageRows}
 use Rattle.search.proofs.PlainCall.{plainRefused, plainLeaf}
 use Rattle.search.proofs.QuickCall.{quickRefused, quickLeaf}
 use Rattle.finder_c.specs.Small.{SmallPlace, SmallPreparation, SmallPage}

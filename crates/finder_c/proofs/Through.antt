@@ -10,7 +10,7 @@ use lib.ListN.{length}
 use borrow.Author.Tests.{eqb-true, not-false}
 use Rattle.score.specs.declared.sets.Preparation.{Preparation}
 use Rattle.score.specs.Preparing.{Prepares, prepared}
-use Rattle.search.specs.declared.way.Way.{Way}
+use Rattle.asking.specs.declared.way.Way.{Way}
 use Rattle.search.specs.declared.page.Page.{Page}
 use Rattle.search.specs.Page.{PlainPages, QuickPages, plainPage, quickPage}
 use Rattle.finder_c.specs.Numbers.{wayOf, noCall, preparationNumber, pageNumber, pageNumbers}

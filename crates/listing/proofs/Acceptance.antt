@@ -18,10 +18,10 @@ use Rattle.score.specs.Score.{cut, columnsIn, scoreOf}
 use Rattle.score.specs.Sets.{sets as setsOf}
 use Rattle.score.specs.Refusals.{badCell, row1, row2, row3, row6}
 use Rattle.score.specs.Preparing.{Filled, prepared, Prepares}
-use Rattle.search.specs.Refusals.{badNote}
-use Rattle.search.specs.Asking.{Accepted}
+use Rattle.asking.specs.Refusals.{badNote}
+use Rattle.asking.specs.Asking.{Accepted}
 use Rattle.score.proofs.Judged.{judge-clear}
-use Rattle.search.proofs.Rows.{accepted-clear, row6-clear}
+use Rattle.asking.proofs.Rows.{accepted-clear, row6-clear}
 use Rattle.listing.specs.Reading.{Theme}
 use Rattle.listing.specs.Request.{Each, IsNote, IsCell, IsChord, IsTheme}
 use Rattle.listing.proofs.Scoring.{cut-take}

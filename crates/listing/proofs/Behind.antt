@@ -10,8 +10,8 @@ use native.Mathlib.Nat.{mul-suc}
 use native.Mathlib.Omega.{arith}
 use lib.Dec.{eqb}
 use lib.ListN.{length, take, drop, length-append, take-append-drop}
-use Rattle.search.specs.declared.way.Way.{Way}
-use Rattle.search.specs.declared.way.Way.the-variants.{Exact, Octave}
+use Rattle.asking.specs.declared.way.Way.{Way}
+use Rattle.asking.specs.declared.way.Way.the-variants.{Exact, Octave}
 use Rattle.listing.specs.Text.{themeWord, chordWord}
 use Rattle.listing.specs.Reading.{Read, got, bad, chordLine, Theme, themeLine}
 use Rattle.listing.specs.Request.{Chords, all, fault, above, onChord, chords, withChords, withTheme, meaning, wayWord, cellText, fieldsText, chordText, themeText, Each, IsNote, IsCell, IsTheme}

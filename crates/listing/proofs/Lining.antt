@@ -9,8 +9,8 @@ use lib.Dec.{leb, eqb}
 use lib.ListN.{length, take, drop, length-drop}
 use lib.Seq.{drop-drop, length-take-le}
 use borrow.Author.Tests.{le-leb, lt-leb}
-use Rattle.search.specs.declared.way.Way.{Way}
-use Rattle.search.specs.declared.way.Way.the-variants.{Exact, Octave}
+use Rattle.asking.specs.declared.way.Way.{Way}
+use Rattle.asking.specs.declared.way.Way.the-variants.{Exact, Octave}
 use Rattle.listing.specs.declared.lines.Line.{Line}
 use Rattle.listing.specs.declared.lines.Line.the-variants.{Read as Lined, Bad}
 use Rattle.listing.specs.declared.lines.ThemeLine.{ThemeLine}

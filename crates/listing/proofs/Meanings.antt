@@ -7,8 +7,8 @@ use native.Mathlib.Omega.{arith}
 use lib.ListN.{length, take, drop}
 use lib.Seq.{length-take-le}
 use Rattle.score.specs.Score.{cut, columnsIn, scoreOf}
-use Rattle.search.specs.declared.way.Way.{Way}
-use Rattle.search.specs.Asking.{Accepted}
+use Rattle.asking.specs.declared.way.Way.{Way}
+use Rattle.asking.specs.Asking.{Accepted}
 use Rattle.listing.specs.declared.lines.ThemeLine.{ThemeLine}
 use Rattle.listing.specs.declared.lines.ThemeLine.the-variants as ThemeLine
 use Rattle.listing.specs.declared.lines.ChordLines.{ChordLines}

@@ -12,7 +12,7 @@ use lib.ListN.{length, take, drop, length-append}
 use lib.Seq.{take-at, drop-at}
 use Rattle.theory.specs.Lists.{join}
 use Rattle.score.specs.Score.{cut, scoreOf}
-use Rattle.search.specs.Asking.{Accepted}
+use Rattle.asking.specs.Asking.{Accepted}
 use Rattle.listing.specs.Reading.{Read, got, bad, Theme, chordLine, themeLine}
 use Rattle.listing.specs.Request.{
   Request,

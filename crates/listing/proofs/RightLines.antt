@@ -11,8 +11,8 @@ use lib.ListN.{length, drop}
 use lib.Seq.{drop-drop}
 use borrow.Author.Tests.{leb-true, eqb-true, eqb-false}
 use Rattle.theory.specs.Lists.{join}
-use Rattle.search.specs.declared.way.Way.{Way}
-use Rattle.search.specs.declared.way.Way.the-variants.{Exact, Octave}
+use Rattle.asking.specs.declared.way.Way.{Way}
+use Rattle.asking.specs.declared.way.Way.the-variants.{Exact, Octave}
 use Rattle.listing.specs.Text.{themeWord, exactWord, octaveWord, chordWord}
 use Rattle.listing.specs.Reading.{Read, got, bad, next, begins, fields, counted, tracksRight, chordLine, Theme, notesOf, themeLine}
 use Rattle.listing.specs.Request.{Chords, all, fault, above, onChord, chords, chordText, themeText, wayWord, fieldsText, Each, IsChord, IsTheme}

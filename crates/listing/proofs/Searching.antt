@@ -19,20 +19,20 @@ use Rattle.theory.proofs.Bookmarks.{from-all}
 use Rattle.score.specs.Score.{columnsIn, scoreOf}
 use Rattle.score.specs.Sets.{sets as setsOf}
 use Rattle.score.proofs.Columns.{score-length, column-le}
-use Rattle.search.specs.declared.way.Way.{Way}
-use Rattle.search.specs.declared.bookmark.Pair.{Pair}
-use Rattle.search.specs.declared.bookmark.Bookmark.{Bookmark}
+use Rattle.asking.specs.declared.way.Way.{Way}
+use Rattle.asking.specs.declared.bookmark.Pair.{Pair}
+use Rattle.asking.specs.declared.bookmark.Bookmark.{Bookmark}
 use Rattle.search.specs.declared.page.Turn.{Turn}
 use Rattle.search.specs.declared.page.Page.{Page}
 use Rattle.search.specs.declared.page.Page.the-variants.{Turned, Refused}
-use Rattle.search.specs.Way.{span}
+use Rattle.asking.specs.Way.{span}
 use Rattle.search.specs.Starts.{Place, key, starts, hit, looks}
 use Rattle.search.specs.Pairs.{pairAt, pairs}
 use Rattle.search.specs.Candidates.{themeTable, candidate}
-use Rattle.search.specs.Bookmarks.{firstBookmark}
+use Rattle.asking.specs.Bookmarks.{firstBookmark}
 use Rattle.search.specs.Page.{Leaf, quickPage, quickStarts, QuickPages}
 use Rattle.search.specs.Reading.{readPairs}
-use Rattle.search.specs.Asking.{Accepted, AcceptedSets}
+use Rattle.asking.specs.Asking.{Accepted, AcceptedSets}
 use Rattle.search.specs.Demands.{candidateLooks, candidatePairs, mostLooks}
 use Rattle.search.proofs.Order.{in-starts}
 use Rattle.search.proofs.LookBound.{starts-le}

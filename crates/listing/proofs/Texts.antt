@@ -10,8 +10,8 @@ use lib.Dec.{leb, ltb, eqb}
 use lib.ListN.{length, drop}
 use borrow.Author.Tests.{le-leb, ltb-true, ltb-false, ne-eqb, eq-eqb}
 use Rattle.theory.specs.Lists.{join}
-use Rattle.search.specs.declared.way.Way.{Way}
-use Rattle.search.specs.declared.way.Way.the-variants.{Exact, Octave}
+use Rattle.asking.specs.declared.way.Way.{Way}
+use Rattle.asking.specs.declared.way.Way.the-variants.{Exact, Octave}
 use Rattle.listing.specs.Text.{decimal}
 use Rattle.listing.specs.Reading.{Read, got, bad, next, front, isDigit, moreDigits, number, cell, fields, tracksRight, chordLine, Theme, themeLine}
 use Rattle.listing.specs.Request.{Request, all, chords, right, withChords, meaning, cellText, fieldsText, chordText, themeText, textOf, Each, IsNote, IsCell, IsChord, IsTheme, Right}

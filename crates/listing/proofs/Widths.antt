@@ -11,10 +11,10 @@ use lib.IntN.{ℤ, pos, negsuc, natAbs, subℕ}
 use lib.ListN.{length, length-append}
 use borrow.Author.Tests.{ltb-true, ltb-false}
 use Rattle.theory.specs.Lists.{join}
-use Rattle.search.specs.declared.way.Way.{Way}
-use Rattle.search.specs.declared.way.Way.the-variants.{Exact, Octave}
-use Rattle.search.specs.declared.bookmark.Pair.{Pair}
-use Rattle.search.specs.Way.{span, shiftOf}
+use Rattle.asking.specs.declared.way.Way.{Way}
+use Rattle.asking.specs.declared.way.Way.the-variants.{Exact, Octave}
+use Rattle.asking.specs.declared.bookmark.Pair.{Pair}
+use Rattle.asking.specs.Way.{span, shiftOf}
 use Rattle.search.specs.Starts.{Place}
 use Rattle.search.specs.Pairs.{pairAt}
 use Rattle.listing.specs.Text.{digits, decimal, signed, line, hitWord, endWord, refusedWord}

@@ -5,8 +5,8 @@ use Prim.Native.Nat.{ℕ}
 use Rattle.theory.specs.Bits.{bit, number as numberOf}
 use Rattle.theory.specs.Register.{step, register}
 use Rattle.score.specs.Sets.{apart, intervalSet}
-use Rattle.search.specs.declared.way.Way.the-variants.{Exact}
-use Rattle.search.specs.Way.{holds}
+use Rattle.asking.specs.declared.way.Way.the-variants.{Exact}
+use Rattle.asking.specs.Way.{holds}
 use Rattle.search.specs.Starts.{hit, looks}
 use Rattle.search.specs.Candidates.{word, themeTable, candidate}
 use Rattle.search.specs.Page.{quickStarts}

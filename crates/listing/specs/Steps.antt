@@ -17,7 +17,7 @@ use Rattle.listing.specs.declared.lines.ChordLines.{ChordLines}
 use Rattle.listing.specs.declared.lines.ChordLines.the-variants as ChordLines
 use Rattle.score.specs.Score.{cut, columnsIn, scoreOf}
 use Rattle.score.specs.Sets.{sets as setsOf}
-use Rattle.search.specs.Asking.{Accepted}
+use Rattle.asking.specs.Asking.{Accepted}
 use Rattle.listing.specs.Reading.{Read, got, bad, front, Theme}
 use Rattle.listing.specs.Request.{Chords, all, fault}
 

@@ -11,7 +11,7 @@ ghost use mathlib.Core.Path.{_≡_};
 ghost use Prim.Native.Nat.{_≤_};
 ghost use lib.ListN.{length};
 ghost use Rattle.score.specs.Score.{columnsIn, scoreOf};
-ghost use Rattle.search.specs.Asking.{Accepted};
+ghost use Rattle.asking.specs.Asking.{Accepted};
 ghost use Rattle.listing.specs.Answer.{linesOf};
 ghost use Rattle.listing.specs.Steps.{Wrote, Sought, Lent, Asked};
 

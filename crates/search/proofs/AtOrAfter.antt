@@ -10,16 +10,16 @@ use lib.Dec.{T, leb, ltb, eqb, ltb→lt}
 use lib.IntN.{ℤ, pos, negsuc}
 use lib.Signed.{leZ, ltZ}
 use borrow.Author.Tests.{le-leb, lt-leb, leb-true, leb-false, ltb-true, ltb-false, eqb-true, eqb-false}
-use Rattle.search.specs.declared.way.Way.{Way}
-use Rattle.search.specs.declared.bookmark.Bookmark.{Bookmark}
-use Rattle.search.specs.Way.{shiftOf, codeOf}
+use Rattle.asking.specs.declared.way.Way.{Way}
+use Rattle.asking.specs.declared.bookmark.Bookmark.{Bookmark}
+use Rattle.asking.specs.Way.{shiftOf, codeOf}
 use Rattle.search.specs.Starts.{Place, key}
 use Rattle.search.specs.Pairs.{pairAt}
-use Rattle.search.specs.Bookmarks.{keyOf}
+use Rattle.asking.specs.Bookmarks.{keyOf}
 use Rattle.search.specs.OnePage.{atOrAfter}
-use Rattle.search.specs.Asking.{InRange}
+use Rattle.asking.specs.Asking.{InRange}
 use Rattle.search.proofs.Order.{span-lt}
-use Rattle.search.proofs.Shifts.{shift-code, shift-rises, code-le}
+use Rattle.asking.proofs.Shifts.{shift-code, shift-rises, code-le}
 use Rattle.search.proofs.Turning.{Found}
 
 not-leb : (a b : ℕ) → leb a b ≡ not (ltb b a)

@@ -29,15 +29,15 @@ use Rattle.theory.proofs.Looks.{sum-hits}
 use Rattle.score.specs.Score.{columnsIn, scoreOf}
 use Rattle.score.specs.Sets.{sets}
 use Rattle.score.proofs.Columns.{score-length, column-le}
-use Rattle.search.specs.declared.way.Way.{Way}
-use Rattle.search.specs.declared.bookmark.Pair.{Pair}
-use Rattle.search.specs.declared.bookmark.Bookmark.{Bookmark}
+use Rattle.asking.specs.declared.way.Way.{Way}
+use Rattle.asking.specs.declared.bookmark.Pair.{Pair}
+use Rattle.asking.specs.declared.bookmark.Bookmark.{Bookmark}
 use Rattle.search.specs.Starts.{Place, starts, hit, looks}
 use Rattle.search.specs.Pairs.{pairAt, pairs}
 use Rattle.search.specs.Candidates.{themeTable, candidate}
-use Rattle.search.specs.Bookmarks.{firstBookmark, keyOf}
+use Rattle.asking.specs.Bookmarks.{firstBookmark, keyOf}
 use Rattle.search.specs.Page.{spent, plainPage, quickPage, quickStarts}
-use Rattle.search.specs.Asking.{Accepted, AcceptedSets, InRange, PlainAsks}
+use Rattle.asking.specs.Asking.{Accepted, AcceptedSets, InRange, PlainAsks}
 use Rattle.search.specs.OnePage.{PageOf}
 use Rattle.search.specs.Demands.{allLooks, candidateLooks, mostLooks, candidatePairs, Lists}
 use Rattle.search.proofs.LookBound.{most-lt, sum-looks-le, sum-looks-none, page-looks-within, reached-page-within}

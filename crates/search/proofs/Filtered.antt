@@ -21,10 +21,10 @@ use Rattle.score.specs.Score.{pitch, pitches, columnAt, onward}
 use Rattle.score.specs.Sets.{interval, sets, Apart}
 use Rattle.score.proofs.Intervals.{interval-lt, interval-from}
 use Rattle.score.proofs.IntervalSets.{set-bit, sets-at, sets-lt}
-use Rattle.search.specs.declared.way.Way.{Way}
-use Rattle.search.specs.declared.way.Way.the-variants.{Exact, Octave}
-use Rattle.search.specs.declared.bookmark.Pair.{Pair}
-use Rattle.search.specs.Way.{holds}
+use Rattle.asking.specs.declared.way.Way.{Way}
+use Rattle.asking.specs.declared.way.Way.the-variants.{Exact, Octave}
+use Rattle.asking.specs.declared.bookmark.Pair.{Pair}
+use Rattle.asking.specs.Way.{holds}
 use Rattle.search.specs.Definition.{note, Stands}
 use Rattle.search.specs.Starts.{Place, starts, hit}
 use Rattle.search.specs.Candidates.{themeInterval, themeTable, candidate}

@@ -1,12 +1,10 @@
--- Laws of this crate's definitions. Places: `Order` (the starts, which they are and that they rise), `Shifts` (codes and
--- shifts), `Holding` (a column and a note), `Notes` (all notes), `LookBound`. The list: `Listed`. Candidates: `Words` (the
--- theme table), `Filtered`. The worked cases: `Worked`. Calls: `Rows` (refusals), `Answers`, `PlainCall`,
+-- Laws of this crate's definitions. Places: `Order` (the starts, which they are and that they rise), `Notes` (all
+-- notes), `LookBound`. The list: `Listed`. Candidates: `Words` (the
+-- theme table), `Filtered`. The worked cases: `Worked`. Calls: `Answers`, `PlainCall`,
 -- `QuickCall`. Pages: `Turning` (bookmarks, and what is read back), `Paging` (one page), `Readings` (page after page),
 -- `Searches` (plain and quick), `Quicker` (quick and plain compared), `AtOrAfter` and `OnePages` (a page, said of pairs).
 -- What all this comes to: `Demands`.
 pub mod Order
-pub mod Shifts
-pub mod Holding
 pub mod Notes
 pub mod LookBound
 pub mod Listed
@@ -14,7 +12,6 @@ pub mod Once
 pub mod Words
 pub mod Filtered
 pub mod Worked
-pub mod Rows
 pub mod Answers
 pub mod PlainCall
 pub mod QuickCall

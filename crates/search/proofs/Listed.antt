@@ -15,15 +15,15 @@ use lib.Seq.{getD-drop}
 use Rattle.theory.specs.Pages.{hits, Rising}
 use Rattle.theory.proofs.Members.{in-hits, hits-in, rising-hits}
 use Rattle.score.specs.Score.{pitch, columnAt, onward}
-use Rattle.search.specs.declared.way.Way.{Way}
-use Rattle.search.specs.declared.bookmark.Pair.{Pair}
-use Rattle.search.specs.Way.{lowest, codeOf}
+use Rattle.asking.specs.declared.way.Way.{Way}
+use Rattle.asking.specs.declared.bookmark.Pair.{Pair}
+use Rattle.asking.specs.Way.{lowest, codeOf}
 use Rattle.search.specs.Definition.{note, Stands}
 use Rattle.search.specs.Starts.{Place, place, key, starts, hit}
 use Rattle.search.specs.Pairs.{pairAt, pairs, Before, Ordered, none, one, more}
 use Rattle.search.proofs.Order.{span-lt, Start, in-starts, starts-in, starts-rising}
-use Rattle.search.proofs.Shifts.{code-shift, shift-rises, shift-above, shift-below, shift-code, code-lt}
-use Rattle.search.proofs.Holding.{holds-true, true-holds}
+use Rattle.asking.proofs.Shifts.{code-shift, shift-rises, shift-above, shift-below, shift-code, code-lt}
+use Rattle.asking.proofs.Holding.{holds-true, true-holds}
 use Rattle.search.proofs.Notes.{Each, hit-each, each-hit}
 
 -- where a pair stands

@@ -16,9 +16,9 @@ use Rattle.theory.proofs.Counts.{hits-some, count-once}
 use Rattle.theory.proofs.Looks.{sum-le, sum-hits, page-from-le}
 use Rattle.score.specs.declared.quantities.Pitch.{Pitch}
 use Rattle.score.specs.Score.{pitch, pitches, columnAt, onward}
-use Rattle.search.specs.declared.way.Way.{Way}
-use Rattle.search.specs.declared.way.Way.the-variants.{Exact, Octave}
-use Rattle.search.specs.Way.{holds}
+use Rattle.asking.specs.declared.way.Way.{Way}
+use Rattle.asking.specs.declared.way.Way.the-variants.{Exact, Octave}
+use Rattle.asking.specs.Way.{holds}
 use Rattle.search.specs.Definition.{note}
 use Rattle.search.specs.Starts.{Place, place, key, codes, startsIn, starts, looked, hit, looks}
 

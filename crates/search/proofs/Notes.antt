@@ -9,8 +9,8 @@ use native.Mathlib.Omega.{arith}
 use lib.ListN.{length, getD, drop}
 use lib.Seq.{getD-drop}
 use Rattle.score.specs.Score.{pitch, columnAt, onward}
-use Rattle.search.specs.declared.way.Way.{Way}
-use Rattle.search.specs.Way.{holds}
+use Rattle.asking.specs.declared.way.Way.{Way}
+use Rattle.asking.specs.Way.{holds}
 use Rattle.search.specs.Definition.{note}
 use Rattle.search.specs.Starts.{Place, follows, hit}
 

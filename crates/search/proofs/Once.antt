@@ -8,7 +8,7 @@ use native.Mathlib.Omega.{arith}
 use lib.Dec.{ltb→lt, lt→ltb}
 use lib.IntN.{ℤ, pos, negsuc}
 use lib.Signed.{_<ℤ_, <ℤ-irrefl}
-use Rattle.search.specs.declared.bookmark.Pair.{Pair}
+use Rattle.asking.specs.declared.bookmark.Pair.{Pair}
 use Rattle.search.specs.Pairs.{Before, Ordered, none, one, more}
 
 less-trans : (a b c : ℤ) → a <ℤ b → b <ℤ c → a <ℤ c

@@ -15,12 +15,12 @@ use Rattle.theory.proofs.Pages.{page-take}
 use Rattle.theory.proofs.Members.{in-hits}
 use Rattle.theory.proofs.Hits.{hits-hits, hits-map, hits-same, from-keys, take-map, last-map, last-some}
 use Rattle.score.specs.Score.{columnAt}
-use Rattle.search.specs.declared.bookmark.Pair.{Pair}
-use Rattle.search.specs.declared.bookmark.Bookmark.{Bookmark}
-use Rattle.search.specs.Way.{lowest, shiftOf}
+use Rattle.asking.specs.declared.bookmark.Pair.{Pair}
+use Rattle.asking.specs.declared.bookmark.Bookmark.{Bookmark}
+use Rattle.asking.specs.Way.{lowest, shiftOf}
 use Rattle.search.specs.Starts.{Place, place, key}
 use Rattle.search.specs.Pairs.{pairAt}
-use Rattle.search.specs.Bookmarks.{keyOf}
+use Rattle.asking.specs.Bookmarks.{keyOf}
 use Rattle.search.specs.Page.{Leaf}
 use Rattle.search.specs.OnePage.{atOrAfter, firstPairs, lastPair, raised, PageOf}
 use Rattle.search.proofs.Turning.{after-place, shift-next}

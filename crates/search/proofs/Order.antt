@@ -16,9 +16,9 @@ use Rattle.theory.specs.Pages.{Rising}
 use Rattle.theory.proofs.Bookmarks.{rising-append, rising-down, Below}
 use Rattle.theory.proofs.Members.{in-count, count-in, rising-count, in-hits, hits-in, rising-hits, rising-map, rising-add, below-in}
 use Rattle.score.specs.declared.quantities.Pitch.{Pitch}
-use Rattle.search.specs.declared.way.Way.{Way}
-use Rattle.search.specs.declared.way.Way.the-variants.{Exact, Octave}
-use Rattle.search.specs.Way.{span, holds}
+use Rattle.asking.specs.declared.way.Way.{Way}
+use Rattle.asking.specs.declared.way.Way.the-variants.{Exact, Octave}
+use Rattle.asking.specs.Way.{span, holds}
 use Rattle.search.specs.Definition.{note}
 use Rattle.search.specs.Starts.{Place, place, key, codes, startsIn, starts}
 

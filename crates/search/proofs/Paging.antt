@@ -13,18 +13,18 @@ use Rattle.theory.proofs.Pages.{page-full}
 use Rattle.theory.proofs.Bookmarks.{from-next}
 use Rattle.theory.proofs.Members.{in-from, in-page, last-in}
 use Rattle.score.specs.Score.{columnAt}
-use Rattle.search.specs.declared.way.Way.{Way}
-use Rattle.search.specs.declared.bookmark.Pair.{Pair}
-use Rattle.search.specs.declared.bookmark.Bookmark.{Bookmark}
+use Rattle.asking.specs.declared.way.Way.{Way}
+use Rattle.asking.specs.declared.bookmark.Pair.{Pair}
+use Rattle.asking.specs.declared.bookmark.Bookmark.{Bookmark}
 use Rattle.search.specs.declared.page.Turn.{Turn}
 use Rattle.search.specs.declared.page.Page.{Page}
 use Rattle.search.specs.declared.page.Page.the-variants.{Turned, Refused}
 use Rattle.search.specs.Starts.{Place, place, key, hit, looks}
 use Rattle.search.specs.Pairs.{pairAt}
-use Rattle.search.specs.Bookmarks.{afterPair, finishedBookmark, keyOf}
+use Rattle.asking.specs.Bookmarks.{afterPair, finishedBookmark, keyOf}
 use Rattle.search.specs.Page.{Leaf, columnsOf, shiftsOf, turn, leaf}
 use Rattle.search.specs.Reading.{readPairs, Turns}
-use Rattle.search.specs.Asking.{InRange}
+use Rattle.asking.specs.Asking.{InRange}
 use Rattle.search.proofs.Turning.{Found, key-next, after-range, finished-range, read-back}
 
 abbrev turnOf : Turn → Page → Turn

@@ -12,17 +12,17 @@ use Rattle.score.specs.declared.refusals.Refusal.{Refusal}
 use Rattle.score.specs.Score.{columnsIn, scoreOf}
 use Rattle.score.specs.Refusals.{badCell, row1, row2}
 use Rattle.score.specs.Refusals.{GivenBy, placeBy}
-use Rattle.search.specs.declared.way.Way.{Way}
-use Rattle.search.specs.declared.bookmark.Bookmark.{Bookmark}
+use Rattle.asking.specs.declared.way.Way.{Way}
+use Rattle.asking.specs.declared.bookmark.Bookmark.{Bookmark}
 use Rattle.search.specs.declared.page.Turn.{Turn}
 use Rattle.search.specs.declared.page.Page.{Page}
 use Rattle.search.specs.declared.page.Page.the-variants.{Turned, Refused}
 use Rattle.search.specs.Starts.{starts}
 use Rattle.search.specs.Page.{Leaf, leaf, plainPage, PlainPages}
-use Rattle.search.specs.Asking.{PlainAsks}
-use Rattle.search.specs.Refusals.{plainRows}
+use Rattle.asking.specs.Asking.{PlainAsks}
+use Rattle.asking.specs.Refusals.{plainRows}
 use Rattle.score.proofs.Judged.{Clear, clear-append, clear-split, judge-clear}
-use Rattle.search.proofs.Rows.{scoreRows, pageRows, accepted-clear, page-clear}
+use Rattle.asking.proofs.Rows.{scoreRows, pageRows, accepted-clear, page-clear}
 use Rattle.search.proofs.Answers.{answer-turned, answer-refused, answer-kept}
 
 module _ (cells : List ℕ) (h : ℕ) (theme : List ℕ) (way : Way) (b : Bookmark) (columns : List ℕ) (shifts : List ℤ) where

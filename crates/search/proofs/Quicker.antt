@@ -21,21 +21,21 @@ use Rattle.score.specs.Sets.{sets}
 use Rattle.score.specs.Refusals.{badSet, judge}
 use Rattle.score.proofs.Columns.{score-length}
 use Rattle.score.proofs.IntervalSets.{sets-length, sets-lt}
-use Rattle.search.specs.declared.way.Way.{Way}
-use Rattle.search.specs.declared.bookmark.Pair.{Pair}
-use Rattle.search.specs.declared.bookmark.Bookmark.{Bookmark}
+use Rattle.asking.specs.declared.way.Way.{Way}
+use Rattle.asking.specs.declared.bookmark.Pair.{Pair}
+use Rattle.asking.specs.declared.bookmark.Bookmark.{Bookmark}
 use Rattle.search.specs.Starts.{Place, place, key, starts, hit, looks}
 use Rattle.search.specs.Pairs.{pairAt, pairs}
 use Rattle.search.specs.Candidates.{themeTable, candidate}
-use Rattle.search.specs.Bookmarks.{afterPair, finishedBookmark, keyOf}
-use Rattle.search.specs.Refusals.{badNote}
+use Rattle.asking.specs.Bookmarks.{afterPair, finishedBookmark, keyOf}
+use Rattle.asking.specs.Refusals.{badNote}
 use Rattle.search.specs.Page.{Leaf, QuickLeaf, columnsOf, shiftsOf, found, leaf, plainPage, quickPage, quickStarts}
-use Rattle.search.specs.Asking.{Accepted, AcceptedSets}
+use Rattle.asking.specs.Asking.{Accepted, AcceptedSets}
 use Rattle.search.specs.Demands.{turned, refused, SamePage, candidatePairs}
 use Rattle.search.proofs.Order.{starts-rising}
 use Rattle.search.proofs.Filtered.{hit-candidate}
 use Rattle.score.proofs.Judged.{clear-append, judge-skip, judge-both}
-use Rattle.search.proofs.Rows.{scoreRows, setsRows, pageRows, accepted-clear, sets-clear}
+use Rattle.asking.proofs.Rows.{scoreRows, setsRows, pageRows, accepted-clear, sets-clear}
 use Rattle.search.proofs.PlainCall.{plainRefused, plainLeaf}
 use Rattle.search.proofs.QuickCall.{quickRefused, quickLeaf}
 

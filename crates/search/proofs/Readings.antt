@@ -16,12 +16,12 @@ use Rattle.theory.proofs.Pages.{rest-less}
 use Rattle.theory.proofs.Lists.{join-map}
 use Rattle.theory.proofs.Bookmarks.{from-all}
 use Rattle.theory.proofs.Readings.{Reading as Walk, last as walk-last, more as walk-more, reading-join, reading-count, reading-looks}
-use Rattle.search.specs.declared.bookmark.Pair.{Pair}
-use Rattle.search.specs.declared.bookmark.Bookmark.{Bookmark}
+use Rattle.asking.specs.declared.bookmark.Pair.{Pair}
+use Rattle.asking.specs.declared.bookmark.Bookmark.{Bookmark}
 use Rattle.search.specs.declared.page.Turn.{Turn}
 use Rattle.search.specs.Starts.{Place, key}
 use Rattle.search.specs.Pairs.{pairAt}
-use Rattle.search.specs.Bookmarks.{firstBookmark}
+use Rattle.asking.specs.Bookmarks.{firstBookmark}
 use Rattle.search.specs.Page.{Leaf}
 use Rattle.search.specs.Reading.{Turns, Reading, last, more}
 use Rattle.search.specs.Demands.{Read, Lists}

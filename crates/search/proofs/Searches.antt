@@ -10,12 +10,12 @@ use lib.ListN.{length}
 use Rattle.theory.proofs.Members.{in-hits, rising-hits}
 use Rattle.score.specs.Score.{scoreOf}
 use Rattle.score.proofs.Columns.{score-length}
-use Rattle.search.specs.declared.way.Way.{Way}
-use Rattle.search.specs.declared.bookmark.Bookmark.{Bookmark}
+use Rattle.asking.specs.declared.way.Way.{Way}
+use Rattle.asking.specs.declared.bookmark.Bookmark.{Bookmark}
 use Rattle.search.specs.Starts.{Place, key, starts}
 use Rattle.search.specs.Candidates.{themeTable, candidate}
 use Rattle.search.specs.Page.{QuickLeaf, plainPage, quickPage, quickStarts}
-use Rattle.search.specs.Asking.{Accepted, AcceptedSets, InRange, PlainAsks}
+use Rattle.asking.specs.Asking.{Accepted, AcceptedSets, InRange, PlainAsks}
 use Rattle.search.proofs.Order.{starts-rising, in-starts}
 use Rattle.search.proofs.PlainCall.{plain-leaf}
 use Rattle.search.proofs.QuickCall.{quick-leaf}

@@ -16,22 +16,22 @@ use Rattle.theory.proofs.Hits.{hits-same, from-keys}
 use Rattle.theory.proofs.Members.{in-hits}
 use Rattle.score.specs.declared.quantities.Pitch.{Pitch}
 use Rattle.score.specs.Score.{columnsIn, scoreOf, onward, pitches}
-use Rattle.search.specs.declared.way.Way.{Way}
-use Rattle.search.specs.declared.way.Way.the-variants.{Exact, Octave}
-use Rattle.search.specs.declared.bookmark.Pair.{Pair}
-use Rattle.search.specs.declared.bookmark.Bookmark.{Bookmark}
+use Rattle.asking.specs.declared.way.Way.{Way}
+use Rattle.asking.specs.declared.way.Way.the-variants.{Exact, Octave}
+use Rattle.asking.specs.declared.bookmark.Pair.{Pair}
+use Rattle.asking.specs.declared.bookmark.Bookmark.{Bookmark}
 use Rattle.search.specs.declared.page.Turn.{Turn}
 use Rattle.search.specs.declared.page.Page.{Page}
 use Rattle.search.specs.declared.page.Page.the-variants.{Turned, Refused}
-use Rattle.search.specs.Way.{Holds, HoldsExact, HoldsOctave, span}
+use Rattle.asking.specs.Way.{Holds, HoldsExact, HoldsOctave, span}
 use Rattle.search.specs.Definition.{Stands, note}
 use Rattle.search.specs.Starts.{Place, key, starts, hit, looks}
 use Rattle.search.specs.Pairs.{pairAt, pairs}
 use Rattle.search.specs.Candidates.{themeTable, candidate}
-use Rattle.search.specs.Bookmarks.{keyOf}
+use Rattle.asking.specs.Bookmarks.{keyOf}
 use Rattle.search.specs.Page.{Leaf, QuickLeaf, plainPage, quickPage, quickStarts, spent}
 use Rattle.search.specs.Reading.{readPairs}
-use Rattle.search.specs.Asking.{Accepted, AcceptedSets, InRange, PlainAsks, QuickAsks}
+use Rattle.asking.specs.Asking.{Accepted, AcceptedSets, InRange, PlainAsks, QuickAsks}
 use Rattle.search.specs.OnePage.{PageOf, firstPairs, atOrAfter}
 use Rattle.search.specs.Demands.{mostLooks, candidatePairs}
 use Rattle.search.proofs.Order.{starts-rising, in-starts}

@@ -13,17 +13,17 @@ use lib.Signed.{ltZ, _≤ℤ_, _<ℤ_, leZ-yes, ltZ-yes, ltZ-no, ≤ℤ-refl, <�
 use borrow.Author.Tests.{lt-ltb}
 use Rattle.theory.proofs.Signed.{sub-below}
 use Rattle.score.specs.Score.{columnAt}
-use Rattle.search.specs.declared.way.Way.{Way}
-use Rattle.search.specs.declared.way.Way.the-variants.{Exact, Octave}
-use Rattle.search.specs.declared.bookmark.Pair.{Pair}
-use Rattle.search.specs.Way.{lowest, highest, span, shiftOf}
+use Rattle.asking.specs.declared.way.Way.{Way}
+use Rattle.asking.specs.declared.way.Way.the-variants.{Exact, Octave}
+use Rattle.asking.specs.declared.bookmark.Pair.{Pair}
+use Rattle.asking.specs.Way.{lowest, highest, span, shiftOf}
 use Rattle.search.specs.Starts.{Place, key}
 use Rattle.search.specs.Pairs.{pairAt}
-use Rattle.search.specs.Bookmarks.{firstBookmark, afterPair, finishedBookmark, keyOf}
+use Rattle.asking.specs.Bookmarks.{firstBookmark, afterPair, finishedBookmark, keyOf}
 use Rattle.search.specs.Page.{columnsOf, shiftsOf}
 use Rattle.search.specs.Reading.{readPairs}
-use Rattle.search.specs.Asking.{InRange}
-use Rattle.search.proofs.Shifts.{code-shift, shift-above, shift-below}
+use Rattle.asking.specs.Asking.{InRange}
+use Rattle.asking.proofs.Shifts.{code-shift, shift-above, shift-below}
 
 -- ---- the shift one higher
 

@@ -5,7 +5,7 @@ use mathlib.Core.List.{map}
 use Rattle.theory.specs.Bits.{bit, number}
 use Rattle.theory.specs.Register.{step, register}
 use Rattle.score.specs.Sets.{apart, intervalSet}
-use Rattle.search.specs.Way.{holds}
+use Rattle.asking.specs.Way.{holds}
 use Rattle.search.specs.Starts.{hit, looks}
 use Rattle.search.specs.Candidates.{word, themeTable, candidate}
 use Rattle.search.specs.Page.{plainPage, quickStarts, quickPage}

@@ -9,14 +9,14 @@ use Rattle.theory.specs.Lists.{count}
 use Rattle.theory.specs.Pages.{hits}
 use Rattle.score.specs.Score.{columnAt, scoreOf}
 use Rattle.score.specs.Sets.{sets as setsOf}
-use Rattle.search.specs.declared.way.Way.{Way}
-use Rattle.search.specs.declared.way.Way.the-variants.{Exact, Octave}
-use Rattle.search.specs.declared.bookmark.Pair.{Pair}
-use Rattle.search.specs.declared.bookmark.Bookmark.{Bookmark}
+use Rattle.asking.specs.declared.way.Way.{Way}
+use Rattle.asking.specs.declared.way.Way.the-variants.{Exact, Octave}
+use Rattle.asking.specs.declared.bookmark.Pair.{Pair}
+use Rattle.asking.specs.declared.bookmark.Bookmark.{Bookmark}
 use Rattle.search.specs.declared.page.Page.{Page}
 use Rattle.search.specs.declared.page.Page.the-variants.{Turned, Refused}
 use Rattle.search.specs.Candidates.{themeTable, candidate}
-use Rattle.search.specs.Bookmarks.{firstBookmark}
+use Rattle.asking.specs.Bookmarks.{firstBookmark}
 use Rattle.search.specs.Page.{Leaf, plainPage, quickPage}
 use Rattle.search.specs.Reading.{readPairs}
 

@@ -1,16 +1,12 @@
 -- From a theme to a page of pairs: in reading order, the pair first. What a word means stands beside how it is computed:
--- `Holds` and `Stands` (in integers) are the published definition, `holds` and `pairs` (by codes) the method; `PageOf` says a page
+-- `Stands` (in integers) is the published definition, `pairs` (by codes) the method; `PageOf` says a page
 -- of the list of pairs, `leaf` how it comes of starts. That meaning and method agree is proved.
-pub mod Way
 pub mod Definition
 pub mod Starts
 pub mod Pairs
 pub mod Candidates
-pub mod Bookmarks
-pub mod Refusals
 pub mod Page
 pub mod Reading
-pub mod Asking
 pub mod OnePage
 pub mod Demands
 pub mod Cases

@@ -12,12 +12,12 @@ use lib.Signed.{leZ}
 use Rattle.theory.specs.Lists.{last}
 use Rattle.theory.specs.Pages.{hits}
 use Rattle.score.specs.Score.{columnAt}
-use Rattle.search.specs.declared.way.Way.{Way}
-use Rattle.search.specs.declared.bookmark.Pair.{Pair}
-use Rattle.search.specs.declared.bookmark.Bookmark.{Bookmark}
+use Rattle.asking.specs.declared.way.Way.{Way}
+use Rattle.asking.specs.declared.bookmark.Pair.{Pair}
+use Rattle.asking.specs.declared.bookmark.Bookmark.{Bookmark}
 use Rattle.search.specs.declared.page.Turn.{Turn}
 use Rattle.search.specs.declared.page.Page.the-variants.{Turned}
-use Rattle.search.specs.Way.{lowest}
+use Rattle.asking.specs.Way.{lowest}
 use Rattle.search.specs.Page.{Leaf}
 use Rattle.search.specs.Reading.{readPairs}
 

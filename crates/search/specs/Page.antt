@@ -11,17 +11,17 @@ use Rattle.theory.specs.Lists.{over, last}
 use Rattle.theory.specs.Pages.{hits, pageHits, pageLooks, from}
 use Rattle.score.specs.Score.{columnAt, columnsIn, scoreOf}
 use Rattle.score.specs.Refusals.{judge}
-use Rattle.search.specs.declared.way.Way.{Way}
-use Rattle.search.specs.declared.bookmark.Bookmark.{Bookmark}
+use Rattle.asking.specs.declared.way.Way.{Way}
+use Rattle.asking.specs.declared.bookmark.Bookmark.{Bookmark}
 use Rattle.search.specs.declared.page.Turn.{Turn}
 use Rattle.search.specs.declared.page.Page.{Page}
 use Rattle.search.specs.declared.page.Page.the-variants.{Turned, Refused}
-use Rattle.search.specs.Way.{shiftOf}
+use Rattle.asking.specs.Way.{shiftOf}
 use Rattle.search.specs.Starts.{Place, place, key, starts, hit, looks}
 use Rattle.search.specs.Pairs.{pairAt}
 use Rattle.search.specs.Candidates.{themeTable, candidate}
-use Rattle.search.specs.Bookmarks.{firstBookmark, afterPair, finishedBookmark, keyOf}
-use Rattle.search.specs.Refusals.{plainRows, quickRows}
+use Rattle.asking.specs.Bookmarks.{firstBookmark, afterPair, finishedBookmark, keyOf}
+use Rattle.asking.specs.Refusals.{plainRows, quickRows}
 
 -- a call's answer, and the two lent buffers of pairs after it
 pub record Leaf : Type 0 where

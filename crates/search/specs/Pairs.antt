@@ -7,9 +7,9 @@ use Prim.Native.Nat.{ℕ, _<_}
 use lib.Signed.{_<ℤ_}
 use Rattle.theory.specs.Pages.{hits}
 use Rattle.score.specs.Score.{columnAt}
-use Rattle.search.specs.declared.way.Way.{Way}
-use Rattle.search.specs.declared.bookmark.Pair.{Pair}
-use Rattle.search.specs.Way.{shiftOf}
+use Rattle.asking.specs.declared.way.Way.{Way}
+use Rattle.asking.specs.declared.bookmark.Pair.{Pair}
+use Rattle.asking.specs.Way.{shiftOf}
 use Rattle.search.specs.Starts.{Place, starts, hit}
 
 -- the pair at a place

@@ -9,8 +9,8 @@ use Rattle.theory.specs.Lists.{count}
 use Rattle.theory.specs.Pages.{hits}
 use Rattle.score.specs.declared.quantities.Pitch.{Pitch}
 use Rattle.score.specs.Score.{pitch, columnAt, onward}
-use Rattle.search.specs.declared.way.Way.{Way}
-use Rattle.search.specs.Way.{span, holds}
+use Rattle.asking.specs.declared.way.Way.{Way}
+use Rattle.asking.specs.Way.{span, holds}
 use Rattle.search.specs.Definition.{note}
 
 -- a (j, c) with the shift's code for c

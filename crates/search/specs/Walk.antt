@@ -13,14 +13,14 @@ use Rattle.theory.specs.Lists.{over, count, first, lower}
 use Rattle.theory.specs.Pages.{pageHits, pageLooks}
 use Rattle.score.specs.declared.quantities.Pitch.{Pitch}
 use Rattle.score.specs.Score.{pitch, columnAt, column, columnsIn}
-use Rattle.search.specs.declared.way.Way.{Way}
-use Rattle.search.specs.declared.way.Way.the-variants.{Exact, Octave}
+use Rattle.asking.specs.declared.way.Way.{Way}
+use Rattle.asking.specs.declared.way.Way.the-variants.{Exact, Octave}
 use Rattle.search.specs.declared.page.Turn.{Turn}
 use Rattle.search.specs.declared.page.Page.the-variants.{Turned}
-use Rattle.search.specs.Way.{lowest, highest, span, holds}
+use Rattle.asking.specs.Way.{lowest, highest, span, holds}
 use Rattle.search.specs.Definition.{note}
 use Rattle.search.specs.Starts.{Place, place, codes, hit, looks}
-use Rattle.search.specs.Bookmarks.{afterPair, finishedBookmark}
+use Rattle.asking.specs.Bookmarks.{afterPair, finishedBookmark}
 use Rattle.search.specs.Page.{Leaf, columnsOf, shiftsOf}
 
 -- an accepted score and theme, as far as a walk rests on it

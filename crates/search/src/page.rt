@@ -1,15 +1,15 @@
 // The two page calls: plain, which reaches every start, and quick, which reaches the starts at candidates.
 
-use crate::bookmark::Bookmark;
-use crate::bookmark::Pair;
-use crate::checks::check_plain;
-use crate::checks::check_quick;
 use crate::signs::code_of;
 use crate::table::fill_table;
 use crate::walk::Walked;
 use crate::walk::walk_all;
 use crate::walk::walk_candidates;
-use crate::way::Way;
+use asking::Bookmark;
+use asking::Pair;
+use asking::Way;
+use asking::check_plain;
+use asking::check_quick;
 use score::Column;
 use score::Refusal;
 use score::Verdict;
@@ -21,7 +21,7 @@ ghost use Rattle.score.specs.Score.{columnsIn, scoreOf};
 ghost use Rattle.search.specs.Starts.{starts};
 ghost use Rattle.search.specs.Candidates.{themeTable};
 ghost use Rattle.search.specs.Page.{PlainPages, QuickPages, leaf, quickStarts};
-ghost use Rattle.search.specs.Asking.{PlainAsks, QuickAsks};
+ghost use Rattle.asking.specs.Asking.{PlainAsks, QuickAsks};
 ghost use Rattle.search.specs.Walk.{readTurn, Turns};
 
 // A page: how many pairs were written, where the next page goes on, whether the list is finished, and the looks.

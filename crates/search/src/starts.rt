@@ -1,7 +1,7 @@
 // Starts: the places whose first note is present, and what is looked at from there. A column is the h cells from `base`.
 
 use crate::signs::span_of;
-use crate::way::Way;
+use asking::Way;
 use score::Column;
 use score::Pitch;
 ghost use mathlib.Core.Path.{_≡_};
@@ -11,7 +11,7 @@ ghost use lib.Dec.{leb, eqb};
 ghost use lib.ListN.{length, take, drop};
 ghost use Rattle.theory.specs.Lists.{some};
 ghost use Rattle.score.specs.Score.{pitches, columnsIn, scoreOf};
-ghost use Rattle.search.specs.Way.{span, holds};
+ghost use Rattle.asking.specs.Way.{span, holds};
 ghost use Rattle.search.specs.Walk.{Ready, Fits, codeBetween, lowered, nextCode, Trial};
 
 // Whether the column holds this pitch.

@@ -11,15 +11,15 @@ use Rattle.score.specs.declared.refusals.Verdict.the-variants.{Accepted as Pass
 use Rattle.score.specs.Score.{scoreOf}
 use Rattle.score.specs.Refusals.{Row, verdict}
 use Rattle.score.proofs.Judging.{judge-refused}
-use Rattle.search.specs.declared.way.Way.{Way}
-use Rattle.search.specs.declared.bookmark.Bookmark.{Bookmark}
+use Rattle.asking.specs.declared.way.Way.{Way}
+use Rattle.asking.specs.declared.bookmark.Bookmark.{Bookmark}
 use Rattle.search.specs.declared.page.Turn.{Turn}
 use Rattle.search.specs.declared.page.Page.the-variants.{Turned, Refused}
 use Rattle.search.specs.Starts.{starts}
 use Rattle.search.specs.Candidates.{themeTable}
 use Rattle.search.specs.Page.{Leaf, QuickLeaf, plainPage, quickPage, quickStarts, leaf, PlainPages, QuickPages}
-use Rattle.search.specs.Asking.{PlainAsks, QuickAsks}
-use Rattle.search.specs.Refusals.{plainRows, quickRows}
+use Rattle.asking.specs.Asking.{PlainAsks, QuickAsks}
+use Rattle.asking.specs.Refusals.{plainRows, quickRows}
 use Rattle.search.specs.Walk.{Turns}
 use Rattle.score.proofs.Judged.{Clear, judge-clear-of}
 use Rattle.search.proofs.PlainCall.{plainRefused, plainLeaf, plain-clear, plain-leaf}

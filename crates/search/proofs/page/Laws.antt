@@ -16,15 +16,15 @@ use Rattle.theory.proofs.Lists.{over-length, some-none}
 use Rattle.theory.proofs.Going.{page-le}
 use Rattle.score.specs.Score.{columnsIn}
 use Rattle.score.proofs.Columns.{columns-whole}
-use Rattle.search.specs.declared.way.Way.{Way}
-use Rattle.search.specs.declared.bookmark.Bookmark.{Bookmark}
+use Rattle.asking.specs.declared.way.Way.{Way}
+use Rattle.asking.specs.declared.bookmark.Bookmark.{Bookmark}
 use Rattle.search.specs.declared.page.Turn.{Turn}
 use Rattle.search.specs.declared.page.Page.the-variants.{Turned}
-use Rattle.search.specs.Way.{shiftOf}
+use Rattle.asking.specs.Way.{shiftOf}
 use Rattle.search.specs.Starts.{Place, place, key, hit}
-use Rattle.search.specs.Bookmarks.{keyOf}
+use Rattle.asking.specs.Bookmarks.{keyOf}
 use Rattle.search.specs.Page.{columnsOf, shiftsOf, turn, leaf}
-use Rattle.search.specs.Asking.{Accepted, AcceptedSets}
+use Rattle.asking.specs.Asking.{Accepted, AcceptedSets}
 use Rattle.search.specs.Walk.{Ready, Lent, Walks, readTurn, Turns}
 
 -- ---- what is accepted is what the walk asks for

@@ -15,9 +15,9 @@ use Rattle.theory.specs.Lists.{some, lower, lowest}
 use Rattle.theory.proofs.Lowest.{lowest-first, first-agree}
 use Rattle.score.specs.declared.quantities.Pitch.{Pitch}
 use Rattle.score.specs.Score.{pitch, pitches}
-use Rattle.search.specs.declared.way.Way.{Way}
-use Rattle.search.specs.declared.way.Way.the-variants.{Exact, Octave}
-use Rattle.search.specs.Way.{span, holds}
+use Rattle.asking.specs.declared.way.Way.{Way}
+use Rattle.asking.specs.declared.way.Way.the-variants.{Exact, Octave}
+use Rattle.asking.specs.Way.{span, holds}
 use Rattle.search.specs.Walk.{codeBetween, lowered, nextCode}
 
 -- ---- the cells of a column

@@ -17,8 +17,8 @@ use Rattle.theory.proofs.Bookmarks.{Below, none, one, below-up, from-past, from
 use Rattle.theory.proofs.Members.{in-count, in-hits, rising-count, rising-hits, rising-map, rising-add}
 use Rattle.score.specs.declared.quantities.Pitch.{Pitch}
 use Rattle.score.specs.Score.{columnAt, column}
-use Rattle.search.specs.declared.way.Way.{Way}
-use Rattle.search.specs.Way.{span, holds}
+use Rattle.asking.specs.declared.way.Way.{Way}
+use Rattle.asking.specs.Way.{span, holds}
 use Rattle.search.specs.Definition.{note}
 use Rattle.search.specs.Starts.{Place, place, key, codes, startsIn, starts}
 use Rattle.search.specs.Walk.{Fits, columnStarts}

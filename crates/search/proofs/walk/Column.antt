@@ -15,8 +15,8 @@ use Rattle.theory.proofs.Lists.{sets-more}
 use Rattle.theory.proofs.Going.{Going, Made, going-start, going-miss, going-took, going-full, going-end}
 use Rattle.score.specs.Score.{pitch, columnAt, column, columnsIn, scoreOf}
 use Rattle.score.proofs.Columns.{cut-at}
-use Rattle.search.specs.declared.way.Way.{Way}
-use Rattle.search.specs.Way.{span, holds, shiftOf}
+use Rattle.asking.specs.declared.way.Way.{Way}
+use Rattle.asking.specs.Way.{span, holds, shiftOf}
 use Rattle.search.specs.Definition.{note}
 use Rattle.search.specs.Starts.{Place, place, hit, looks}
 use Rattle.search.specs.Page.{columnsOf, shiftsOf}

@@ -13,7 +13,7 @@ use Rattle.theory.specs.Pages.{from}
 use Rattle.theory.specs.Register.{step, regFrom}
 use Rattle.theory.proofs.Register.{regFrom-more}
 use Rattle.score.specs.Score.{columnsIn, scoreOf}
-use Rattle.search.specs.declared.way.Way.{Way}
+use Rattle.asking.specs.declared.way.Way.{Way}
 use Rattle.search.specs.Starts.{key, starts}
 use Rattle.search.specs.Candidates.{candidate}
 use Rattle.search.specs.Scan.{entryWord}

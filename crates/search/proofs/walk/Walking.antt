@@ -17,8 +17,8 @@ use Rattle.theory.proofs.Looks.{page-looks-le, sum-hits, sum-from}
 use Rattle.theory.proofs.Going.{Going, Made, page-le, going-start, going-part, going-full, going-end}
 use Rattle.score.specs.Score.{columnsIn, scoreOf}
 use Rattle.score.proofs.Columns.{column-le, score-length}
-use Rattle.search.specs.declared.way.Way.{Way}
-use Rattle.search.specs.Way.{span, shiftOf}
+use Rattle.asking.specs.declared.way.Way.{Way}
+use Rattle.asking.specs.Way.{span, shiftOf}
 use Rattle.search.specs.Starts.{Place, key, starts, hit, looks}
 use Rattle.search.specs.Page.{columnsOf, shiftsOf}
 use Rattle.search.specs.Walk.{Ready, Fits, columnStarts, Tries, Walks}

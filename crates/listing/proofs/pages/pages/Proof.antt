@@ -13,7 +13,7 @@ use Rattle.listing.proofs.pages.pages.Reads as reads
 use Rattle.listing.proofs.pages.pages.Lts as lts
 use Rattle.listing.proofs.writing.end_line.Reads as end-line-reads
 use Rattle.listing.proofs.writing.hit_lines.Reads as hit-lines-reads
-use Rattle.search.proofs.bookmark.Bookmark.first.Reads as first-reads
+use Rattle.asking.proofs.bookmark.Bookmark.first.Reads as first-reads
 use Rattle.search.proofs.quick_page.Reads as quick-page-reads
 
 abbrev Inv-loop : tie.InvT-loop

@@ -5,9 +5,9 @@ use mathlib.Core.Path.{_≡_, sym, _∙_}
 use native.Mathlib.Omega.{arith}
 use Rattle.score.specs.Score.{scoreOf}
 use Rattle.score.proofs.Columns.{score-length}
-use Rattle.search.specs.Way.{codeOf}
+use Rattle.asking.specs.Way.{codeOf}
 use Rattle.search.specs.Page.{quickStarts}
-use Rattle.search.proofs.Shifts.{code-le}
+use Rattle.asking.proofs.Shifts.{code-le}
 use Rattle.search.proofs.page.Laws.{accepted-ready, accepted-lent, walk-leaf}
 use Rattle.search.proofs.page.turn_quick.Statement.{statement}
 use Rattle.search.proofs.page.turn_quick.Tie as tie

@@ -11,8 +11,8 @@ use mir.Syntax.{w16}
 use mir.Val.{Fits, SFits, toZ, ofZ}
 use mir.Facts.{toZ-ofZ}
 use Rattle.theory.proofs.Signed.{Coded, code, add-read}
-use Rattle.search.specs.declared.way.Way.{Way}
-use Rattle.search.specs.declared.way.Way.the-variants.{Octave}
+use Rattle.asking.specs.declared.way.Way.{Way}
+use Rattle.asking.specs.declared.way.Way.the-variants.{Octave}
 use Rattle.search.specs.Walk.{ShiftIn}
 use Rattle.search.proofs.signs.code_of.Statement.{statement}
 use Rattle.search.proofs.signs.code_of.Tie as tie

@@ -4,7 +4,7 @@ use borrow.Author.Needs.{needs}
 use mathlib.Core.Path.{refl, sym, _∙_}
 use Prim.Native.Nat.{_<_, _-_}
 use native.Mathlib.Omega.{arith}
-use Rattle.search.specs.Way.{span}
+use Rattle.asking.specs.Way.{span}
 use Rattle.search.proofs.Order.{span-lt}
 use Rattle.search.proofs.starts.Trying.{cells-within}
 use Rattle.search.proofs.walk.Column.{Filling, fill-start, fill-none, fill-full, fill-further, fill-bound, fill-turn}

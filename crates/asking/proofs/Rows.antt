@@ -1,0 +1,140 @@
+-- A row of the table does not apply exactly where what it asks for is there: row by row, as plain facts, and then all the
+-- rows of a call. Assumes nothing.
+use mathlib.Core.Path.{_≡_, refl, sym, subst}
+use mathlib.Core.Bool.{Bool, true, false, not, _||_, true≢false}
+use mathlib.Core.Logic.{_↔_}
+use mathlib.Core.List.{List, [], _∷_}
+use Prim.Native.Nat.{ℕ, zero, suc, _+_, _-_, _%_, _≤_}
+use native.Mathlib.Omega.{arith}
+use lib.Dec.{eqb, ltb, T}
+use lib.IntN.{ℤ, pos, _+ℤ_}
+use lib.ListN.{length}
+use lib.Signed.{ltZ, _≤ℤ_, ltZ-no, ltZ-yes, clashℤ}
+use borrow.Author.Tests.{eq-eqb, ne-eqb, eqb-true, eqb-false, le-ltb, ltb-false, not-false}
+use Rattle.score.specs.Score.{columnsIn}
+use Rattle.score.specs.Refusals.{Row, row1, row2, row3, row6, row7}
+use Rattle.asking.specs.declared.way.Way.{Way}
+use Rattle.asking.specs.declared.bookmark.Bookmark.{Bookmark}
+use Rattle.asking.specs.Way.{lowest, highest}
+use Rattle.asking.specs.Refusals.{row4, row5, row8, row9, row10}
+use Rattle.asking.specs.Asking.{Accepted, AcceptedSets, InRange}
+use Rattle.score.proofs.Judged.{Clear}
+
+-- ---- tests that fail
+
+neither : (a b : Bool) {P Q : Type 0} → (a ≡ false) ↔ P → (b ≡ false) ↔ Q → ((a || b) ≡ false) ↔ (P × Q)
+neither true b p q = (λ e. absurd (true≢false e), λ f. p .1 (f .0))
+neither false b p q = (λ e. (p .0 refl, q .0 e), λ f. q .1 (f .1))
+
+not-over : (a b : ℕ) → (ltb a b ≡ false) ↔ (b ≤ a)
+not-over a b = (ltb-false a b, le-ltb a b)
+
+not-zero : (n : ℕ) → (eqb n 0 ≡ false) ↔ (1 ≤ n)
+not-zero zero = (λ e. absurd (eqb-false 0 0 e refl), λ h. absurd (omega arith))
+not-zero (suc n) = (λ e. omega arith, λ h. ne-eqb (suc n) 0 (λ e. omega arith))
+
+equal : (a b : ℕ) → (not (eqb a b) ≡ false) ↔ (a ≡ b)
+equal a b = (λ e. eqb-true a b (not-false (eqb a b) e), λ e. rw (eq-eqb a b e))
+
+not-overZ : (a b : ℤ) → (ltZ a b ≡ false) ↔ (b ≤ℤ a)
+not-overZ a b = (λ e. ltZ-no (subst (λ (t : Bool). T (not t)) (sym e) tt), λ h. step (ltZ a b) refl h)
+  where
+    step : (t : Bool) → ltZ a b ≡ t → b ≤ℤ a → t ≡ false
+    step true e h = clashℤ (ltZ-yes (subst T (sym e) tt)) h
+    step false e h = refl
+
+-- ---- row by row; rows 3, 5 and 7 say themselves that some entry is bad
+
+pub row1-clear : (h : ℕ) → (row1 h .applies ≡ false) ↔ ((1 ≤ h) × (h ≤ 16))
+row1-clear h = neither (eqb h 0) (ltb 16 h) (not-zero h) (not-over 16 h)
+
+pub row2-clear : (cells : List ℕ) (h : ℕ) → (row2 cells h .applies ≡ false) ↔ (((length cells % h ≡ 0) × (1 ≤ columnsIn cells h)) × (columnsIn cells h ≤ 2048))
+row2-clear cells h =
+    neither (not (eqb (length cells % h) 0) || eqb (columnsIn cells h) 0) (ltb 2048 (columnsIn cells h))
+    (neither (not (eqb (length cells % h) 0)) (eqb (columnsIn cells h) 0) (equal (length cells % h) 0) (not-zero (columnsIn cells h))) (not-over 2048 (columnsIn cells h))
+
+pub row4-clear : (theme : List ℕ) → (row4 theme .applies ≡ false) ↔ ((2 ≤ length theme) × (length theme ≤ 32))
+row4-clear theme = neither (ltb (length theme) 2) (ltb 32 (length theme)) (not-over (length theme) 2) (not-over 32 (length theme))
+
+pub row6-clear : (cells : List ℕ) (h : ℕ) (sets : List ℕ) → (row6 cells h sets .applies ≡ false) ↔ (length sets ≡ columnsIn cells h - 1)
+row6-clear cells h sets = equal (length sets) (columnsIn cells h - 1)
+
+pub row8-clear : (table : List ℕ) → (row8 (length table) .applies ≡ false) ↔ (length table ≡ 4096)
+row8-clear table = equal (length table) 4096
+
+pub row9-clear : (columns : List ℕ) (shifts : List ℤ) → (row9 (length columns) (length shifts) .applies ≡ false) ↔ ((1 ≤ length columns) × (length shifts ≡ length columns))
+row9-clear columns shifts =
+    neither (eqb (length columns) 0) (not (eqb (length shifts) (length columns))) (not-zero (length columns)) (equal (length shifts) (length columns))
+
+module _ (way : Way) (n : ℕ) (b : Bookmark) where
+  abbrev column-out : Bool
+  column-out = eqb (b .column .0) 0 || ltb (n + 1) (b .column .0)
+
+  column-in : (column-out ≡ false) ↔ ((1 ≤ b .column .0) × (b .column .0 ≤ n + 1))
+  column-in = neither (eqb (b .column .0) 0) (ltb (n + 1) (b .column .0)) (not-zero (b .column .0)) (not-over (n + 1) (b .column .0))
+
+  shift-in : (row10 way n b .applies ≡ false) ↔ ((((1 ≤ b .column .0) × (b .column .0 ≤ n + 1)) × (lowest way ≤ℤ b .shift)) × (b .shift ≤ℤ (highest way +ℤ pos 1)))
+  shift-in =
+      neither (column-out || ltZ (b .shift) (lowest way)) (ltZ (highest way +ℤ pos 1) (b .shift))
+      (neither column-out (ltZ (b .shift) (lowest way)) column-in (not-overZ (b .shift) (lowest way))) (not-overZ (highest way +ℤ pos 1) (b .shift))
+
+  pub row10-clear : (row10 way n b .applies ≡ false) ↔ InRange way n b
+  row10-clear = (
+    λ e. let f = shift-in .0 e in record { from-first = f .0 .0 .0; to-end = f .0 .0 .1; not-below = f .0 .1; not-above = f .1 },
+    λ i. shift-in .1 (((i .from-first, i .to-end), i .not-below), i .not-above),
+  )
+
+-- ---- the rows of a call
+
+-- of a score and a theme, of lent sets and a table, of a room and a bookmark
+abbrev pub scoreRows : (cells : List ℕ) (h : ℕ) (theme : List ℕ) → List Row
+scoreRows cells h theme = row1 h ∷ row2 cells h ∷ row3 cells ∷ row4 theme ∷ row5 theme ∷ []
+
+abbrev pub setsRows : (cells : List ℕ) (h : ℕ) (sets table : List ℕ) → List Row
+setsRows cells h sets table = row6 cells h sets ∷ row7 sets ∷ row8 (length table) ∷ []
+
+abbrev pub pageRows : Way → (n : ℕ) → Bookmark → (columns : List ℕ) (shifts : List ℤ) → List Row
+pageRows way n b columns shifts = row9 (length columns) (length shifts) ∷ row10 way n b ∷ []
+
+module _ (cells : List ℕ) (h : ℕ) (theme : List ℕ) where
+  pub accepted-clear : Accepted cells h theme ↔ Clear (scoreRows cells h theme)
+  accepted-clear = (of, to)
+    where
+      of : Accepted cells h theme → Clear (scoreRows cells h theme)
+      of a = (
+        row1-clear h .1 (a .tracks-some, a .tracks-few),
+        (
+          row2-clear cells h .1 ((a .columns-whole, a .columns-some), a .columns-few),
+          (a .cells-good, (row4-clear theme .1 (a .notes-some, a .notes-few), (a .notes-good, tt))),
+        ),
+      )
+
+      to : Clear (scoreRows cells h theme) → Accepted cells h theme
+      to c =
+          let tracks = row1-clear h .0 (c .0) in
+          let columns = row2-clear cells h .0 (c .1 .0) in
+          let notes = row4-clear theme .0 (c .1 .1 .1 .0) in
+          record {
+            tracks-some = tracks .0;
+            tracks-few = tracks .1;
+            columns-whole = columns .0 .0;
+            columns-some = columns .0 .1;
+            columns-few = columns .1;
+            cells-good = c .1 .1 .0;
+            notes-some = notes .0;
+            notes-few = notes .1;
+            notes-good = c .1 .1 .1 .1 .0;
+          }
+
+pub sets-clear : (cells : List ℕ) (h : ℕ) (sets table : List ℕ) → (AcceptedSets cells h sets × (length table ≡ 4096)) ↔ Clear (setsRows cells h sets table)
+sets-clear cells h sets table = (
+  λ a. (row6-clear cells h sets .1 (a .0 .one-less), (a .0 .sets-good, (row8-clear table .1 (a .1), tt))),
+  λ c. (record { one-less = row6-clear cells h sets .0 (c .0); sets-good = c .1 .0 }, row8-clear table .0 (c .1 .1 .0)),
+)
+
+module _ (way : Way) (n : ℕ) (b : Bookmark) (columns : List ℕ) (shifts : List ℤ) where
+  pub page-clear : ((1 ≤ length columns) × (length shifts ≡ length columns) × InRange way n b) ↔ Clear (pageRows way n b columns shifts)
+  page-clear = (
+    λ a. (row9-clear columns shifts .1 (a .0, a .1), (row10-clear way n b .1 (a .2), tt)),
+    λ c. let r = row9-clear columns shifts .0 (c .0) in (r .0, r .1, row10-clear way n b .0 (c .1 .0)),
+  )

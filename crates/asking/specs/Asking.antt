@@ -1,0 +1,56 @@
+-- What a call asks for (`PlainAsks`, `QuickAsks`), in the words of the table of refusals turned round and apart from any
+-- method. Assumes nothing.
+use mathlib.Core.Path.{_≡_}
+use mathlib.Core.Bool.{true, false, cond}
+use mathlib.Core.List.{List, [], _∷_}
+use Prim.Native.Nat.{ℕ, _+_, _-_, _%_, _≤_}
+use lib.Dec.{eqb}
+use lib.IntN.{ℤ, pos, _+ℤ_}
+use lib.ListN.{length}
+use lib.Signed.{_≤ℤ_}
+use Rattle.theory.specs.Lists.{some}
+use Rattle.score.specs.Score.{columnsIn}
+use Rattle.score.specs.Refusals.{Row, badCell, badSet}
+use Rattle.asking.specs.declared.way.Way.{Way}
+use Rattle.asking.specs.declared.bookmark.Bookmark.{Bookmark}
+use Rattle.asking.specs.Way.{lowest, highest}
+use Rattle.asking.specs.Refusals.{badNote}
+
+-- ---- what is accepted
+
+-- a score and a theme: 1 to 16 tracks, 1 to 2,048 whole columns, no cell 128 to 254; 2 to 32 notes, none over 127
+pub record Accepted (cells : List ℕ) (h : ℕ) (theme : List ℕ) : Type 0 where
+  pub tracks-some : 1 ≤ h
+  pub tracks-few : h ≤ 16
+  pub columns-whole : length cells % h ≡ 0
+  pub columns-some : 1 ≤ columnsIn cells h
+  pub columns-few : columnsIn cells h ≤ 2048
+  pub cells-good : some badCell cells ≡ false
+  pub notes-some : 2 ≤ length theme
+  pub notes-few : length theme ≤ 32
+  pub notes-good : some badNote theme ≡ false
+
+-- lent sets: one less than columns, none over 4095. They may come from any score
+pub record AcceptedSets (cells : List ℕ) (h : ℕ) (sets : List ℕ) : Type 0 where
+  pub one-less : length sets ≡ columnsIn cells h - 1
+  pub sets-good : some badSet sets ≡ false
+
+-- a bookmark: column 1 to n + 1, and a shift of the way, or one more than the highest
+pub record InRange (way : Way) (n : ℕ) (b : Bookmark) : Type 0 where
+  pub from-first : 1 ≤ b .column .0
+  pub to-end : b .column .0 ≤ n + 1
+  pub not-below : lowest way ≤ℤ b .shift
+  pub not-above : b .shift ≤ℤ (highest way +ℤ pos 1)
+
+-- what a plain call asks for: a score and a theme, buffers of equal length and not empty, a bookmark
+pub record PlainAsks (cells : List ℕ) (h : ℕ) (theme : List ℕ) (way : Way) (b : Bookmark) (columns : List ℕ) (shifts : List ℤ) : Type 0 where
+  pub accepted : Accepted cells h theme
+  pub room : 1 ≤ length columns
+  pub same-room : length shifts ≡ length columns
+  pub marked : InRange way (columnsIn cells h) b
+
+-- what a quick call asks for: also sets, and a theme table of 4,096 places
+pub record QuickAsks (cells : List ℕ) (h : ℕ) (theme : List ℕ) (way : Way) (b : Bookmark) (sets table columns : List ℕ) (shifts : List ℤ) : Type 0 where
+  pub plain : PlainAsks cells h theme way b columns shifts
+  pub with-sets : AcceptedSets cells h sets
+  pub table-long : length table ≡ 4096

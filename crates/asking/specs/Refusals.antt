@@ -1,0 +1,54 @@
+-- The rows of the table of refusals that a search adds: 4, 5, 8, 9, 10; rows 1 to 3, 6 and 7 are the score's. Last, the
+-- rows of each call, in order: `plainRows` and `quickRows`. Assumes nothing.
+use mathlib.Core.Bool.{Bool, not, _||_}
+use mathlib.Core.List.{List, [], _∷_}
+use Prim.Native.Nat.{ℕ, _+_}
+use lib.Dec.{ltb, eqb}
+use lib.IntN.{ℤ, pos, _+ℤ_}
+use lib.ListN.{length}
+use lib.Signed.{ltZ}
+use Rattle.theory.specs.Lists.{some, first}
+use Rattle.score.specs.Score.{columnsIn}
+use Rattle.score.specs.Refusals.{Row, row, row1, row2, row3, row6, row7}
+use Rattle.asking.specs.declared.way.Way.{Way}
+use Rattle.asking.specs.declared.bookmark.Bookmark.{Bookmark}
+use Rattle.asking.specs.Way.{lowest, highest}
+
+-- 4: theme under 2 or over 32 notes
+abbrev pub row4 : (theme : List ℕ) → Row
+row4 theme = row 4 (ltb (length theme) 2 || ltb 32 (length theme)) 0
+
+-- 5: a theme byte over 127; the first such, from 0
+abbrev pub badNote : ℕ → Bool
+badNote p = ltb 127 p
+
+abbrev pub row5 : (theme : List ℕ) → Row
+row5 theme = row 5 (some badNote theme) (first badNote theme)
+
+-- 8: theme table isn't 4,096 long
+abbrev pub row8 : (long : ℕ) → Row
+row8 long = row 8 (not (eqb long 4096)) 0
+
+-- 9: r is 0, or the two buffers differ in length
+abbrev pub row9 : (r other : ℕ) → Row
+row9 r other = row 9 (eqb r 0 || not (eqb other r)) 0
+
+-- 10: bookmark column 0 or over n + 1, or shift outside -127..128 (octave 0..12)
+abbrev pub row10 : Way → (n : ℕ) → Bookmark → Row
+row10 way n b =
+    row 10
+    (eqb (b .column .0) 0 || ltb (n + 1) (b .column .0) || ltZ (b .shift) (lowest way) || ltZ (highest way +ℤ pos 1) (b .shift))
+    0
+
+-- ---- the rows of each call, in order
+
+-- plain: 1 to 5, 9, 10
+abbrev pub plainRows : (cells : List ℕ) (h : ℕ) (theme : List ℕ) → Way → Bookmark → (columns : List ℕ) (shifts : List ℤ) → List Row
+plainRows cells h theme way b columns shifts =
+    row1 h ∷ row2 cells h ∷ row3 cells ∷ row4 theme ∷ row5 theme ∷ row9 (length columns) (length shifts) ∷ row10 way (columnsIn cells h) b ∷ []
+
+-- quick: 1 to 10
+abbrev pub quickRows : (cells : List ℕ) (h : ℕ) (theme : List ℕ) → Way → Bookmark → (sets table columns : List ℕ) (shifts : List ℤ) → List Row
+quickRows cells h theme way b sets table columns shifts =
+    row1 h ∷ row2 cells h ∷ row3 cells ∷ row4 theme ∷ row5 theme ∷ row6 cells h sets ∷ row7 sets ∷ row8 (length table)
+    ∷ row9 (length columns) (length shifts) ∷ row10 way (columnsIn cells h) b ∷ []

@@ -1,0 +1,152 @@
+// What a search turns away besides the score: the theme, the table, the room and the bookmark; and the checks of each call
+// in order. Every check is total, and says what the rows of the table of refusals say.
+
+use crate::bookmark::Bookmark;
+use crate::signs::out_of_range;
+use crate::way::Way;
+use score::Column;
+use score::Refusal;
+use score::Verdict;
+use score::check_score;
+use score::check_sets;
+use score::columns_in;
+ghost use mathlib.Core.Path.{_≡_};
+ghost use mathlib.Core.Bool.{_||_};
+ghost use mathlib.Core.List.{[], _∷_};
+ghost use Prim.Native.Nat.{_+_};
+ghost use lib.Dec.{eqb, ltb};
+ghost use lib.ListN.{length};
+ghost use Rattle.theory.specs.Lists.{some, first};
+ghost use Rattle.score.specs.Score.{columnsIn};
+ghost use Rattle.score.specs.Refusals.{verdict, row1, row2, row3, row6, row7};
+ghost use Rattle.asking.specs.Refusals.{badNote, row4, row5, row8, row9, row10};
+
+// Refusals 1 to 5, 9 and 10, for a plain page with room r and as many shifts as `other`.
+pub fn check_plain(
+    cells: &[u8],
+    tracks: usize,
+    theme: &[u8],
+    way: Way,
+    bookmark: Bookmark,
+    r: usize,
+    other: usize,
+) -> Verdict
+    ensures { λ v. ⌜ v ≡ verdict (row1 tracks ∷ row2 (now (cells .entry)) tracks ∷ row3 (now (cells .entry)) ∷ row4 (now (theme .entry)) ∷ row5 (now (theme .entry)) ∷ row9 r other ∷ row10 way (columnsIn (now (cells .entry)) tracks) bookmark ∷ []) ⌝ }
+{
+    if let Verdict::Refused(e) = check_score(cells, tracks) {
+        return Verdict::Refused(e);
+    }
+    if let Verdict::Refused(e) = check_theme(theme) {
+        return Verdict::Refused(e);
+    }
+    check_page(way, columns_in(cells, tracks), bookmark, r, other)
+}
+
+// Refusals 1 to 10, for a quick page with a table as long as `table`.
+pub fn check_quick(
+    cells: &[u8],
+    tracks: usize,
+    theme: &[u8],
+    way: Way,
+    bookmark: Bookmark,
+    sets: &[u16],
+    table: usize,
+    r: usize,
+    other: usize,
+) -> Verdict
+    ensures { λ v. ⌜ v ≡ verdict (row1 tracks ∷ row2 (now (cells .entry)) tracks ∷ row3 (now (cells .entry)) ∷ row4 (now (theme .entry)) ∷ row5 (now (theme .entry)) ∷ row6 (now (cells .entry)) tracks (now (sets .entry)) ∷ row7 (now (sets .entry)) ∷ row8 table ∷ row9 r other ∷ row10 way (columnsIn (now (cells .entry)) tracks) bookmark ∷ []) ⌝ }
+{
+    if let Verdict::Refused(e) = check_score(cells, tracks) {
+        return Verdict::Refused(e);
+    }
+    if let Verdict::Refused(e) = check_theme(theme) {
+        return Verdict::Refused(e);
+    }
+    if let Verdict::Refused(e) = check_sets(cells, tracks, sets) {
+        return Verdict::Refused(e);
+    }
+    if table != 4096 {
+        return refused(8, 0);
+    }
+    let n = columns_in(cells, tracks);
+    check_page(way, n, bookmark, r, other)
+}
+
+// The verdict that turns away, by the number and the place.
+fn refused(number: u8, place: usize) -> Verdict
+    ensures { λ r. ⌜ r ≡ Verdict.Refused (record { number = number; place = place }) ⌝ }
+{
+    Verdict::Refused(Refusal { number, place })
+}
+
+// Refusals 4 and 5: the number of notes, and the notes themselves.
+fn check_theme(theme: &[u8]) -> Verdict
+    ensures { λ r. ⌜ r ≡ verdict (row4 (now (theme .entry)) ∷ row5 (now (theme .entry)) ∷ []) ⌝ }
+{
+    if (theme.len() < 2) | (32 < theme.len()) {
+        return refused(4, 0);
+    }
+    if any_bad_note(theme) {
+        return refused(5, first_bad_note(theme));
+    }
+    Verdict::Accepted
+}
+
+// Refusals 9 and 10: the room of the two buffers, and the bookmark.
+fn check_page(way: Way, n: usize, bookmark: Bookmark, r: usize, other: usize) -> Verdict
+    ensures { λ v. ⌜ v ≡ verdict (row9 r other ∷ row10 way n bookmark ∷ []) ⌝ }
+{
+    if (r == 0) | (other != r) {
+        return refused(9, 0);
+    }
+    if bad_bookmark(way, n, bookmark) {
+        return refused(10, 0);
+    }
+    Verdict::Accepted
+}
+
+// Whether the column is neither one of the n columns nor the one after them.
+fn outside(column: Column, n: usize) -> bool
+    ensures { λ r. ⌜ r ≡ (eqb (column .0) 0 || ltb (n + 1) (column .0)) ⌝ }
+{
+    let j = column.0 as usize;
+    if j == 0 {
+        return true;
+    }
+    n < j - 1
+}
+
+// Whether the bookmark has no column, or no shift, that a bookmark may have.
+fn bad_bookmark(way: Way, n: usize, bookmark: Bookmark) -> bool
+    ensures { λ r. ⌜ r ≡ row10 way n bookmark .applies ⌝ }
+{
+    let column = bookmark.column;
+    outside(column, n) | out_of_range(way, bookmark.shift)
+}
+
+// Whether some note is bad. All are gone through whatever is found, so that many can be looked at together.
+fn any_bad_note(theme: &[u8]) -> bool
+    ensures { λ r. ⌜ r ≡ some badNote (now (theme .entry)) ⌝ }
+{
+    let mut bad = false;
+    let mut i = 0;
+    while i < theme.len() {
+        bad = bad | (127 < theme[i]);
+        i += 1;
+    }
+    bad
+}
+
+// The first note that is bad, or the number of notes where none is.
+fn first_bad_note(theme: &[u8]) -> usize
+    ensures { λ r. ⌜ r ≡ first badNote (now (theme .entry)) ⌝ }
+{
+    let mut i = 0;
+    while i < theme.len() {
+        if 127 < theme[i] {
+            return i;
+        }
+        i += 1;
+    }
+    i
+}
