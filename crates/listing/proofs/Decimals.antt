@@ -4,7 +4,7 @@ use mathlib.Core.Path.{_≡_, refl, sym, ap, _∙_}
 use mathlib.Core.Bool.{Bool, true, false, cond}
 use mathlib.Core.List.{List, [], _∷_, _++_}
 use Prim.Native.Nat.{ℕ, zero, suc, _+_, _*_, _/_, _%_, _^_, _≤_, _<_}
-use native.Mathlib.Nat.{pow-suc}
+use native.Mathlib.Nat.{pow-suc, mod-eq-of-lt}
 use native.Mathlib.Omega.{arith}
 use lib.Dec.{ltb}
 use lib.ListN.{length, length-append}
@@ -42,8 +42,8 @@ module _ (n at : ℕ) (out : List ℕ) where
     pub small-room : at + length (decimal n) ≤ length out → at < length out
     small-room l = omega (arith, ap length (decimal-small n h))
 
-    pub small-wrote : {r : ℕ} {out′ : List ℕ} → Wrote ((48 + n) ∷ []) at out r out′ → Wrote (decimal n) at out r out′
-    small-wrote w = rw (decimal-small n h) w
+    pub small-wrote : {r : ℕ} {out′ : List ℕ} → Wrote ((48 + n % 10) ∷ []) at out r out′ → Wrote (decimal n) at out r out′
+    small-wrote w = rw (decimal-small n h) (rw (mod-eq-of-lt h) at w)
 
   module _ (h : 10 ≤ n) (f : n < 2 ^ 32) where
     pub first-room : at + length (decimal n) ≤ length out → at + length (decimal (n / 10)) ≤ length out

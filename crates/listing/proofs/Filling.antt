@@ -60,6 +60,11 @@ pub record Filling (text : List ℕ) (from : ℕ) (rests : Bool) (limit base : �
   pub before : take base into ≡ take base into₀
   pub room : base + limit ≤ length into₀
 
+-- there is room for one value more
+pub record Room (limit base : ℕ) (into : List ℕ) (count : ℕ) : Type 0 where
+  pub less : count < limit
+  pub within : base + count < length into
+
 stored-one : (into : List ℕ) (base count v : ℕ) → base + count < length into
     → take count (drop base into) ++ (v ∷ []) ≡ take (count + 1) (drop base (set into (base + count) v))
 stored-one into base count v h =
@@ -124,13 +129,16 @@ module _ (text : List ℕ) (from : ℕ) (rests : Bool) (limit base : ℕ) (into�
             (λ e. let q = stop-or (getD text at 0) count limit o (sym (front-at text at) ∙ e) in omega arith))
 
         module _ (o : (not (eqb (getD text at 0) 9) || eqb count limit) ≡ false) where
-          pub filling-less : count < limit
-          filling-less = ⊎-elim (λ (e : count ≡ limit). absurd (go-on (getD text at 0) count limit o .1 e)) (λ l. l) (eq-or-lt-of-le (f .few))
+          less : count < limit
+          less = ⊎-elim (λ (e : count ≡ limit). absurd (go-on (getD text at 0) count limit o .1 e)) (λ l. l) (eq-or-lt-of-le (f .few))
+
+          pub filling-room : Room limit base into count
+          filling-room = let l = less in record { less = l; within = omega (arith, f .long, f .room) }
 
           on : fields rests (limit - count) (drop at text)
               ≡ next (cell rests (drop (at + 1) text)) (λ value rest. next (fields rests (limit - (count + 1)) rest) (λ values end. got (value ∷ values) end))
           on =
-              let l = filling-less in
+              let l = less in
               let e : limit - count ≡ suc (limit - (count + 1)) = omega arith in
               rw e (fields-cell rests (limit - (count + 1)) (drop at text) (front-at text at ∙ go-on (getD text at 0) count limit o .0) ∙ rw (drop-more text at))
 
@@ -140,7 +148,7 @@ module _ (text : List ℕ) (from : ℕ) (rests : Bool) (limit base : ℕ) (into�
 
             pub filling-more : {v here : ℕ} → r ≡ At v here → Filling text from rests limit base into₀ (set into (base + count) v) here (count + 1)
             filling-more {v} {here} e =
-                let l = filling-less in
+                let l = less in
                 let one : fields rests (limit - count) (drop at text)
                 ≡ next (fields rests (limit - (count + 1)) (drop here text)) (λ values end. got (v ∷ values) end)
                 = on ∙ rw (← c .is, e) in
@@ -150,7 +158,7 @@ module _ (text : List ℕ) (from : ℕ) (rests : Bool) (limit base : ℕ) (into�
                       ∙ ap (prepend (take count (drop base into))) one
                       ∙ prepend-one (take count (drop base into)) v (fields rests (limit - (count + 1)) (drop here text))
                       ∙ ap (λ (l : List ℕ). prepend l (fields rests (limit - (count + 1)) (drop here text)))
-                      (stored-one into base count v (omega (arith, f .long, f .room)));
+                      (stored-one into base count v (filling-room .within));
                   within = number-within c e;
                   few = omega arith;
                   long = length-set into (base + count) v ∙ f .long;

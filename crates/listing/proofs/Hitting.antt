@@ -1,5 +1,5 @@
 -- The lines of a page's pairs, written one after the other: what is written, and what is to come. Assumes nothing.
-use mathlib.Core.Path.{_≡_, refl, sym, ap, _∙_}
+use mathlib.Core.Path.{_≡_, refl, sym, ap, _∙_, subst}
 use mathlib.Core.List.{List, [], _∷_, _++_, append-assoc, append-nil}
 use Prim.Native.Nat.{ℕ, zero, suc, _+_, _-_, _≤_, _<_}
 use native.Mathlib.Nat.{sub-zero}
@@ -8,12 +8,30 @@ use native.Mathlib.Omega.{arith}
 use lib.IntN.{ℤ, pos}
 use lib.ListN.{length, getD, drop}
 use lib.Seq.{drop-cons}
+use mir.Syntax.{w16}
+use mir.Val.{SFits}
+use mir.Facts.{toZ-ofZ}
 use Rattle.search.specs.Reading.{readPairs}
 use Rattle.listing.specs.Answer.{pairOf, hitLine, hitLines}
 use Rattle.listing.specs.Steps.{Wrote}
 use Rattle.listing.proofs.Puts.{wrote-length, wrote-then, wrote-room, wrote-nil, room-part, room-same}
+use Rattle.listing.proofs.Sizes.{read}
 
--- the lines of the pairs that are left behind the i-th
+-- ---- the line of one pair: a shift is read as it is
+
+module _ (column : ℕ) (shift : ℤ) (f : SFits w16 shift) where
+  read-line : hitLine (pairOf column (read shift)) ≡ hitLine (pairOf column shift)
+  read-line = ap (λ (z : ℤ). hitLine (pairOf column z)) (toZ-ofZ f)
+
+  pub read-room : (at : ℕ) (out : List ℕ) → at + length (hitLine (pairOf column shift)) ≤ length out → at + length (hitLine (pairOf column (read shift))) ≤ length out
+  read-room at out h = room-same at out (sym read-line) h
+
+  pub read-wrote : {at r : ℕ} {out out′ : List ℕ} → Wrote (hitLine (pairOf column (read shift))) at out r out′ → Wrote (hitLine (pairOf column shift)) at out r out′
+  read-wrote {at} {r} {out} {out′} w = subst (λ (l : List ℕ). Wrote l at out r out′) read-line w
+
+-- ---- the lines of all
+
+-- those of the pairs that are left behind the i-th
 abbrev pub toCome : (columns : List ℕ) (shifts : List ℤ) (found i : ℕ) → List ℕ
 toCome columns shifts found i = hitLines (readPairs (found - i) (drop i columns) (drop i shifts))
 

@@ -87,11 +87,11 @@ module _ (cells : List ℕ) (h : ℕ) (theme : List ℕ) (way : Way) (lent out�
         )
 
     c : Calls S (callOf cells h theme way lent (p .accepted) (p .own) table)
-    c = calls cells h theme way lent (p .accepted) (p .own) table (p .table-long)
+    c = calls cells h theme way lent (p .accepted) (p .own) table (p .room .table-long)
 
     module _ {page : Page} {table′ columns′ : List ℕ} {shifts′ : List ℤ} (q : QuickPages cells h theme way b lent table columns shifts page table′ columns′ shifts′) where
       answered : page ≡ Turned (answer S b)
-      answered = q .answers ∙ call-answer S (callOf cells h theme way lent (p .accepted) (p .own) table) c b (p .marked) columns shifts (p .columns-long) (p .shifts-long)
+      answered = q .answers ∙ call-answer S (callOf cells h theme way lent (p .accepted) (p .own) table) c b (p .marked) columns shifts (p .room .columns-long) (p .room .shifts-long)
 
       -- it is never refused
       pub turn-refused : {r : Refusal} → page ≡ Refused r → ⊥
@@ -107,7 +107,7 @@ module _ (cells : List ℕ) (h : ℕ) (theme : List ℕ) (way : Way) (lent out�
         turn-pairs : readPairs (t .written) columns′ shifts′ ≡ map (pairAt way) (places S b)
         turn-pairs =
             rw (q .writes-columns, q .writes-shifts, turn-is)
-            (call-read S (callOf cells h theme way lent (p .accepted) (p .own) table) c b (p .marked) columns shifts (p .columns-long) (p .shifts-long))
+            (call-read S (callOf cells h theme way lent (p .accepted) (p .own) table) c b (p .marked) columns shifts (p .room .columns-long) (p .room .shifts-long))
 
         turn-count : length (readPairs (t .written) columns′ shifts′) ≡ t .written
         turn-count = ap length turn-pairs ∙ length-map (places S b) (pairAt way) ∙ sym (ap (λ (u : Turn). u .written) turn-is)
@@ -134,7 +134,7 @@ module _ (cells : List ℕ) (h : ℕ) (theme : List ℕ) (way : Way) (lent out�
             wrote-room (p .wrote) (hitLines (readPairs (t .written) columns′ shifts′))
             (omega (
               arith,
-              p .room,
+              p .room .out-long,
               all-room,
               ap length turn-lines,
               length-append (hitLines (p .done)) (hitLines (readPairs (t .written) columns′ shifts′) ++ hitLines others),
@@ -170,10 +170,7 @@ module _ (cells : List ℕ) (h : ℕ) (theme : List ℕ) (way : Way) (lent out�
             record {
               accepted = p .accepted;
               own = p .own;
-              table-long = tl;
-              columns-long = cl;
-              shifts-long = sl;
-              room = p .room;
+              room = record { table-long = tl; columns-long = cl; shifts-long = sl; out-long = p .room .out-long };
               marked = subst (λ (u : Turn). inside S (u .next)) (sym turn-is) (next-range S (callOf cells h theme way lent (p .accepted) (p .own) table) c b);
               done = p .done ++ readPairs (t .written) columns′ shifts′;
               wrote = rw (lines-append (p .done) (readPairs (t .written) columns′ shifts′)) (wrote-then (p .wrote) w);
@@ -209,7 +206,7 @@ module _ (cells : List ℕ) (h : ℕ) (theme : List ℕ) (way : Way) (lent out�
     end-lines = rw (done-all, end-found, end-spent)
 
     pub end-room : at + length (endLine found spent) ≤ length out
-    end-room = wrote-room (p .wrote) (endLine found spent) (omega (arith, ap length end-lines, lines-few cells h theme way (p .accepted), p .room))
+    end-room = wrote-room (p .wrote) (endLine found spent) (omega (arith, ap length end-lines, lines-few cells h theme way (p .accepted), p .room .out-long))
 
     pub end-wrote : {r : ℕ} {out′ : List ℕ} → Wrote (endLine found spent) at out r out′ → Wrote (linesOf way (scoreOf cells h) theme) 0 out₀ r out′
     end-wrote {r} {out′} w = subst (λ (l : List ℕ). Wrote l 0 out₀ r out′) end-lines (wrote-then (p .wrote) w)

@@ -71,13 +71,17 @@ module _ (word : List ℕ) (from : ℕ) (out₀ : List ℕ) where
 pub room-part : (at : ℕ) (vs ws out : List ℕ) → at + length (vs ++ ws) ≤ length out → at + length vs ≤ length out
 room-part at vs ws out h = omega (arith, length-append vs ws)
 
-module _ (w a b : List ℕ) (at : ℕ) (out : List ℕ) (room : at + length (w ++ (a ++ (b ++ (10 ∷ [])))) ≤ length out) where
+-- there is room for one at a place
+pub record LineRoom (w a b : List ℕ) (at : ℕ) (out : List ℕ) : Type 0 where
+  pub room : at + length (w ++ (a ++ (b ++ (10 ∷ [])))) ≤ length out
+
+module _ {w a b : List ℕ} {at : ℕ} {out : List ℕ} (l : LineRoom w a b at out) where
   pub line-word : at + length w ≤ length out
-  line-word = room-part at w (a ++ (b ++ (10 ∷ []))) out room
+  line-word = room-part at w (a ++ (b ++ (10 ∷ []))) out (l .room)
 
   module _ {r₁ : ℕ} {out₁ : List ℕ} (f : Wrote w at out r₁ out₁) where
     room₁ : r₁ + length (a ++ (b ++ (10 ∷ []))) ≤ length out₁
-    room₁ = wrote-room f (a ++ (b ++ (10 ∷ []))) room
+    room₁ = wrote-room f (a ++ (b ++ (10 ∷ []))) (l .room)
 
     pub line-first : r₁ + length a ≤ length out₁
     line-first = room-part r₁ a (b ++ (10 ∷ [])) out₁ room₁
@@ -91,7 +95,7 @@ module _ (w a b : List ℕ) (at : ℕ) (out : List ℕ) (room : at + length (w +
 
       module _ {r₃ : ℕ} {out₃ : List ℕ} (h : Wrote b r₂ out₂ r₃ out₃) where
         pub line-last : r₃ < length out₃
-        line-last = let l : r₃ + 1 ≤ length out₃ = wrote-room h (10 ∷ []) room₂ in omega arith
+        line-last = let k : r₃ + 1 ≤ length out₃ = wrote-room h (10 ∷ []) room₂ in omega arith
 
         pub line-whole : {r₄ : ℕ} {out₄ : List ℕ} → Wrote (10 ∷ []) r₃ out₃ r₄ out₄ → Wrote (w ++ (a ++ (b ++ (10 ∷ [])))) at out r₄ out₄
         line-whole k = wrote-then f (wrote-then g (wrote-then h k))

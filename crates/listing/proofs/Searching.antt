@@ -13,7 +13,6 @@ use Rattle.theory.specs.Pages.{hits, pageHits, pageLooks, rest, full, from}
 use Rattle.theory.proofs.Pages.{page-take, rest-drop, rest-nil, length-last, rest-less, hits-le}
 use Rattle.theory.proofs.Looks.{looks-split}
 use Rattle.theory.proofs.Going.{page-le}
-use Rattle.theory.proofs.Hits.{hits-hits, hits-map}
 use Rattle.theory.proofs.Members.{in-hits}
 use Rattle.theory.proofs.Bookmarks.{from-all}
 use Rattle.score.specs.Score.{columnsIn, scoreOf}
@@ -40,9 +39,9 @@ use Rattle.search.proofs.Turning.{Found, first-range, first-key}
 use Rattle.search.proofs.Paging.{Search, Calls, found as isHit, cost, inside, left, places, answer, call-answer, call-read, next-left, next-range}
 use Rattle.search.proofs.Searches.{quick-calls}
 use Rattle.search.proofs.Quicker.{own-sets, own-pairs}
-use Rattle.search.proofs.Demands.{all-looks-le, candidate-looks-le}
+use Rattle.search.proofs.Demands.{all-looks-le, candidate-looks-le, quick-pairs}
 use Rattle.listing.specs.Answer.{hitLine, hitLines, endLine, linesOf}
-use Rattle.listing.specs.Steps.{Wrote, Asked}
+use Rattle.listing.specs.Steps.{Wrote, Room}
 use Rattle.listing.proofs.Puts.{wrote-length, wrote-then, wrote-room, wrote-nil, room-part, room-same}
 use Rattle.listing.proofs.Widths.{lines-le, end-le}
 
@@ -65,14 +64,7 @@ lines-append a b = ap join (map-append hitLine a b) ∙ join-append (map hitLine
 module _ (cells : List ℕ) (h : ℕ) (theme : List ℕ) (way : Way) (a : Accepted cells h theme) where
   own-hits : map (pairAt way) (hits (hit way (scoreOf cells h) theme) (quickStarts way (scoreOf cells h) theme (themeTable theme) (setsOf (scoreOf cells h))))
       ≡ pairs way (scoreOf cells h) theme
-  unfolding quickStarts
-  own-hits =
-      ap (map (pairAt way))
-      (hits-hits (hit way (scoreOf cells h) theme) (λ (s : Place). candidate (themeTable theme) (setsOf (scoreOf cells h)) (length theme) (s .column)) (starts way (scoreOf cells h) theme))
-      ∙ sym
-      (hits-map (pairAt way) (λ (pair : Pair). candidate (themeTable theme) (setsOf (scoreOf cells h)) (length theme) (pair .column .0))
-      (hits (hit way (scoreOf cells h) theme) (starts way (scoreOf cells h) theme)))
-      ∙ own-pairs cells h theme way a
+  own-hits = quick-pairs cells h theme way (setsOf (scoreOf cells h)) ∙ own-pairs cells h theme way a
 
   -- ---- bounds
 
@@ -130,10 +122,7 @@ pub record Paging (cells : List ℕ) (h : ℕ) (theme : List ℕ) (way : Way) (l
     (more : Bool) : Type 0 where
   pub accepted : Accepted cells h theme
   pub own : lent ≡ setsOf (scoreOf cells h)
-  pub table-long : length table ≡ 4096
-  pub columns-long : length columns ≡ 256
-  pub shifts-long : length shifts ≡ 256
-  pub room : 458546 ≤ length out₀
+  pub room : Room table columns shifts out₀
   pub marked : inside (searchOf cells h theme way lent) b
   pub done : List Pair
   pub wrote : Wrote (hitLines done) 0 out₀ at out
@@ -154,17 +143,14 @@ module _ (cells : List ℕ) (h : ℕ) (theme : List ℕ) (way : Way) (lent : Lis
   pub calls : (table : List ℕ) → length table ≡ 4096 → Calls S (callOf table)
   calls table e = quick-calls cells h theme way a 256 (omega arith) lent lent-right (λ _ _ _. table) (λ _ _ _. e)
 
-  pub paging-start : {table columns : List ℕ} {shifts : List ℤ} (out : List ℕ) → length table ≡ 4096 → length columns ≡ 256 → length shifts ≡ 256 → 458546 ≤ length out
+  pub paging-start : {table columns : List ℕ} {shifts : List ℤ} {out : List ℕ} → Room table columns shifts out
       → Paging cells h theme way lent out table columns shifts out (firstBookmark way) 0 0 0 true
-  paging-start {table} out t c s r =
+  paging-start {table} {out = out} r =
       let all : left S (firstBookmark way) ≡ S .reached
-      = ap (λ (k : ℕ). from key k (S .reached)) (first-key way) ∙ from-all key 256 (S .reached) (calls table t .up) in
+      = ap (λ (k : ℕ). from key k (S .reached)) (first-key way) ∙ from-all key 256 (S .reached) (calls table (r .table-long) .up) in
       record {
         accepted = a;
         own = o;
-        table-long = t;
-        columns-long = c;
-        shifts-long = s;
         room = r;
         marked = first-range way (length (scoreOf cells h));
         done = [];

@@ -107,30 +107,28 @@ pub record Wrote (bytes : List ℕ) (at : ℕ) (out : List ℕ) (r : ℕ) (out�
   pub place : r ≡ at + length bytes
   pub is : out′ ≡ stored out at bytes
 
+-- room for a table, for a page of 256 pairs and for every output
+pub record Room (table columns : List ℕ) (shifts : List ℤ) (out : List ℕ) : Type 0 where
+  pub table-long : length table ≡ 4096
+  pub columns-long : length columns ≡ 256
+  pub shifts-long : length shifts ≡ 256
+  pub out-long : 458546 ≤ length out
+
 -- what a search is given: an accepted score and theme, and room for all
 pub record Sought (cells : List ℕ) (h n : ℕ) (theme sets table columns : List ℕ) (shifts : List ℤ) (out : List ℕ) : Type 0 where
   pub accepted : Accepted cells h theme
   pub columns-are : n ≡ columnsIn cells h
   pub sets-room : length sets ≡ 2047
-  pub table-long : length table ≡ 4096
-  pub columns-long : length columns ≡ 256
-  pub shifts-long : length shifts ≡ 256
-  pub room : 458546 ≤ length out
+  pub room : Room table columns shifts out
 
 -- the same with just the room that its sets take
 pub record Lent (cells : List ℕ) (h : ℕ) (theme sets table columns : List ℕ) (shifts : List ℤ) (out : List ℕ) : Type 0 where
   pub accepted : Accepted cells h theme
   pub sets-long : length sets ≡ columnsIn cells h - 1
-  pub table-long : length table ≡ 4096
-  pub columns-long : length columns ≡ 256
-  pub shifts-long : length shifts ≡ 256
-  pub room : 458546 ≤ length out
+  pub room : Room table columns shifts out
 
 -- what the pages are written of: an accepted score and theme, the score's own sets, and room for all
 pub record Asked (cells : List ℕ) (h : ℕ) (theme sets table columns : List ℕ) (shifts : List ℤ) (out : List ℕ) : Type 0 where
   pub accepted : Accepted cells h theme
   pub own : sets ≡ setsOf (scoreOf cells h)
-  pub table-long : length table ≡ 4096
-  pub columns-long : length columns ≡ 256
-  pub shifts-long : length shifts ≡ 256
-  pub room : 458546 ≤ length out
+  pub room : Room table columns shifts out

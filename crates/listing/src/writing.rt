@@ -3,10 +3,10 @@
 
 ghost use mathlib.Core.Path.{_≡_};
 ghost use mathlib.Core.List.{[], _∷_, _++_};
-ghost use Prim.Native.Nat.{_+_, _≤_, _<_};
+ghost use Prim.Native.Nat.{_+_, _%_, _≤_, _<_};
 ghost use lib.IntN.{natAbs};
 ghost use lib.ListN.{length};
-ghost use Rattle.listing.specs.Text.{decimal, signed, field};
+ghost use Rattle.listing.specs.Text.{decimal, signed, field, line as lineOf};
 ghost use Rattle.search.specs.Reading.{readPairs};
 ghost use Rattle.listing.specs.Answer.{pairOf, hitLine, hitLines, endLine, refusedLine};
 ghost use Rattle.listing.specs.Steps.{Wrote};
@@ -31,16 +31,24 @@ fn put_word(out: &mut [u8], from: usize, word: &[u8]) -> usize
     from + i
 }
 
+// The last digit of a number.
+fn put_digit(out: &mut [u8], at: usize, n: u32) -> usize
+    requires { ⌜ at < length (now out) ⌝ }
+    ensures { λ r. ⌜ Wrote ((48 + n % 10) ∷ []) at (now (out .entry)) r (now (out .exit)) ⌝ }
+{
+    put(out, at, 48 + (n % 10) as u8)
+}
+
 // A number in decimal: what stands before its last digit is a number, too.
 fn put_number(out: &mut [u8], at: usize, n: u32) -> usize
     requires { ⌜ at + length (decimal n) ≤ length (now out) ⌝ }
     ensures { λ r. ⌜ Wrote (decimal n) at (now (out .entry)) r (now (out .exit)) ⌝ }
 {
     if n < 10 {
-        return put(out, at, 48 + n as u8);
+        return put_digit(out, at, n);
     }
     let next = put_number(out, at, n / 10);
-    put(out, next, 48 + (n % 10) as u8)
+    put_digit(out, next, n)
 }
 
 // A tab and a number.
@@ -110,24 +118,29 @@ pub fn hit_lines(
     at
 }
 
+// A line of a word and two numbers.
+fn line(out: &mut [u8], at: usize, word: &[u8], first: u32, second: u32) -> usize
+    requires { ⌜ at + length (lineOf (now word) (decimal first) (decimal second)) ≤ length (now out) ⌝ }
+    ensures { λ r. ⌜ Wrote (lineOf (now (word .entry)) (decimal first) (decimal second)) at (now (out .entry)) r (now (out .exit)) ⌝ }
+{
+    let a = put_word(out, at, word);
+    let b = put_field(out, a, first);
+    let c = put_field(out, b, second);
+    put(out, c, 10)
+}
+
 // The line behind all pairs.
 pub fn end_line(out: &mut [u8], at: usize, found: u32, looks: u32) -> usize
     requires { ⌜ at + length (endLine found looks) ≤ length (now out) ⌝ }
     ensures { λ r. ⌜ Wrote (endLine found looks) at (now (out .entry)) r (now (out .exit)) ⌝ }
 {
-    let a = put_word(out, at, b"end");
-    let b = put_field(out, a, found);
-    let c = put_field(out, b, looks);
-    put(out, c, 10)
+    line(out, at, b"end", found, looks)
 }
 
 // The line of a refused input.
-pub fn refused_line(out: &mut [u8], at: usize, line: u32) -> usize
-    requires { ⌜ at + length (refusedLine line) ≤ length (now out) ⌝ }
-    ensures { λ r. ⌜ Wrote (refusedLine line) at (now (out .entry)) r (now (out .exit)) ⌝ }
+pub fn refused_line(out: &mut [u8], at: usize, number: u32) -> usize
+    requires { ⌜ at + length (refusedLine number) ≤ length (now out) ⌝ }
+    ensures { λ r. ⌜ Wrote (refusedLine number) at (now (out .entry)) r (now (out .exit)) ⌝ }
 {
-    let a = put_word(out, at, b"refused");
-    let b = put_field(out, a, 11);
-    let c = put_field(out, b, line);
-    put(out, c, 10)
+    line(out, at, b"refused", 11, number)
 }

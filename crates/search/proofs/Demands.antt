@@ -75,10 +75,10 @@ module _ (cells : List ℕ) (h : ℕ) (theme : List ℕ) (way : Way) where
     quick-page-le table lent =
         le-trans (reached-page-within way (scoreOf cells h) theme (length columns) (keyOf way b) (λ s. candidate table lent (length theme) (s .column))) all-looks-le
 
--- what the quick starts list
+-- what the quick starts list: the pairs at candidates
 
 module _ (cells : List ℕ) (h : ℕ) (theme : List ℕ) (way : Way) (lent : List ℕ) where
-  quick-pairs : map (pairAt way) (hits (hit way (scoreOf cells h) theme) (quickStarts way (scoreOf cells h) theme (themeTable theme) lent))
+  pub quick-pairs : map (pairAt way) (hits (hit way (scoreOf cells h) theme) (quickStarts way (scoreOf cells h) theme (themeTable theme) lent))
       ≡ candidatePairs way (scoreOf cells h) theme lent
   unfolding quickStarts
   quick-pairs =

@@ -1,7 +1,10 @@
 -- `listing::lines::chord_line` meets its contract. Assumes nothing.
-use mathlib.Core.Path.{sym, _∙_}
+use mathlib.Core.Path.{_≡_, sym, _∙_}
+use mathlib.Core.Bool.{true}
+use lib.ListN.{drop}
 use borrow.Author.Tests.{not-true, not-false}
 use Rattle.listing.specs.Text.{chordWord}
+use Rattle.listing.specs.Reading.{begins}
 use Rattle.listing.proofs.Lining.{begins-within, chord-none, chord-bad, chord-right, chord-wrong}
 use borrow.Author.Needs.{needs}
 use Rattle.listing.proofs.lines.chord_line.Statement.{statement}
@@ -21,7 +24,12 @@ stands-requires c κs = search needs
 
 -- src/lines.rt:71:9
 returns : tie.Need-returns
-returns c = (let a = c .before .before .before .before .before in chord-none (a .args .text .now) (a .args .from) (a .args .h) (a .args .base) (a .args .cells .now) (a .pre .1) (sym (c .before .stands .ensures) ∙ not-true _ (c .if1 .taken)))
+returns c =
+    let a = c .before .before .before .before .before in
+    chord-none (a .args .text .now) (a .args .from) (a .args .h) (a .args .base) (a .args .cells .now) (a .pre .1) (sym (c .before .stands .ensures) ∙ not-true _ (c .if1 .taken))
+
+begun : (e : tie.Else1) → let a = e .before .before .before .before .before in begins chordWord (drop (a .args .from) (a .args .text .now)) ≡ true
+begun e = sym (e .before .stands .ensures) ∙ not-false _ (e .if1 .left)
 
 -- src/lines.rt:73:24
 add-fields : tie.Need-add-fields
@@ -32,7 +40,7 @@ fields-requires : tie.Need-fields-requires
 fields-requires c κs =
     let e = c .before in
     let a = e .before .before .before .before .before in
-    (begins-within chordWord (a .args .text .now) (a .args .from) (a .pre .0) (sym (e .before .stands .ensures) ∙ not-false _ (e .if1 .left)), a .pre .1)
+    (begins-within chordWord (a .args .text .now) (a .args .from) (a .pre .0) (begun e), a .pre .1)
 
 -- src/lines.rt:74:22
 enum-known-count : tie.Need-enum-known-count
@@ -53,7 +61,7 @@ returns-2 c =
     let f = k .before .before in
     let e = f .before .before in
     let a = e .before .before .before .before .before in
-    chord-right (a .args .text .now) (a .args .from) (a .args .h) (a .args .base) (a .args .cells .now) (a .pre .1) (sym (e .before .stands .ensures) ∙ not-false _ (e .if1 .left)) (f .fields .ensures) (c .before .before .count .given .1) (c .if2 .taken)
+    chord-right (a .args .text .now) (a .args .from) (a .args .h) (a .args .base) (a .args .cells .now) (a .pre .1) (begun e) (f .fields .ensures) (c .before .before .count .given .1) (c .if2 .taken)
 
 -- src/lines.rt:66:1
 same-length-2 : tie.Need-same-length-2
@@ -66,7 +74,7 @@ returns-3 c =
     let f = k .before .before in
     let e = f .before .before in
     let a = e .before .before .before .before .before in
-    chord-wrong (a .args .text .now) (a .args .from) (a .args .h) (a .args .base) (a .args .cells .now) (a .pre .1) (sym (e .before .stands .ensures) ∙ not-false _ (e .if1 .left)) (f .fields .ensures) (c .before .before .count .given .1) (c .if2 .left)
+    chord-wrong (a .args .text .now) (a .args .from) (a .args .h) (a .args .base) (a .args .cells .now) (a .pre .1) (begun e) (f .fields .ensures) (c .before .before .count .given .1) (c .if2 .left)
 
 -- src/lines.rt:66:1
 same-length-3 : tie.Need-same-length-3
@@ -79,7 +87,7 @@ returns-4 c =
     let f = k .before .before in
     let e = f .before .before in
     let a = e .before .before .before .before .before in
-    chord-bad (a .args .text .now) (a .args .from) (a .args .h) (a .args .base) (a .args .cells .now) (a .pre .1) (sym (e .before .stands .ensures) ∙ not-false _ (e .if1 .left)) (f .fields .ensures) (c .enum-told .given .1)
+    chord-bad (a .args .text .now) (a .args .from) (a .args .h) (a .args .base) (a .args .cells .now) (a .pre .1) (begun e) (f .fields .ensures) (c .enum-told .given .1)
 
 pub chord-line-spec : {M : Type 1} → statement M
 chord-line-spec =

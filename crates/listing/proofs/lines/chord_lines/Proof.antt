@@ -2,7 +2,7 @@
 -- the text is read from the place on. The measure is how many chords may still come. Assumes nothing.
 use borrow.Author.Needs.{needs}
 use mathlib.Core.Path.{_∙_}
-use Prim.Native.Nat.{_-_}
+use Prim.Native.Nat.{_-_, _<_}
 use native.Mathlib.Omega.{arith}
 use Rattle.listing.proofs.Lining.{filled-few}
 use Rattle.listing.proofs.Scoring.{Scoring, scoring-start, scoring-end, scoring-many, scoring-less, scoring-room, scoring-bad, scoring-more}
@@ -40,12 +40,15 @@ chord-line-requires c κs =
 enum-known-count : tie.Need-enum-known-count Inv-loop μ-loop
 enum-known-count c = search needs
 
+-- one chord more may come
+less : (c : tie.After-known-told Inv-loop μ-loop) → c .before .before .before .before .before .before .before .before .before .loop .columns < 2048
+less c =
+    let e = c .before .before .before .before .before .before .before in
+    scoring-less _ _ _ (e .before .before .loop .inv) (e .before .loop-test .taken) (e .if1 .left)
+
 -- src/lines.rt:101:17
 add-columns : tie.Need-add-columns Inv-loop μ-loop
-add-columns c =
-    let e = c .before .before .before .before .before .before .before in
-    let h = scoring-less _ _ _ (e .before .before .loop .inv) (e .before .loop-test .taken) (e .if1 .left) in
-    omega arith
+add-columns c = omega (arith, less c)
 
 -- src/lines.rt:102:17
 add-base : tie.Need-add-base Inv-loop μ-loop
@@ -62,10 +65,7 @@ add-base c =
 
 -- src/lines.rt:94:5
 loop-less : tie.Need-loop-less Inv-loop μ-loop
-loop-less c =
-    let e = c .before .before .before .before .before .before .before in
-    let h = scoring-less _ _ _ (e .before .before .loop .inv) (e .before .loop-test .taken) (e .if1 .left) in
-    omega arith
+loop-less c = omega (arith, less c)
 
 -- src/lines.rt:94:5
 loop-again : tie.Need-loop-again Inv-loop μ-loop

@@ -3,7 +3,7 @@
 use borrow.Author.Needs.{needs}
 use Prim.Native.Nat.{_-_}
 use native.Mathlib.Omega.{arith}
-use Rattle.listing.proofs.Filling.{Filling, filling-start, filling-short, filling-end, filling-stop, filling-less, filling-bad, filling-more}
+use Rattle.listing.proofs.Filling.{Filling, filling-start, filling-short, filling-end, filling-stop, Room, filling-room, filling-bad, filling-more}
 use Rattle.listing.proofs.lines.fields.Statement.{statement}
 use Rattle.listing.proofs.lines.fields.Tie as tie
 use Rattle.listing.proofs.lines.fields.Reads as reads
@@ -56,37 +56,31 @@ cell-requires c κs = search needs
 enum-known-value : tie.Need-enum-known-value Inv-loop μ-loop
 enum-known-value c = search needs
 
--- src/lines.rt:60:22
-add-into : tie.Need-add-into Inv-loop μ-loop
-add-into c =
+-- where a value is stored
+room : (c : tie.After-known-told Inv-loop μ-loop)
+    → let e = c .before .before .before .before in
+    let l = e .before .before .before .before in
+    Room (l .before .before .before .args .limit) (l .before .before .before .args .base) (l .loop .into) (l .loop .count)
+room c =
     let e = c .before .before .before .before in
     let l = e .before .before .before in
-    let h = filling-less _ _ _ _ _ _ (l .before .loop .inv) (l .loop-test .taken) (e .before .if1 .left) (e .if2 .left) in
-    omega (arith, l .before .loop .inv .long, l .before .loop .inv .room)
+    filling-room _ _ _ _ _ _ (l .before .loop .inv) (l .loop-test .taken) (e .before .if1 .left) (e .if2 .left)
+
+-- src/lines.rt:60:22
+add-into : tie.Need-add-into Inv-loop μ-loop
+add-into c = omega (arith, room c)
 
 -- src/lines.rt:60:17
 slice-write-into : tie.Need-slice-write-into Inv-loop μ-loop
-slice-write-into c =
-    let e = c .before .before .before .before in
-    let l = e .before .before .before in
-    let h = filling-less _ _ _ _ _ _ (l .before .loop .inv) (l .loop-test .taken) (e .before .if1 .left) (e .if2 .left) in
-    omega (arith, l .before .loop .inv .long, l .before .loop .inv .room)
+slice-write-into c = omega (arith, room c)
 
 -- src/lines.rt:61:17
 add-count : tie.Need-add-count Inv-loop μ-loop
-add-count c =
-    let e = c .before .before .before .before in
-    let l = e .before .before .before in
-    let h = filling-less _ _ _ _ _ _ (l .before .loop .inv) (l .loop-test .taken) (e .before .if1 .left) (e .if2 .left) in
-    omega (arith, l .before .loop .inv .long, l .before .loop .inv .room)
+add-count c = omega (arith, room c)
 
 -- src/lines.rt:47:5
 loop-less : tie.Need-loop-less Inv-loop μ-loop
-loop-less c =
-    let e = c .before .before .before .before in
-    let l = e .before .before .before in
-    let h = filling-less _ _ _ _ _ _ (l .before .loop .inv) (l .loop-test .taken) (e .before .if1 .left) (e .if2 .left) in
-    omega (arith, l .before .loop .inv .long, l .before .loop .inv .room)
+loop-less c = omega (arith, room c)
 
 -- src/lines.rt:47:5
 loop-again : tie.Need-loop-again Inv-loop μ-loop

@@ -1,7 +1,9 @@
 -- `listing::lines::theme_line` meets its contract. Assumes nothing.
-use mathlib.Core.Path.{sym, _∙_}
+use mathlib.Core.Path.{_≡_, sym, _∙_}
+use mathlib.Core.Bool.{true}
 use borrow.Author.Tests.{not-true, not-false}
 use Rattle.listing.specs.Text.{themeWord, exactWord, octaveWord}
+use Rattle.listing.specs.Reading.{begins}
 use Rattle.listing.proofs.Lining.{begins-length, begins-within, theme-none, theme-exact, theme-octave, theme-neither}
 use borrow.Author.Needs.{needs}
 use Rattle.listing.proofs.lines.theme_line.Statement.{statement}
@@ -23,6 +25,9 @@ stands-requires c κs = search needs
 returns : tie.Need-returns
 returns c = theme-none _ _ (sym (c .before .stands .ensures) ∙ not-true _ (c .if1 .taken))
 
+begun : (e : tie.Else1) → begins themeWord (e .before .before .before .before .before .args .text .now) ≡ true
+begun e = sym (e .before .stands .ensures) ∙ not-false _ (e .if1 .left)
+
 -- src/lines.rt:138:24
 slice-aggregate-stands-2 : tie.Need-slice-aggregate-stands-2
 slice-aggregate-stands-2 c = search needs
@@ -32,7 +37,7 @@ stands-requires-2 : tie.Need-stands-requires-2
 stands-requires-2 c κs =
     let e = c .before in
     let a = e .before .before .before .before .before in
-    begins-length themeWord (a .args .text .now) (sym (e .before .stands .ensures) ∙ not-false _ (e .if1 .left))
+    begins-length themeWord (a .args .text .now) (begun e)
 
 -- src/lines.rt:139:9
 notes-requires : tie.Need-notes-requires
@@ -40,7 +45,7 @@ notes-requires c κs =
     let t = c .before in
     let e = t .before .before .before in
     let a = e .before .before .before .before .before in (
-      begins-within exactWord (a .args .text .now) 6 (begins-length themeWord (a .args .text .now) (sym (e .before .stands .ensures) ∙ not-false _ (e .if1 .left)))
+      begins-within exactWord (a .args .text .now) 6 (begins-length themeWord (a .args .text .now) (begun e))
           (sym (t .before .stands2 .ensures) ∙ t .if2 .taken),
       a .pre,
     )
@@ -55,7 +60,7 @@ returns-2 c =
     let n = c .before .before in
     let t = n .before .before in
     let e = t .before .before .before in
-    theme-exact _ _ (sym (e .before .stands .ensures) ∙ not-false _ (e .if1 .left)) (sym (t .before .stands2 .ensures) ∙ t .if2 .taken) (n .notes .ensures)
+    theme-exact _ _ (begun e) (sym (t .before .stands2 .ensures) ∙ t .if2 .taken) (n .notes .ensures)
 
 -- src/lines.rt:141:24
 slice-aggregate-stands-3 : tie.Need-slice-aggregate-stands-3
@@ -66,7 +71,7 @@ stands-requires-3 : tie.Need-stands-requires-3
 stands-requires-3 c κs =
     let e = c .before .before .before .before in
     let a = e .before .before .before .before .before in
-    begins-length themeWord (a .args .text .now) (sym (e .before .stands .ensures) ∙ not-false _ (e .if1 .left))
+    begins-length themeWord (a .args .text .now) (begun e)
 
 -- src/lines.rt:142:9
 notes-requires-2 : tie.Need-notes-requires-2
@@ -74,7 +79,7 @@ notes-requires-2 c κs =
     let t = c .before in
     let e = t .before .before .before .before .before .before in
     let a = e .before .before .before .before .before in (
-      begins-within octaveWord (a .args .text .now) 6 (begins-length themeWord (a .args .text .now) (sym (e .before .stands .ensures) ∙ not-false _ (e .if1 .left)))
+      begins-within octaveWord (a .args .text .now) 6 (begins-length themeWord (a .args .text .now) (begun e))
           (sym (t .before .stands3 .ensures) ∙ t .if3 .taken),
       a .pre,
     )
@@ -90,7 +95,7 @@ returns-3 c =
     let t = n .before .before in
     let u = t .before .before .before in
     let e = u .before .before .before in
-    theme-octave _ _ (sym (e .before .stands .ensures) ∙ not-false _ (e .if1 .left)) (sym (u .before .stands2 .ensures) ∙ u .if2 .left)
+    theme-octave _ _ (begun e) (sym (u .before .stands2 .ensures) ∙ u .if2 .left)
     (sym (t .before .stands3 .ensures) ∙ t .if3 .taken) (n .notes2 .ensures)
 
 -- src/lines.rt:131:1
@@ -98,7 +103,7 @@ returns-4 : tie.Need-returns-4
 returns-4 c =
     let u = c .before .before .before in
     let e = u .before .before .before in
-    theme-neither _ _ (sym (e .before .stands .ensures) ∙ not-false _ (e .if1 .left)) (sym (u .before .stands2 .ensures) ∙ u .if2 .left)
+    theme-neither _ _ (begun e) (sym (u .before .stands2 .ensures) ∙ u .if2 .left)
     (sym (c .before .stands3 .ensures) ∙ c .if3 .left)
 
 pub theme-line-spec : {M : Type 1} → statement M

@@ -33,7 +33,7 @@ loop-holds : tie.Need-loop-holds Inv-loop μ-loop
 loop-holds c =
     let a = c .before .before .before .before .before .before .before in
     rw (c .first .ensures)
-    (paging-start _ _ _ _ _ (a .pre .accepted) (a .pre .own) _ (a .pre .table-long) (a .pre .columns-long) (a .pre .shifts-long) (a .pre .room))
+    (paging-start _ _ _ _ _ (a .pre .accepted) (a .pre .own) (a .pre .room))
 
 -- src/pages.rt:39:15
 quick-page-requires : tie.Need-quick-page-requires Inv-loop μ-loop
@@ -50,9 +50,9 @@ hit-lines-requires c κs =
     let l = q .before .before .before .before in
     let p = rw (l .loop-test .taken) at (l .before .loop .inv) in
     let e = c .before .before .before .before .t .given .1 in
-    let cl = (q .quick-page .kept .1 .1 .1 .1 .1 .1 .1 .0 ∙ p .columns-long) in
+    let cl = (q .quick-page .kept .1 .1 .1 .1 .1 .1 .1 .0 ∙ p .room .columns-long) in
     let w = turn-written _ _ _ _ _ _ p (q .quick-page .ensures) e in
-    ((omega arith, (q .quick-page .kept .1 .1 .1 .1 .1 .1 .1 .1 .0 ∙ p .shifts-long) ∙ sym cl), turn-room _ _ _ _ _ _ p (q .quick-page .ensures) e)
+    ((omega arith, (q .quick-page .kept .1 .1 .1 .1 .1 .1 .1 .1 .0 ∙ p .room .shifts-long) ∙ sym cl), turn-room _ _ _ _ _ _ p (q .quick-page .ensures) e)
 
 -- src/pages.rt:52:17
 add-found : tie.Need-add-found Inv-loop μ-loop
@@ -89,7 +89,7 @@ loop-again c =
     let l = q .before .before .before .before in
     let p = rw (l .loop-test .taken) at (l .before .loop .inv) in
     let e = c .before .before .before .before .before .before .before .before .before .before .before .t .given .1 in
-    turn-more _ _ _ _ _ _ p (q .quick-page .ensures) e (q .quick-page .kept .1 .1 .1 .1 .1 .1 .0 ∙ p .table-long) (q .quick-page .kept .1 .1 .1 .1 .1 .1 .1 .0 ∙ p .columns-long) (q .quick-page .kept .1 .1 .1 .1 .1 .1 .1 .1 .0 ∙ p .shifts-long) (c .before .before .before .before .before .before .hit-lines .ensures)
+    turn-more _ _ _ _ _ _ p (q .quick-page .ensures) e (q .quick-page .kept .1 .1 .1 .1 .1 .1 .0 ∙ p .room .table-long) (q .quick-page .kept .1 .1 .1 .1 .1 .1 .1 .0 ∙ p .room .columns-long) (q .quick-page .kept .1 .1 .1 .1 .1 .1 .1 .1 .0 ∙ p .room .shifts-long) (c .before .before .before .before .before .before .hit-lines .ensures)
 
 -- src/pages.rt:58:17
 enum-told : tie.Need-enum-told Inv-loop μ-loop
@@ -128,15 +128,15 @@ end-line-requires c κs =
 
 -- src/pages.rt:19:1
 same-length : tie.Need-same-length Inv-loop μ-loop
-same-length c = c .before .before .before .before .before .loop .inv .table-long ∙ sym (c .before .before .before .before .before .before .before .before .before .before .before .before .before .pre .table-long)
+same-length c = c .before .before .before .before .before .loop .inv .room .table-long ∙ sym (c .before .before .before .before .before .before .before .before .before .before .before .before .before .pre .room .table-long)
 
 -- src/pages.rt:19:1
 same-length-2 : tie.Need-same-length-2 Inv-loop μ-loop
-same-length-2 c = c .before .before .before .before .before .loop .inv .columns-long ∙ sym (c .before .before .before .before .before .before .before .before .before .before .before .before .before .pre .columns-long)
+same-length-2 c = c .before .before .before .before .before .loop .inv .room .columns-long ∙ sym (c .before .before .before .before .before .before .before .before .before .before .before .before .before .pre .room .columns-long)
 
 -- src/pages.rt:19:1
 same-length-3 : tie.Need-same-length-3 Inv-loop μ-loop
-same-length-3 c = c .before .before .before .before .before .loop .inv .shifts-long ∙ sym (c .before .before .before .before .before .before .before .before .before .before .before .before .before .pre .shifts-long)
+same-length-3 c = c .before .before .before .before .before .loop .inv .room .shifts-long ∙ sym (c .before .before .before .before .before .before .before .before .before .before .before .before .before .pre .room .shifts-long)
 
 -- src/pages.rt:19:1
 same-length-4 : tie.Need-same-length-4 Inv-loop μ-loop

@@ -19,9 +19,6 @@ pages-requires c κs =
     record {
       accepted = a .pre .accepted;
       own = prepared-own _ _ _ (a .pre .accepted) (a .pre .sets-long) (c .before .before .before .before .before .before .before .prepare .ensures);
-      table-long = a .pre .table-long;
-      columns-long = a .pre .columns-long;
-      shifts-long = a .pre .shifts-long;
       room = a .pre .room;
     }
 

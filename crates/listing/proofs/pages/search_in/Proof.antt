@@ -35,9 +35,6 @@ prepared-pages-requires c κs =
     record {
       accepted = a .pre .accepted;
       sets-long = length-take-le (a .args .columns - 1 - 0) (a .args .sets .now) (omega (arith, a .pre .columns-are, a .pre .sets-room)) ∙ omega (arith, a .pre .columns-are);
-      table-long = a .pre .table-long;
-      columns-long = a .pre .columns-long;
-      shifts-long = a .pre .shifts-long;
       room = a .pre .room;
     }
 

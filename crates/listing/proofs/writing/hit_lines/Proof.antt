@@ -2,16 +2,9 @@
 -- are to come. The measure is how many are left. Assumes nothing.
 use borrow.Author.Needs.{needs}
 use Prim.Native.Nat.{_-_}
-use mathlib.Core.Path.{sym, subst}
-use Prim.Native.Nat.{_+_, _≤_}
 use native.Mathlib.Omega.{arith}
-use lib.IntN.{ℤ}
-use lib.ListN.{length, getD}
-use mir.Syntax.{w16}
-use mir.Facts.{toZ-ofZ}
-use Rattle.listing.specs.Answer.{pairOf, hitLine}
-use Rattle.listing.specs.Steps.{Wrote}
-use Rattle.listing.proofs.Hitting.{Hitting, hitting-start, hitting-room, hitting-more, hitting-end, hitting-length}
+use lib.ListN.{getD}
+use Rattle.listing.proofs.Hitting.{read-room, read-wrote, Hitting, hitting-start, hitting-room, hitting-more, hitting-end, hitting-length}
 use Rattle.listing.proofs.writing.hit_lines.Statement.{statement}
 use Rattle.listing.proofs.writing.hit_lines.Tie as tie
 use Rattle.listing.proofs.writing.hit_lines.Reads as reads
@@ -49,7 +42,7 @@ hit-line-requires : tie.Need-hit-line-requires Inv-loop μ-loop
 hit-line-requires c κs =
     let l = c .before .before .before in
     let a = l .before .before .before .before in
-    subst (λ (z : ℤ). l .before .loop .at + length (hitLine (pairOf (getD (a .args .columns .now) (l .before .loop .i) 0) z)) ≤ length (l .before .loop .out)) (sym (toZ-ofZ {w = w16} (record { sfits = c .hit-line-arg2 .given })))
+    read-room (getD (a .args .columns .now) (l .before .loop .i) 0) _ (record { sfits = c .hit-line-arg2 .given }) (l .before .loop .at) (l .before .loop .out)
     (hitting-room _ _ _ _ _ (l .before .loop .inv) (l .loop-test .taken) (a .pre .0 .0) (a .pre .0 .1))
 
 -- src/writing.rt:104:9
@@ -67,7 +60,7 @@ loop-again c =
     let l = w .before .before .before .before in
     let a = l .before .before .before .before in
     hitting-more _ _ _ _ _ (l .before .loop .inv) (l .loop-test .taken) (a .pre .0 .0) (a .pre .0 .1)
-    (subst (λ (z : ℤ). Wrote (hitLine (pairOf (getD (a .args .columns .now) (l .before .loop .i) 0) z)) (l .before .loop .at) (l .before .loop .out) (w .hit-line .result) (w .hit-line .last .0)) (toZ-ofZ {w = w16} (record { sfits = w .before .hit-line-arg2 .given })) (w .hit-line .ensures))
+    (read-wrote (getD (a .args .columns .now) (l .before .loop .i) 0) _ (record { sfits = w .before .hit-line-arg2 .given }) (w .hit-line .ensures))
 
 -- src/writing.rt:89:1
 same-length : tie.Need-same-length Inv-loop μ-loop

@@ -1,65 +1,22 @@
 -- `listing::writing::refused_line` meets its contract. Assumes nothing.
 use borrow.Author.Needs.{needs}
-use Rattle.listing.specs.Text.{refusedWord, decimal, field}
 use Rattle.listing.specs.Answer.{refusedLine}
-use Rattle.listing.proofs.Puts.{line-word, line-first, line-second, line-last, line-whole}
 use Rattle.listing.proofs.writing.refused_line.Statement.{statement}
 use Rattle.listing.proofs.writing.refused_line.Tie as tie
 
-slice-aggregate-put-word : tie.Need-slice-aggregate-put-word
-slice-aggregate-put-word c = search needs
+slice-aggregate-line : tie.Need-slice-aggregate-line
+slice-aggregate-line c = search needs
 
-put-word-requires : tie.Need-put-word-requires
+line-requires : tie.Need-line-requires
 unfolding refusedLine
-put-word-requires c κs =
-    let a = c .before .before .before in
-    line-word refusedWord (field (decimal 11)) (field (decimal (a .args .line))) (a .args .at) (a .args .out .now) (a .pre)
-
-put-field-requires : tie.Need-put-field-requires
-unfolding refusedLine
-put-field-requires c κs =
-    let w = c .before .before .before in
-    let a = w .before .before .before .before in
-    line-first refusedWord (field (decimal 11)) (field (decimal (a .args .line))) (a .args .at) (a .args .out .now) (a .pre) (w .put-word .ensures)
-
-put-field-requires-2 : tie.Need-put-field-requires-2
-unfolding refusedLine
-put-field-requires-2 c κs =
-    let f = c .before .before .before in
-    let w = f .before .before .before .before in
-    let a = w .before .before .before .before in
-    line-second refusedWord (field (decimal 11)) (field (decimal (a .args .line))) (a .args .at) (a .args .out .now) (a .pre) (w .put-word .ensures) (f .put-field .ensures)
-
-put-requires : tie.Need-put-requires
-unfolding refusedLine
-put-requires c κs =
-    let s = c .before .before .before in
-    let f = s .before .before .before .before in
-    let w = f .before .before .before .before in
-    let a = w .before .before .before .before in
-    line-last refusedWord (field (decimal 11)) (field (decimal (a .args .line))) (a .args .at) (a .args .out .now) (a .pre) (w .put-word .ensures) (f .put-field .ensures) (s .put-field2 .ensures)
+line-requires c κs = c .before .before .before .pre
 
 same-length : tie.Need-same-length
 same-length c = search needs
 
 returns : tie.Need-returns
 unfolding refusedLine
-returns c =
-    let p = c .before .before in
-    let s = p .before .before .before .before in
-    let f = s .before .before .before .before in
-    let w = f .before .before .before .before in
-    let a = w .before .before .before .before in
-    line-whole refusedWord (field (decimal 11)) (field (decimal (a .args .line))) (a .args .at) (a .args .out .now) (a .pre) (w .put-word .ensures) (f .put-field .ensures) (s .put-field2 .ensures) (p .put .ensures)
+returns c = c .before .before .line .ensures
 
 pub refused-line-spec : {M : Type 1} → statement M
-refused-line-spec =
-    tie.close
-    (tie.spec
-    slice-aggregate-put-word
-    put-word-requires
-    put-field-requires
-    put-field-requires-2
-    put-requires
-    same-length
-    returns)
+refused-line-spec = tie.close (tie.spec slice-aggregate-line line-requires same-length returns)
