@@ -1,27 +1,19 @@
--- What was read right is accepted by the search: the cells, the tracks and the theme; and the sets that are prepared of it are
--- the score's own. Assumes nothing.
-use mathlib.Core.Path.{_≡_, refl, sym, ap, _∙_, subst}
+-- What was read right is accepted by the search: the cells, the tracks and the theme. Assumes nothing.
+use mathlib.Core.Path.{_≡_, refl, ap, _∙_, subst}
 use mathlib.Core.Logic.{_⊎_, ⊎-elim}
-use mathlib.Core.Bool.{Bool, true, false, cond, _&&_}
+use mathlib.Core.Bool.{Bool, true, false, cond}
 use mathlib.Core.List.{List, [], _∷_, _++_}
-use Prim.Native.Nat.{ℕ, zero, suc, _+_, _-_, _*_, _/_, _%_, _≤_, _<_}
+use Prim.Native.Nat.{ℕ, zero, suc, _+_, _-_, _*_, _/_, _≤_}
 use native.Mathlib.Nat.{suc-mul, zero-mul, mul-div-cancel, div-add-mod'}
 use native.Mathlib.Omega.{arith}
-use lib.Dec.{leb, ltb}
 use lib.ListN.{length, take, drop, length-drop, take-append-drop}
 use lib.Seq.{length-take-le}
-use borrow.Author.Tests.{le-leb, lt-leb, le-ltb}
+use borrow.Author.Tests.{lt-leb, le-ltb}
 use Rattle.theory.specs.Lists.{some}
-use Rattle.score.specs.declared.sets.Preparation.{Preparation}
-use Rattle.score.specs.declared.sets.Preparation.the-variants.{Prepared, Refused}
 use Rattle.score.specs.Score.{cut, columnsIn, scoreOf}
-use Rattle.score.specs.Sets.{sets as setsOf}
-use Rattle.score.specs.Refusals.{badCell, row1, row2, row3, row6}
-use Rattle.score.specs.Preparing.{Filled, prepared, Prepares}
+use Rattle.score.specs.Refusals.{badCell}
 use Rattle.asking.specs.Refusals.{badNote}
 use Rattle.asking.specs.Asking.{Accepted}
-use Rattle.score.proofs.Judged.{judge-clear}
-use Rattle.asking.proofs.Rows.{accepted-clear, row6-clear}
 use Rattle.listing.specs.Reading.{Theme}
 use Rattle.listing.specs.Request.{Each, IsNote, IsCell, IsChord, IsTheme}
 use Rattle.listing.proofs.Scoring.{cut-take}
@@ -91,14 +83,3 @@ module _ (n h : ℕ) (cells : List ℕ) (some-tracks : 1 ≤ h) (room : n * h �
 
   pub front-score : scoreOf (take (n * h) cells) h ≡ cut n h cells
   front-score = score-is n h (take (n * h) cells) some-tracks front-length ∙ front-cut
-
--- ---- prepared
-
-pub prepared-own : (cells : List ℕ) (h : ℕ) (theme : List ℕ) {lent after : List ℕ} {answer : Preparation} → Accepted cells h theme → length lent ≡ columnsIn cells h - 1
-    → Prepares cells h lent answer after → after ≡ setsOf (scoreOf cells h)
-prepared-own cells h theme {lent} a l p =
-    let c = accepted-clear cells h theme .0 a in
-    p .fills
-    ∙ ap (λ (f : Filled). f .sets)
-    (judge-clear (λ r. record { answer = Refused r; sets = lent }) (record { answer = Prepared; sets = setsOf (scoreOf cells h) })
-    (row1 h ∷ row2 cells h ∷ row3 cells ∷ row6 cells h lent ∷ []) (c .0, (c .1 .0, (c .1 .1 .0, (row6-clear cells h lent .1 l, tt)))))

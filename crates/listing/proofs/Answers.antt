@@ -1,10 +1,11 @@
 -- What the output of an input is: a line for each pair of the definition and the line behind them where the input is the text of a
 -- request within the limits (`output-right`), and else one refused line (`output-refused`). Assumes nothing.
-use mathlib.Core.Path.{_≡_, refl, ap, _∙_}
+use mathlib.Core.Path.{_≡_, refl, ap}
 use mathlib.Core.List.{List}
 use Prim.Native.Nat.{ℕ, _≤_}
 use Rattle.listing.specs.Request.{Request, Meaning, right, faulty, meaning, textOf, Right}
-use Rattle.listing.specs.Answer.{answer, output, linesOf, refusedLine}
+use Rattle.telling.specs.Lines.{linesOf, refusedLine}
+use Rattle.listing.specs.Answer.{answer, output}
 use Rattle.listing.proofs.Texts.{meaning-text}
 use Rattle.listing.proofs.Outputs.{meaning-right, meaning-faulty}
 

@@ -3,21 +3,19 @@
 -- what lies behind it. Assumes nothing.
 use mathlib.Core.Path.{_≡_, refl, sym, ap, _∙_}
 use mathlib.Core.Logic.{_⊎_, inl, ⊎-elim}
-use mathlib.Core.Bool.{Bool, cond}
+use mathlib.Core.Bool.{cond}
 use mathlib.Core.List.{List, [], _∷_, _++_, append-assoc}
 use Prim.Native.Nat.{ℕ, zero, suc, _+_, _-_, _*_, _≤_, _<_}
-use native.Mathlib.Nat.{mul-suc}
 use native.Mathlib.Omega.{arith}
 use lib.Dec.{eqb}
 use lib.ListN.{length, take, drop, length-append, take-append-drop}
 use Rattle.asking.specs.declared.way.Way.{Way}
 use Rattle.asking.specs.declared.way.Way.the-variants.{Exact, Octave}
-use Rattle.listing.specs.Text.{themeWord, chordWord}
-use Rattle.listing.specs.Reading.{Read, got, bad, chordLine, Theme, themeLine}
-use Rattle.listing.specs.Request.{Chords, all, fault, above, onChord, chords, withChords, withTheme, meaning, wayWord, cellText, fieldsText, chordText, themeText, Each, IsNote, IsCell, IsTheme}
+use Rattle.listing.specs.Reading.{themeWord, chordWord, Read, got, bad, chordLine, Theme, themeLine}
+use Rattle.listing.specs.Request.{Chords, all, above, onChord, chords, withChords, withTheme, meaning, wayWord, cellText, fieldsText, chordText, themeText, Each, IsNote, IsCell, IsTheme}
 use Rattle.listing.specs.Answer.{answer, output}
 use Rattle.listing.proofs.Scoring.{bad-got}
-use Rattle.listing.proofs.Widths.{decimal-le}
+use Rattle.telling.proofs.Widths.{decimal-le}
 use Rattle.listing.proofs.RightLines.{chord-is, theme-is}
 use Rattle.listing.proofs.Texts.{note-text, some-text, chord-text, theme-text}
 

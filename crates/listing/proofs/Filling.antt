@@ -1,7 +1,7 @@
 -- The fields of a line read one after the other into a buffer: the values so far stand in the buffer from the base on, and
 -- what is left of the line is read from the place on. Laws: start, end, stop, cell. Assumes nothing.
 use mathlib.Core.Path.{_≡_, refl, sym, ap, _∙_}
-use mathlib.Core.Bool.{Bool, true, false, cond, not, _||_, true≢false}
+use mathlib.Core.Bool.{Bool, true, false, not, _||_, true≢false}
 use mathlib.Core.Logic.{⊎-elim}
 use mathlib.Core.List.{List, [], _∷_, _++_, append-assoc, append-nil}
 use Prim.Native.Nat.{ℕ, zero, suc, _+_, _-_, _≤_, _<_}
@@ -16,7 +16,7 @@ use Rattle.listing.specs.declared.numbers.Numeral.{Numeral}
 use Rattle.listing.specs.declared.numbers.Numeral.the-variants.{At, Bad}
 use Rattle.listing.specs.declared.lines.Line.the-variants as Line
 use Rattle.listing.specs.Reading.{Read, got, bad, next, front, cell, fields}
-use Rattle.listing.specs.Steps.{Numbered, numberRead, Filled}
+use Rattle.listing.specs.Steps.{Numbered, Filled}
 use Rattle.listing.proofs.Places.{front-at, drop-more, number-within}
 
 -- values before what is read

@@ -4,13 +4,6 @@ mod Standing
 mod Filling
 mod Lining
 mod Scoring
-mod Puts
-mod Decimals
-mod Sizes
-mod Hitting
-mod Widths
-mod Searching
-mod Paged
 mod Rights
 mod RightLines
 mod Acceptance

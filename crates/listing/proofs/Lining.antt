@@ -15,8 +15,7 @@ use Rattle.listing.specs.declared.lines.Line.{Line}
 use Rattle.listing.specs.declared.lines.Line.the-variants.{Read as Lined, Bad}
 use Rattle.listing.specs.declared.lines.ThemeLine.{ThemeLine}
 use Rattle.listing.specs.declared.lines.ThemeLine.the-variants as Themes
-use Rattle.listing.specs.Text.{themeWord, exactWord, octaveWord, chordWord}
-use Rattle.listing.specs.Reading.{Read, got, bad, next, begins, fields, counted, tracksRight, chordLine, Theme, notesOf, themeLine}
+use Rattle.listing.specs.Reading.{themeWord, exactWord, octaveWord, chordWord, Read, got, bad, next, begins, fields, counted, tracksRight, chordLine, Theme, notesOf, themeLine}
 use Rattle.listing.specs.Steps.{lineRead, lineNext, lineCount, Filled, Themed}
 
 pub begins-length : (word text : List ℕ) → begins word text ≡ true → length word ≤ length text

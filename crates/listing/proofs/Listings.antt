@@ -1,37 +1,46 @@
--- The call's promise, from what was written; and it leaves one answer and one state of the buffer (`lists-unique`). The sizes:
+-- The call's promise, from what was told; and it leaves one answer and one state of the buffer (`lists-unique`). The sizes:
 -- a buffer of `room` bytes suffices for every input (`output-few` of `Outputs`). Assumes nothing.
 use mathlib.Core.Path.{_≡_, refl, sym, ap, _∙_}
 use mathlib.Core.Bool.{Bool, true, false, cond}
-use mathlib.Core.List.{List, []}
-use Prim.Native.Nat.{ℕ, _+_, _≤_, _<_}
-use native.Mathlib.Nat.{zero-add}
+use mathlib.Core.List.{List}
+use Prim.Native.Nat.{ℕ, _≤_, _<_}
 use native.Mathlib.Omega.{arith}
 use lib.Dec.{ltb}
 use lib.ListN.{length}
 use borrow.Author.Tests.{lt-ltb, le-ltb, ltb-false}
-use Rattle.theory.specs.Lists.{over}
-use Rattle.theory.proofs.Lists.{over-sets}
+use Rattle.score.specs.declared.refusals.Refusal.{Refusal}
+use Rattle.telling.specs.declared.calls.Telling.{Telling}
+use Rattle.telling.specs.declared.calls.Telling.the-variants as Telling
+use Rattle.telling.specs.declared.calls.Telling.the-variants.{Told, Refused}
+use Rattle.telling.specs.Telling.{room, told, Tells}
 use Rattle.listing.specs.declared.output.Listing.{Listing}
 use Rattle.listing.specs.declared.output.Listing.the-variants.{Written, Short}
 use Rattle.listing.specs.Answer.{output}
-use Rattle.listing.specs.Listing.{room, Lists}
-use Rattle.listing.specs.Steps.{Wrote}
+use Rattle.listing.specs.Listing.{Lists}
 use Rattle.listing.proofs.Outputs.{output-few}
 
 module _ (input out : List ℕ) where
   pub list-short : length out < room → Lists input out Short out
   list-short h = record { answers = rw (lt-ltb (length out) 458546 h); writes = rw (lt-ltb (length out) 458546 h) }
 
-  module _ (h : room ≤ length out) {r : ℕ} {out′ : List ℕ} (w : Wrote (output input) 0 out r out′) where
-    count : r ≡ length (output input)
-    count = w .place ∙ zero-add (length (output input))
+  module _ (h : room ≤ length out) {r : Telling} {out′ : List ℕ} (w : Tells (told (output input) out) r out′) where
+    told-is : r ≡ Told (length (output input))
+    unfolding told
+    told-is = w .answers ∙ rw (le-ltb (length out) 458546 h)
 
-    pub list-written : Lists input out (Written r) out′
-    list-written =
-        record {
-          answers = rw (le-ltb (length out) 458546 h) (ap Written count);
-          writes = rw (le-ltb (length out) 458546 h) (w .is ∙ over-sets out [] 0 (output input) 0 refl (omega (arith, output-few input)));
-        }
+    pub list-written : {n : ℕ} → r ≡ Told n → Lists input out (Written n) out′
+    unfolding told
+    list-written {n} e =
+        let d = told-is in
+        let s : n ≡ length (output input) = cc in
+        record { answers = rw (le-ltb (length out) 458546 h) (ap Written s); writes = w .writes ∙ rw (le-ltb (length out) 458546 h) }
+
+    -- it is never refused, and never too short
+    pub list-refused : {e : Refusal} → r ≡ Refused e → ⊥
+    list-refused e = let d = told-is in let z : _≡_ {A = ℕ} 0 1 = cc in omega arith
+
+    pub list-room : r ≡ Telling.Short → ⊥
+    list-room e = let d = told-is in let z : _≡_ {A = ℕ} 0 1 = cc in omega arith
 
   pub lists-unique : {a b : Listing} {s t : List ℕ} → Lists input out a s → Lists input out b t → (a ≡ b) × (s ≡ t)
   lists-unique p q = (p .answers ∙ sym (q .answers), p .writes ∙ sym (q .writes))

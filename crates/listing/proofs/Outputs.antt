@@ -3,45 +3,25 @@
 -- Assumes nothing.
 use mathlib.Core.Path.{_≡_, refl, sym, ap, _∙_, subst}
 use mathlib.Core.Bool.{Bool, true, false, cond}
-use mathlib.Core.List.{List, [], _∷_, _++_, map}
-use Prim.Native.Nat.{ℕ, zero, suc, _+_, _*_, _≤_, _<_}
+use mathlib.Core.List.{List, [], _∷_, _++_}
+use Prim.Native.Nat.{ℕ, zero, suc, _+_, _*_, _≤_}
 use native.Mathlib.Nat.{zero-mul, suc-mul}
 use native.Mathlib.Omega.{arith}
 use lib.Dec.{eqb}
-use lib.ListN.{length, take, drop, length-append}
+use lib.ListN.{length, length-append}
 use lib.Seq.{take-at, drop-at}
 use Rattle.theory.specs.Lists.{join}
 use Rattle.score.specs.Score.{cut, scoreOf}
 use Rattle.asking.specs.Asking.{Accepted}
 use Rattle.listing.specs.Reading.{Read, got, bad, Theme, chordLine, themeLine}
-use Rattle.listing.specs.Request.{
-  Request,
-  Chords,
-  all,
-  fault,
-  above,
-  onChord,
-  chords,
-  Meaning,
-  right,
-  faulty,
-  withChords,
-  withTheme,
-  meaning,
-  textOf,
-  chordText,
-  themeText,
-  Each,
-  IsChord,
-  IsTheme,
-  Right,
-}
-use Rattle.listing.specs.Answer.{answer, output, linesOf, refusedLine}
-use Rattle.listing.specs.Listing.{room}
-use Rattle.listing.proofs.RightLines.{theme-is, Whole, chords-whole}
+use Rattle.listing.specs.Request.{Request, Chords, all, fault, above, onChord, chords, Meaning, right, faulty, withChords, withTheme, meaning, textOf, themeText, Each, IsChord, Right}
+use Rattle.telling.specs.Telling.{room}
+use Rattle.telling.specs.Lines.{linesOf}
+use Rattle.listing.specs.Answer.{answer, output}
+use Rattle.listing.proofs.RightLines.{theme-is, chords-whole}
 use Rattle.listing.proofs.Acceptance.{accepted-of, score-is}
-use Rattle.listing.proofs.Searching.{lines-few}
-use Rattle.listing.proofs.Widths.{refused-le}
+use Rattle.telling.proofs.Searching.{lines-few}
+use Rattle.telling.proofs.Widths.{refused-le}
 
 -- ---- a right input
 

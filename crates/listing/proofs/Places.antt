@@ -2,19 +2,18 @@
 -- one digit more, a number, a cell. The idea: what is left behind a place is what is left behind the next place but for the
 -- byte at the front. Assumes nothing.
 use mathlib.Core.Path.{_≡_, refl, sym, ap, _∙_}
-use mathlib.Core.Bool.{Bool, true, false, cond, _&&_, true≢false}
-use mathlib.Core.List.{List, [], _∷_}
-use Prim.Native.Nat.{ℕ, zero, suc, _+_, _-_, _*_, _≤_, _<_}
+use mathlib.Core.Bool.{Bool, true, false, _&&_, true≢false}
+use mathlib.Core.List.{List}
+use Prim.Native.Nat.{ℕ, _+_, _-_, _*_, _≤_, _<_}
 use native.Mathlib.Nat.{add-zero}
-use native.Mathlib.Numerals.{add-one}
 use native.Mathlib.Omega.{arith}
 use lib.Dec.{leb, eqb}
 use lib.ListN.{length, getD, drop, drop-of-length-le}
-use lib.Seq.{drop-cons, drop-drop, getD-drop}
+use lib.Seq.{drop-drop, getD-drop}
 use borrow.Author.Tests.{le-leb, lt-leb, eq-eqb, ne-eqb, leb-true, eqb-true}
 use Rattle.listing.specs.declared.numbers.Numeral.{Numeral}
 use Rattle.listing.specs.declared.numbers.Numeral.the-variants.{At, Bad}
-use Rattle.listing.specs.Reading.{Read, got, bad, next, front, isDigit, moreDigits, number, cell}
+use Rattle.listing.specs.Reading.{Read, next, front, isDigit, moreDigits, number, cell}
 use Rattle.listing.specs.Steps.{Seen, Numbered, numberRead, numberNext}
 
 -- ---- one byte

@@ -2,19 +2,18 @@
 -- Assumes nothing.
 use mathlib.Core.Path.{_≡_, refl, sym, ap, _∙_, subst}
 use mathlib.Core.Logic.{_⊎_, inl, inr}
-use mathlib.Core.Bool.{Bool, true, false, cond, _&&_, true≢false}
-use mathlib.Core.List.{List, [], _∷_, _++_, map, append-assoc, append-nil}
+use mathlib.Core.Bool.{Bool, true, false, cond, true≢false}
+use mathlib.Core.List.{List, [], _∷_, _++_, map, append-assoc}
 use Prim.Native.Nat.{ℕ, zero, suc, _+_, _≤_}
 use native.Mathlib.Omega.{arith}
 use lib.Dec.{leb, eqb}
 use lib.ListN.{length, drop}
 use lib.Seq.{drop-drop}
-use borrow.Author.Tests.{leb-true, eqb-true, eqb-false}
+use borrow.Author.Tests.{leb-true, eqb-true}
 use Rattle.theory.specs.Lists.{join}
 use Rattle.asking.specs.declared.way.Way.{Way}
 use Rattle.asking.specs.declared.way.Way.the-variants.{Exact, Octave}
-use Rattle.listing.specs.Text.{themeWord, exactWord, octaveWord, chordWord}
-use Rattle.listing.specs.Reading.{Read, got, bad, next, begins, fields, counted, tracksRight, chordLine, Theme, notesOf, themeLine}
+use Rattle.listing.specs.Reading.{themeWord, exactWord, octaveWord, chordWord, Read, got, bad, next, begins, fields, counted, tracksRight, chordLine, Theme, notesOf, themeLine}
 use Rattle.listing.specs.Request.{Chords, all, fault, above, onChord, chords, chordText, themeText, wayWord, fieldsText, Each, IsChord, IsTheme}
 use Rattle.listing.proofs.Scoring.{bad-got, tracks-some, tracks-same}
 use Rattle.listing.proofs.Rights.{Fielded, fields-right, got-value, got-rest}

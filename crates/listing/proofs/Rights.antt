@@ -1,19 +1,19 @@
 -- What was read is right, and is the text that stands there: numbers, cells, fields, lines. Assumes nothing.
 use mathlib.Core.Path.{_≡_, refl, sym, ap, _∙_, subst}
 use mathlib.Core.Logic.{_⊎_, inl, inr, ⊎-elim}
-use mathlib.Core.Bool.{Bool, true, false, cond, _&&_, true≢false}
+use mathlib.Core.Bool.{Bool, true, false, cond, _&&_}
 use mathlib.Core.List.{List, [], _∷_, _++_, append-assoc}
 use Prim.Native.Nat.{ℕ, zero, suc, _+_, _-_, _*_, _/_, _%_, _≤_, _<_}
 use native.Mathlib.Nat.{eq-or-lt-of-le}
 use native.Mathlib.Omega.{arith}
 use lib.Dec.{leb, eqb}
 use lib.ListN.{length, drop}
-use borrow.Author.Tests.{leb-true, eqb-true, eqb-false, ne-eqb, eq-eqb}
-use Rattle.listing.specs.Text.{decimal}
+use borrow.Author.Tests.{leb-true, eqb-true, eqb-false, ne-eqb}
+use Rattle.telling.specs.Text.{decimal}
 use Rattle.listing.specs.Reading.{Read, got, bad, next, front, isDigit, moreDigits, number, cell, fields}
 use Rattle.listing.specs.Request.{cellText, fieldsText, Each, IsNote, IsCell}
 use Rattle.listing.proofs.Places.{digit-some}
-use Rattle.listing.proofs.Decimals.{decimal-small, decimal-more}
+use Rattle.telling.proofs.Decimals.{decimal-small, decimal-more}
 use Rattle.listing.proofs.Scoring.{bad-got}
 
 pub front-cons : (text : List ℕ) → 1 ≤ front text → text ≡ front text ∷ drop 1 text

@@ -9,7 +9,7 @@ use native.Mathlib.Nat.{zero-mul, suc-mul, add-mul, one-mul, sub-zero, suc-sub-s
 use native.Mathlib.Numerals.{add-one}
 use native.Mathlib.Omega.{arith}
 use lib.Dec.{eqb, leb}
-use lib.ListN.{length, take, drop, length-append, length-drop, drop-of-length-le}
+use lib.ListN.{length, take, drop, length-append, length-drop}
 use lib.Seq.{take-nil, take-take, drop-drop}
 use borrow.Author.Tests.{eq-eqb, ne-eqb, eqb-true, leb-true}
 use Rattle.score.specs.Score.{cut}
@@ -17,8 +17,7 @@ use Rattle.score.proofs.Columns.{cut-length}
 use Rattle.listing.specs.declared.lines.Line.{Line}
 use Rattle.listing.specs.declared.lines.Line.the-variants.{Read as Lined, Bad}
 use Rattle.listing.specs.declared.lines.ChordLines.the-variants as Chord
-use Rattle.listing.specs.Text.{chordWord}
-use Rattle.listing.specs.Reading.{Read, got, bad, begins, fields, counted, tracksRight, chordLine}
+use Rattle.listing.specs.Reading.{chordWord, Read, got, bad, begins, fields, counted, tracksRight, chordLine}
 use Rattle.listing.specs.Request.{Chords, all, fault, above, onChord, chords}
 use Rattle.listing.specs.Steps.{Filled, Scored}
 use Rattle.listing.proofs.Lining.{filled-bad, filled-within, filled-few, filled-is, filled-length}

@@ -1,22 +1,22 @@
 -- The text of a request within the limits is read as that request (`meaning-text`): with `meaning-right` of `Outputs`, an input
 -- is refused exactly when it is no such text. Assumes nothing.
-use mathlib.Core.Path.{_≡_, refl, sym, ap, _∙_, subst}
+use mathlib.Core.Path.{_≡_, refl, ap, _∙_}
 use mathlib.Core.Logic.{_⊎_, inl, inr, ⊎-elim}
-use mathlib.Core.Bool.{Bool, true, false, cond, _&&_, _||_}
+use mathlib.Core.Bool.{Bool, true, false, cond}
 use mathlib.Core.List.{List, [], _∷_, _++_, map, append-assoc}
 use Prim.Native.Nat.{ℕ, zero, suc, _+_, _-_, _*_, _/_, _%_, _≤_, _<_}
 use native.Mathlib.Omega.{arith}
-use lib.Dec.{leb, ltb, eqb}
+use lib.Dec.{ltb, eqb}
 use lib.ListN.{length, drop}
 use borrow.Author.Tests.{le-leb, ltb-true, ltb-false, ne-eqb, eq-eqb}
 use Rattle.theory.specs.Lists.{join}
 use Rattle.asking.specs.declared.way.Way.{Way}
 use Rattle.asking.specs.declared.way.Way.the-variants.{Exact, Octave}
-use Rattle.listing.specs.Text.{decimal}
-use Rattle.listing.specs.Reading.{Read, got, bad, next, front, isDigit, moreDigits, number, cell, fields, tracksRight, chordLine, Theme, themeLine}
+use Rattle.telling.specs.Text.{decimal}
+use Rattle.listing.specs.Reading.{got, bad, next, front, isDigit, moreDigits, number, cell, fields, tracksRight, chordLine, Theme, themeLine}
 use Rattle.listing.specs.Request.{Request, all, chords, right, withChords, meaning, cellText, fieldsText, chordText, themeText, textOf, Each, IsNote, IsCell, IsChord, IsTheme, Right}
 use Rattle.listing.proofs.Places.{digit-some}
-use Rattle.listing.proofs.Decimals.{decimal-small, decimal-more}
+use Rattle.telling.proofs.Decimals.{decimal-small, decimal-more}
 use Rattle.listing.proofs.Scoring.{bad-got}
 use Rattle.listing.proofs.Rights.{IsValue}
 

@@ -10,10 +10,11 @@ use Rattle.asking.specs.Way.{holds}
 use Rattle.search.specs.Starts.{hit, looks}
 use Rattle.search.specs.Candidates.{word, themeTable, candidate}
 use Rattle.search.specs.Page.{quickStarts}
-use Rattle.listing.specs.Text.{digits}
+use Rattle.telling.specs.Text.{digits}
 use Rattle.listing.specs.Reading.{moreDigits, number, cell, fields, chordLine, themeLine}
 use Rattle.listing.specs.Request.{Request, chords, meaning, fieldsText, textOf}
-use Rattle.listing.specs.Answer.{hitLine, endLine, refusedLine, linesOf, output}
+use Rattle.telling.specs.Lines.{hitLine, endLine, refusedLine, linesOf}
+use Rattle.listing.specs.Answer.{output}
 
 -- score K and the theme 67 62
 abbrev pub example : Request

@@ -1,5 +1,4 @@
--- The lister's text, in reading order: how numbers are written, what a line is, what an input means, what is answered.
-pub mod Text
+-- The lister's text, in reading order: what a line is, what an input means, what is answered.
 pub mod Reading
 pub mod Request
 pub mod Answer

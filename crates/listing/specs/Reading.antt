@@ -8,7 +8,6 @@ use lib.Dec.{leb, eqb}
 use lib.ListN.{length, getD, drop}
 use Rattle.asking.specs.declared.way.Way.{Way}
 use Rattle.asking.specs.declared.way.Way.the-variants.{Exact, Octave}
-use Rattle.listing.specs.Text.{themeWord, exactWord, octaveWord, chordWord}
 
 -- a value and what is left of the text; or bad text
 pub data Read (A : Type 0) : Type 0 where
@@ -21,6 +20,19 @@ next (got a rest) f = f a rest
 next bad f = bad
 
 -- ---- words and numbers
+
+-- `theme` with its tab, and the other words
+abbrev pub themeWord : List ℕ
+themeWord = 116 ∷ 104 ∷ 101 ∷ 109 ∷ 101 ∷ 9 ∷ []
+
+abbrev pub exactWord : List ℕ
+exactWord = 101 ∷ 120 ∷ 97 ∷ 99 ∷ 116 ∷ []
+
+abbrev pub octaveWord : List ℕ
+octaveWord = 111 ∷ 99 ∷ 116 ∷ 97 ∷ 118 ∷ 101 ∷ []
+
+abbrev pub chordWord : List ℕ
+chordWord = 99 ∷ 104 ∷ 111 ∷ 114 ∷ 100 ∷ []
 
 -- the byte at the front; 0, which stands in no right text, at the end of the text
 abbrev pub front : List ℕ → ℕ

@@ -2,7 +2,7 @@
 -- within the limits (`textOf`, `Right`), and no other one is: `proofs/Rights`. Assumes nothing.
 use mathlib.Core.Path.{_≡_}
 use mathlib.Core.Logic.{_⊎_}
-use mathlib.Core.Bool.{Bool, cond}
+use mathlib.Core.Bool.{cond}
 use mathlib.Core.List.{List, [], _∷_, _++_, map}
 use Prim.Native.Nat.{ℕ, zero, suc, _+_, _≤_}
 use lib.Dec.{eqb}
@@ -10,8 +10,8 @@ use lib.ListN.{length}
 use Rattle.theory.specs.Lists.{join}
 use Rattle.asking.specs.declared.way.Way.{Way}
 use Rattle.asking.specs.declared.way.Way.the-variants.{Exact, Octave}
-use Rattle.listing.specs.Text.{themeWord, exactWord, octaveWord, chordWord, decimal}
-use Rattle.listing.specs.Reading.{Read, got, bad, Theme, themeLine, chordLine}
+use Rattle.telling.specs.Text.{decimal}
+use Rattle.listing.specs.Reading.{themeWord, exactWord, octaveWord, chordWord, Read, got, bad, Theme, themeLine, chordLine}
 
 -- a theme and a score, column after column
 pub record Request : Type 0 where

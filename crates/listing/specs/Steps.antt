@@ -1,12 +1,9 @@
 -- What the inner functions promise: what is seen and read at a place of the input, as what `Reading` reads of the text from
--- there on; and what is written at a place of the output. Assumes nothing.
+-- there on. Assumes nothing.
 use mathlib.Core.Path.{_≡_}
-use mathlib.Core.List.{List, [], _∷_}
-use Prim.Native.Nat.{ℕ, _+_, _-_, _≤_, _<_}
-use lib.IntN.{ℤ}
+use mathlib.Core.List.{List}
+use Prim.Native.Nat.{ℕ, _≤_, _<_}
 use lib.ListN.{length, take, drop}
-use lib.Seq.{sets as stored}
-use Rattle.theory.specs.Lists.{join}
 use Rattle.listing.specs.declared.numbers.Numeral.{Numeral}
 use Rattle.listing.specs.declared.numbers.Numeral.the-variants as Number
 use Rattle.listing.specs.declared.lines.Line.{Line}
@@ -15,9 +12,7 @@ use Rattle.listing.specs.declared.lines.ThemeLine.{ThemeLine}
 use Rattle.listing.specs.declared.lines.ThemeLine.the-variants as ThemeLine
 use Rattle.listing.specs.declared.lines.ChordLines.{ChordLines}
 use Rattle.listing.specs.declared.lines.ChordLines.the-variants as ChordLines
-use Rattle.score.specs.Score.{cut, columnsIn, scoreOf}
-use Rattle.score.specs.Sets.{sets as setsOf}
-use Rattle.asking.specs.Asking.{Accepted}
+use Rattle.score.specs.Score.{cut}
 use Rattle.listing.specs.Reading.{Read, got, bad, front, Theme}
 use Rattle.listing.specs.Request.{Chords, all, fault}
 
@@ -99,36 +94,3 @@ pub record Scored (r : ChordLines) (cells : List ℕ) (want : Chords) : Type 0 w
   pub is : chordsRead cells r ≡ want
   pub few : chordsCount r ≤ 2048
   pub narrow : chordsTracks r ≤ 16
-
--- ---- what is written at a place of the output
-
--- these bytes from the place on, and the place behind them
-pub record Wrote (bytes : List ℕ) (at : ℕ) (out : List ℕ) (r : ℕ) (out′ : List ℕ) : Type 0 where
-  pub place : r ≡ at + length bytes
-  pub is : out′ ≡ stored out at bytes
-
--- room for a table, for a page of 256 pairs and for every output
-pub record Room (table columns : List ℕ) (shifts : List ℤ) (out : List ℕ) : Type 0 where
-  pub table-long : length table ≡ 4096
-  pub columns-long : length columns ≡ 256
-  pub shifts-long : length shifts ≡ 256
-  pub out-long : 458546 ≤ length out
-
--- what a search is given: an accepted score and theme, and room for all
-pub record Sought (cells : List ℕ) (h n : ℕ) (theme sets table columns : List ℕ) (shifts : List ℤ) (out : List ℕ) : Type 0 where
-  pub accepted : Accepted cells h theme
-  pub columns-are : n ≡ columnsIn cells h
-  pub sets-room : length sets ≡ 2047
-  pub room : Room table columns shifts out
-
--- the same with just the room that its sets take
-pub record Lent (cells : List ℕ) (h : ℕ) (theme sets table columns : List ℕ) (shifts : List ℤ) (out : List ℕ) : Type 0 where
-  pub accepted : Accepted cells h theme
-  pub sets-long : length sets ≡ columnsIn cells h - 1
-  pub room : Room table columns shifts out
-
--- what the pages are written of: an accepted score and theme, the score's own sets, and room for all
-pub record Asked (cells : List ℕ) (h : ℕ) (theme sets table columns : List ℕ) (shifts : List ℤ) (out : List ℕ) : Type 0 where
-  pub accepted : Accepted cells h theme
-  pub own : sets ≡ setsOf (scoreOf cells h)
-  pub room : Room table columns shifts out

@@ -4,7 +4,7 @@ use crate::bytes::byte_at;
 use crate::bytes::stands;
 use crate::numbers::Numeral;
 use crate::numbers::cell;
-use search::Way;
+use asking::Way;
 ghost use mathlib.Core.Path.{_≡_};
 ghost use Prim.Native.Nat.{_+_, _≤_};
 ghost use lib.ListN.{length, drop};

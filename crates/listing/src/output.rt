@@ -4,14 +4,14 @@ use crate::lines::ChordLines;
 use crate::lines::ThemeLine;
 use crate::lines::chord_lines;
 use crate::lines::theme_line;
-use crate::pages::search_lines;
-use crate::writing::refused_line;
+use telling::Telling;
+use telling::refuse;
+use telling::tell;
 ghost use mathlib.Core.Path.{_≡_};
-ghost use Prim.Native.Nat.{_≤_};
 ghost use lib.ListN.{length};
+ghost use Rattle.telling.specs.Telling.{told, Tells};
 ghost use Rattle.listing.specs.Answer.{output};
 ghost use Rattle.listing.specs.Listing.{Lists};
-ghost use Rattle.listing.specs.Steps.{Wrote};
 
 // How many bytes were written; or the output buffer is too short for some inputs, and nothing was written.
 pub enum Listing {
@@ -29,25 +29,29 @@ pub fn list(input: &[u8], out: &mut [u8]) -> Listing
     }
     let mut theme = [0u8; 32];
     let mut cells = [0u8; 32768];
-    Listing::Written(answer(input, &mut theme, &mut cells, out))
+    match answer(input, &mut theme, &mut cells, out) {
+        Telling::Told(n) => Listing::Written(n),
+        Telling::Refused(_) => Listing::Short,
+        Telling::Short => Listing::Short,
+    }
 }
 
-// The output, by way of room for a theme and for cells.
-fn answer(input: &[u8], theme: &mut [u8], cells: &mut [u8], out: &mut [u8]) -> usize
-    requires { ⌜ (length (now theme) ≡ 32) × (length (now cells) ≡ 32768) × (458546 ≤ length (now out)) ⌝ }
-    ensures { λ r. ⌜ Wrote (output (now (input .entry))) 0 (now (out .entry)) r (now (out .exit)) ⌝ }
+// The output, by way of room for a theme and for cells. What is read right is never refused.
+fn answer(input: &[u8], theme: &mut [u8], cells: &mut [u8], out: &mut [u8]) -> Telling
+    requires { ⌜ (length (now theme) ≡ 32) × (length (now cells) ≡ 32768) ⌝ }
+    ensures { λ r. ⌜ Tells (told (output (now (input .entry))) (now (out .entry))) r (now (out .exit)) ⌝ }
 {
     match theme_line(input, theme) {
         ThemeLine::Read { way, count, next } => match chord_lines(input, next, cells) {
             ChordLines::Read { tracks, columns } => {
                 if columns == 0 {
-                    return refused_line(out, 0, 2);
+                    return refuse(2, out);
                 }
                 let long = columns * tracks;
-                search_lines(&cells[0..long], tracks, columns, &theme[0..count], way, out)
+                tell(&cells[0..long], tracks, &theme[0..count], way, out)
             }
-            ChordLines::Faulty(before) => refused_line(out, 0, before as u32 + 2),
+            ChordLines::Faulty(before) => refuse(before as u32 + 2, out),
         },
-        ThemeLine::Bad => refused_line(out, 0, 1),
+        ThemeLine::Bad => refuse(1, out),
     }
 }

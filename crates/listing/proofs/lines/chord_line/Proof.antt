@@ -3,26 +3,18 @@ use mathlib.Core.Path.{_≡_, sym, _∙_}
 use mathlib.Core.Bool.{true}
 use lib.ListN.{drop}
 use borrow.Author.Tests.{not-true, not-false}
-use Rattle.listing.specs.Text.{chordWord}
-use Rattle.listing.specs.Reading.{begins}
+use Rattle.listing.specs.Reading.{chordWord, begins}
 use Rattle.listing.proofs.Lining.{begins-within, chord-none, chord-bad, chord-right, chord-wrong}
 use borrow.Author.Needs.{needs}
 use Rattle.listing.proofs.lines.chord_line.Statement.{statement}
 use Rattle.listing.proofs.lines.chord_line.Tie as tie
-use Rattle.listing.proofs.lines.chord_line.Reads as reads
-use Rattle.listing.proofs.lines.chord_line.Lts as lts
-use Rattle.listing.proofs.bytes.stands.Reads as stands-reads
-use Rattle.listing.proofs.lines.fields.Reads as fields-reads
 
--- src/lines.rt:70:28
 slice-aggregate-stands : tie.Need-slice-aggregate-stands
 slice-aggregate-stands c = search needs
 
--- src/lines.rt:70:9
 stands-requires : tie.Need-stands-requires
 stands-requires c κs = search needs
 
--- src/lines.rt:71:9
 returns : tie.Need-returns
 returns c =
     let a = c .before .before .before .before .before in
@@ -31,30 +23,24 @@ returns c =
 begun : (e : tie.Else1) → let a = e .before .before .before .before .before in begins chordWord (drop (a .args .from) (a .args .text .now)) ≡ true
 begun e = sym (e .before .stands .ensures) ∙ not-false _ (e .if1 .left)
 
--- src/lines.rt:73:24
 add-fields : tie.Need-add-fields
 add-fields c = search needs
 
--- src/lines.rt:73:11
 fields-requires : tie.Need-fields-requires
 fields-requires c κs =
     let e = c .before in
     let a = e .before .before .before .before .before in
     (begins-within chordWord (a .args .text .now) (a .args .from) (a .pre .0) (begun e), a .pre .1)
 
--- src/lines.rt:74:22
 enum-known-count : tie.Need-enum-known-count
 enum-known-count c = search needs
 
--- src/lines.rt:81:22
 enum-told : tie.Need-enum-told
 enum-told c = search needs
 
--- src/lines.rt:66:1
 same-length : tie.Need-same-length
 same-length c = search needs
 
--- src/lines.rt:66:1
 returns-2 : tie.Need-returns-2
 returns-2 c =
     let k = c .before .before .before .before in
@@ -63,11 +49,9 @@ returns-2 c =
     let a = e .before .before .before .before .before in
     chord-right (a .args .text .now) (a .args .from) (a .args .h) (a .args .base) (a .args .cells .now) (a .pre .1) (begun e) (f .fields .ensures) (c .before .before .count .given .1) (c .if2 .taken)
 
--- src/lines.rt:66:1
 same-length-2 : tie.Need-same-length-2
 same-length-2 c = search needs
 
--- src/lines.rt:66:1
 returns-3 : tie.Need-returns-3
 returns-3 c =
     let k = c .before .before .before .before in
@@ -76,11 +60,9 @@ returns-3 c =
     let a = e .before .before .before .before .before in
     chord-wrong (a .args .text .now) (a .args .from) (a .args .h) (a .args .base) (a .args .cells .now) (a .pre .1) (begun e) (f .fields .ensures) (c .before .before .count .given .1) (c .if2 .left)
 
--- src/lines.rt:66:1
 same-length-3 : tie.Need-same-length-3
 same-length-3 c = search needs
 
--- src/lines.rt:66:1
 returns-4 : tie.Need-returns-4
 returns-4 c =
     let k = c .before .before in

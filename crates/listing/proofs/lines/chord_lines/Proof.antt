@@ -8,9 +8,6 @@ use Rattle.listing.proofs.Lining.{filled-few}
 use Rattle.listing.proofs.Scoring.{Scoring, scoring-start, scoring-end, scoring-many, scoring-less, scoring-room, scoring-bad, scoring-more}
 use Rattle.listing.proofs.lines.chord_lines.Statement.{statement}
 use Rattle.listing.proofs.lines.chord_lines.Tie as tie
-use Rattle.listing.proofs.lines.chord_lines.Reads as reads
-use Rattle.listing.proofs.lines.chord_lines.Lts as lts
-use Rattle.listing.proofs.lines.chord_line.Reads as chord-line-reads
 
 abbrev Inv-loop : tie.InvT-loop
 Inv-loop text from cells₀ at₀ tracks₀ columns₀ base₀ cells at tracks columns base = Scoring text from cells₀ cells at tracks columns base
@@ -18,25 +15,20 @@ Inv-loop text from cells₀ at₀ tracks₀ columns₀ base₀ cells at tracks c
 abbrev μ-loop : tie.MeasureT-loop
 μ-loop text from cells₀ at₀ tracks₀ columns₀ base₀ cells at tracks columns base = 2048 - columns
 
--- src/lines.rt:94:5
 loop-holds : tie.Need-loop-holds Inv-loop μ-loop
 loop-holds c = scoring-start _ _ _ (c .before .before .pre .0) (c .before .before .pre .1)
 
--- src/lines.rt:96:13
 same-length : tie.Need-same-length Inv-loop μ-loop
 same-length c = c .before .before .loop .inv .long
 
--- src/lines.rt:96:13
 returns : tie.Need-returns Inv-loop μ-loop
 returns c = scoring-many _ _ _ (c .before .before .loop .inv) (c .before .loop-test .taken) (c .if1 .taken)
 
--- src/lines.rt:98:15
 chord-line-requires : tie.Need-chord-line-requires Inv-loop μ-loop
 chord-line-requires c κs =
     let e = c .before in
     (e .before .before .loop .inv .within, scoring-room _ _ _ (e .before .before .loop .inv) (e .before .loop-test .taken) (e .if1 .left))
 
--- src/lines.rt:99:26
 enum-known-count : tie.Need-enum-known-count Inv-loop μ-loop
 enum-known-count c = search needs
 
@@ -46,11 +38,9 @@ less c =
     let e = c .before .before .before .before .before .before .before in
     scoring-less _ _ _ (e .before .before .loop .inv) (e .before .loop-test .taken) (e .if1 .left)
 
--- src/lines.rt:101:17
 add-columns : tie.Need-add-columns Inv-loop μ-loop
 add-columns c = omega (arith, less c)
 
--- src/lines.rt:102:17
 add-base : tie.Need-add-base Inv-loop μ-loop
 add-base c =
     let k = c .before .before .before .before .before in
@@ -63,37 +53,30 @@ add-base c =
       e .before .before .loop .inv .big,
     )
 
--- src/lines.rt:94:5
 loop-less : tie.Need-loop-less Inv-loop μ-loop
 loop-less c = omega (arith, less c)
 
--- src/lines.rt:94:5
 loop-again : tie.Need-loop-again Inv-loop μ-loop
 loop-again c =
     let k = c .before .before .before .before .before in
     let e = k .before .before in
     scoring-more _ _ _ (e .before .before .loop .inv) (e .before .loop-test .taken) (e .if1 .left) (k .chord-line .ensures) (c .before .count .given .1)
 
--- src/lines.rt:106:17
 enum-told : tie.Need-enum-told Inv-loop μ-loop
 enum-told c = search needs
 
--- src/lines.rt:106:17
 same-length-2 : tie.Need-same-length-2 Inv-loop μ-loop
 same-length-2 c = let k = c .before .before .before .before in k .chord-line .ensures .long ∙ k .before .before .before .before .loop .inv .long
 
--- src/lines.rt:106:17
 returns-2 : tie.Need-returns-2 Inv-loop μ-loop
 returns-2 c =
     let k = c .before .before .before .before in
     let e = k .before .before in
     scoring-bad _ _ _ (e .before .before .loop .inv) (e .before .loop-test .taken) (e .if1 .left) (k .chord-line .ensures) (c .enum-told .given .1)
 
--- src/lines.rt:86:1
 same-length-3 : tie.Need-same-length-3 Inv-loop μ-loop
 same-length-3 c = c .before .loop .inv .long
 
--- src/lines.rt:86:1
 returns-3 : tie.Need-returns-3 Inv-loop μ-loop
 returns-3 c = scoring-end _ _ _ (c .before .loop .inv) (c .loop-test .left)
 

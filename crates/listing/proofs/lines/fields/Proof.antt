@@ -6,9 +6,6 @@ use native.Mathlib.Omega.{arith}
 use Rattle.listing.proofs.Filling.{Filling, filling-start, filling-short, filling-end, filling-stop, Room, filling-room, filling-bad, filling-more}
 use Rattle.listing.proofs.lines.fields.Statement.{statement}
 use Rattle.listing.proofs.lines.fields.Tie as tie
-use Rattle.listing.proofs.lines.fields.Reads as reads
-use Rattle.listing.proofs.lines.fields.Lts as lts
-use Rattle.listing.proofs.numbers.cell.Reads as cell-reads
 
 abbrev Inv-loop : tie.InvT-loop
 Inv-loop text from rests limit into₀ base at₀ count₀ into at count = Filling text from rests limit base into₀ into at count
@@ -16,43 +13,33 @@ Inv-loop text from rests limit into₀ base at₀ count₀ into at count = Filli
 abbrev μ-loop : tie.MeasureT-loop
 μ-loop text from rests limit into₀ base at₀ count₀ into at count = limit - count
 
--- src/lines.rt:47:5
 loop-holds : tie.Need-loop-holds Inv-loop μ-loop
 loop-holds c = filling-start _ _ _ _ _ _ (c .before .before .pre .0) (c .before .before .pre .1)
 
--- src/lines.rt:48:17
 shared-slice-read-b : tie.Need-shared-slice-read-b Inv-loop μ-loop
 shared-slice-read-b c = search needs
 
--- src/lines.rt:52:23
 add-t16 : tie.Need-add-t16 Inv-loop μ-loop
 add-t16 c = search needs
 
--- src/lines.rt:50:13
 same-length : tie.Need-same-length Inv-loop μ-loop
 same-length c = c .before .before .before .loop .inv .long
 
--- src/lines.rt:50:13
 returns : tie.Need-returns Inv-loop μ-loop
 returns c = filling-end _ _ _ _ _ _ (c .before .before .before .loop .inv) (c .before .before .loop-test .taken) (c .if1 .taken)
 
--- src/lines.rt:56:13
 same-length-2 : tie.Need-same-length-2 Inv-loop μ-loop
 same-length-2 c = c .before .before .before .before .loop .inv .long
 
--- src/lines.rt:56:13
 returns-2 : tie.Need-returns-2 Inv-loop μ-loop
 returns-2 c = filling-stop _ _ _ _ _ _ (c .before .before .before .before .loop .inv) (c .before .before .before .loop-test .taken) (c .before .if1 .left) (c .if2 .taken)
 
--- src/lines.rt:58:26
 add-cell : tie.Need-add-cell Inv-loop μ-loop
 add-cell c = search needs
 
--- src/lines.rt:58:15
 cell-requires : tie.Need-cell-requires Inv-loop μ-loop
 cell-requires c κs = search needs
 
--- src/lines.rt:59:27
 enum-known-value : tie.Need-enum-known-value Inv-loop μ-loop
 enum-known-value c = search needs
 
@@ -66,49 +53,39 @@ room c =
     let l = e .before .before .before in
     filling-room _ _ _ _ _ _ (l .before .loop .inv) (l .loop-test .taken) (e .before .if1 .left) (e .if2 .left)
 
--- src/lines.rt:60:22
 add-into : tie.Need-add-into Inv-loop μ-loop
 add-into c = omega (arith, room c)
 
--- src/lines.rt:60:17
 slice-write-into : tie.Need-slice-write-into Inv-loop μ-loop
 slice-write-into c = omega (arith, room c)
 
--- src/lines.rt:61:17
 add-count : tie.Need-add-count Inv-loop μ-loop
 add-count c = omega (arith, room c)
 
--- src/lines.rt:47:5
 loop-less : tie.Need-loop-less Inv-loop μ-loop
 loop-less c = omega (arith, room c)
 
--- src/lines.rt:47:5
 loop-again : tie.Need-loop-again Inv-loop μ-loop
 loop-again c =
     let e = c .before .before .before .before in
     let l = e .before .before .before in
     filling-more _ _ _ _ _ _ (l .before .loop .inv) (l .loop-test .taken) (e .before .if1 .left) (e .if2 .left) (c .before .before .before .cell .ensures) (c .before .value .given .1)
 
--- src/lines.rt:65:17
 enum-told : tie.Need-enum-told Inv-loop μ-loop
 enum-told c = search needs
 
--- src/lines.rt:65:17
 same-length-3 : tie.Need-same-length-3 Inv-loop μ-loop
 same-length-3 c = c .before .before .before .before .before .before .before .loop .inv .long
 
--- src/lines.rt:65:17
 returns-3 : tie.Need-returns-3 Inv-loop μ-loop
 returns-3 c =
     let e = c .before .before .before in
     let l = e .before .before .before in
     filling-bad _ _ _ _ _ _ (l .before .loop .inv) (l .loop-test .taken) (e .before .if1 .left) (e .if2 .left) (c .before .before .cell .ensures) (c .enum-told .given .1)
 
--- src/lines.rt:34:1
 same-length-4 : tie.Need-same-length-4 Inv-loop μ-loop
 same-length-4 c = c .before .loop .inv .long
 
--- src/lines.rt:34:1
 returns-4 : tie.Need-returns-4 Inv-loop μ-loop
 returns-4 c = filling-short _ _ _ _ _ _ (c .before .loop .inv) (c .loop-test .left)
 

@@ -3,49 +3,37 @@ use Rattle.listing.proofs.Lining.{notes-bad, notes-right, notes-wrong}
 use borrow.Author.Needs.{needs}
 use Rattle.listing.proofs.lines.notes.Statement.{statement}
 use Rattle.listing.proofs.lines.notes.Tie as tie
-use Rattle.listing.proofs.lines.notes.Reads as reads
-use Rattle.listing.proofs.lines.notes.Lts as lts
-use Rattle.listing.proofs.lines.fields.Reads as fields-reads
 
--- src/lines.rt:118:11
 fields-requires : tie.Need-fields-requires
 fields-requires c κs = search needs
 
--- src/lines.rt:119:22
 enum-known-count : tie.Need-enum-known-count
 enum-known-count c = search needs
 
--- src/lines.rt:126:22
 enum-told : tie.Need-enum-told
 enum-told c = search needs
 
--- src/lines.rt:114:1
 same-length : tie.Need-same-length
 same-length c = search needs
 
--- src/lines.rt:114:1
 returns : tie.Need-returns
 returns c =
     let f = c .before .before .before .before .before .before in
     let a = f .before .before .before .before in
     notes-right (a .args .text .now) (a .args .from) (a .args .way) (a .args .theme .now) (a .pre .1) (f .fields .ensures) (c .before .before .count .given .1) (c .if1 .taken)
 
--- src/lines.rt:114:1
 same-length-2 : tie.Need-same-length-2
 same-length-2 c = search needs
 
--- src/lines.rt:114:1
 returns-2 : tie.Need-returns-2
 returns-2 c =
     let f = c .before .before .before .before .before .before in
     let a = f .before .before .before .before in
     notes-wrong (a .args .text .now) (a .args .from) (a .args .way) (a .args .theme .now) (a .pre .1) (f .fields .ensures) (c .before .before .count .given .1) (c .if1 .left)
 
--- src/lines.rt:114:1
 same-length-3 : tie.Need-same-length-3
 same-length-3 c = search needs
 
--- src/lines.rt:114:1
 returns-3 : tie.Need-returns-3
 returns-3 c =
     let f = c .before .before .before .before in

@@ -2,44 +2,33 @@
 use mathlib.Core.Path.{_≡_, sym, _∙_}
 use mathlib.Core.Bool.{true}
 use borrow.Author.Tests.{not-true, not-false}
-use Rattle.listing.specs.Text.{themeWord, exactWord, octaveWord}
-use Rattle.listing.specs.Reading.{begins}
+use Rattle.listing.specs.Reading.{themeWord, exactWord, octaveWord, begins}
 use Rattle.listing.proofs.Lining.{begins-length, begins-within, theme-none, theme-exact, theme-octave, theme-neither}
 use borrow.Author.Needs.{needs}
 use Rattle.listing.proofs.lines.theme_line.Statement.{statement}
 use Rattle.listing.proofs.lines.theme_line.Tie as tie
-use Rattle.listing.proofs.lines.theme_line.Reads as reads
-use Rattle.listing.proofs.lines.theme_line.Lts as lts
-use Rattle.listing.proofs.bytes.stands.Reads as stands-reads
-use Rattle.listing.proofs.lines.notes.Reads as notes-reads
 
--- src/lines.rt:135:25
 slice-aggregate-stands : tie.Need-slice-aggregate-stands
 slice-aggregate-stands c = search needs
 
--- src/lines.rt:135:9
 stands-requires : tie.Need-stands-requires
 stands-requires c κs = search needs
 
--- src/lines.rt:136:9
 returns : tie.Need-returns
 returns c = theme-none _ _ (sym (c .before .stands .ensures) ∙ not-true _ (c .if1 .taken))
 
 begun : (e : tie.Else1) → begins themeWord (e .before .before .before .before .before .args .text .now) ≡ true
 begun e = sym (e .before .stands .ensures) ∙ not-false _ (e .if1 .left)
 
--- src/lines.rt:138:24
 slice-aggregate-stands-2 : tie.Need-slice-aggregate-stands-2
 slice-aggregate-stands-2 c = search needs
 
--- src/lines.rt:138:8
 stands-requires-2 : tie.Need-stands-requires-2
 stands-requires-2 c κs =
     let e = c .before in
     let a = e .before .before .before .before .before in
     begins-length themeWord (a .args .text .now) (begun e)
 
--- src/lines.rt:139:9
 notes-requires : tie.Need-notes-requires
 notes-requires c κs =
     let t = c .before in
@@ -50,11 +39,9 @@ notes-requires c κs =
       a .pre,
     )
 
--- src/lines.rt:139:9
 same-length : tie.Need-same-length
 same-length c = search needs
 
--- src/lines.rt:139:9
 returns-2 : tie.Need-returns-2
 returns-2 c =
     let n = c .before .before in
@@ -62,18 +49,15 @@ returns-2 c =
     let e = t .before .before .before in
     theme-exact _ _ (begun e) (sym (t .before .stands2 .ensures) ∙ t .if2 .taken) (n .notes .ensures)
 
--- src/lines.rt:141:24
 slice-aggregate-stands-3 : tie.Need-slice-aggregate-stands-3
 slice-aggregate-stands-3 c = search needs
 
--- src/lines.rt:141:8
 stands-requires-3 : tie.Need-stands-requires-3
 stands-requires-3 c κs =
     let e = c .before .before .before .before in
     let a = e .before .before .before .before .before in
     begins-length themeWord (a .args .text .now) (begun e)
 
--- src/lines.rt:142:9
 notes-requires-2 : tie.Need-notes-requires-2
 notes-requires-2 c κs =
     let t = c .before in
@@ -84,11 +68,9 @@ notes-requires-2 c κs =
       a .pre,
     )
 
--- src/lines.rt:142:9
 same-length-2 : tie.Need-same-length-2
 same-length-2 c = search needs
 
--- src/lines.rt:142:9
 returns-3 : tie.Need-returns-3
 returns-3 c =
     let n = c .before .before in
@@ -98,7 +80,6 @@ returns-3 c =
     theme-octave _ _ (begun e) (sym (u .before .stands2 .ensures) ∙ u .if2 .left)
     (sym (t .before .stands3 .ensures) ∙ t .if3 .taken) (n .notes2 .ensures)
 
--- src/lines.rt:131:1
 returns-4 : tie.Need-returns-4
 returns-4 c =
     let u = c .before .before .before in

@@ -1,30 +1,20 @@
 use borrow.Author.Needs.{needs}
-use native.Mathlib.Omega.{arith}
 use Rattle.listing.proofs.Places.{cell-rest, cell-number}
 use Rattle.listing.proofs.numbers.cell.Statement.{statement}
 use Rattle.listing.proofs.numbers.cell.Tie as tie
-use Rattle.listing.proofs.numbers.cell.Reads as reads
-use Rattle.listing.proofs.numbers.cell.Lts as lts
-use Rattle.listing.proofs.bytes.byte_at.Reads as byte-at-reads
-use Rattle.listing.proofs.numbers.number.Reads as number-reads
 
--- src/numbers.rt:66:17
 byte-at-requires : tie.Need-byte-at-requires
 byte-at-requires c κs = search needs
 
--- src/numbers.rt:69:19
 add-t7 : tie.Need-add-t7
 add-t7 c = search needs
 
--- src/numbers.rt:67:9
 returns : tie.Need-returns
 returns c = cell-rest _ _ _ (c .before .byte-at .ensures) _ (c .if1 .taken)
 
--- src/numbers.rt:72:5
 number-requires : tie.Need-number-requires
 number-requires c κs = search needs
 
--- src/numbers.rt:62:1
 returns-2 : tie.Need-returns-2
 returns-2 c = cell-number _ _ _ (c .before .before .byte-at .ensures) _ (c .before .if1 .left) (c .number .ensures)
 

@@ -4,52 +4,37 @@ use native.Mathlib.Omega.{arith}
 use Rattle.listing.proofs.Places.{digit-some, digits-none, digits-large, digits-one}
 use Rattle.listing.proofs.numbers.more_digits.Statement.{statement}
 use Rattle.listing.proofs.numbers.more_digits.Tie as tie
-use Rattle.listing.proofs.numbers.more_digits.Reads as reads
-use Rattle.listing.proofs.numbers.more_digits.Lts as lts
-use Rattle.listing.proofs.bytes.byte_at.Reads as byte-at-reads
-use Rattle.listing.proofs.numbers.is_digit.Reads as is-digit-reads
 
--- src/numbers.rt:27:9
 byte-at-requires : tie.Need-byte-at-requires
 byte-at-requires c κs = search needs
 
--- src/numbers.rt:28:8
 is-digit-requires : tie.Need-is-digit-requires
 is-digit-requires c κs = search needs
 
--- src/numbers.rt:29:20
 mul-more : tie.Need-mul-more
 mul-more c = search needs
 
--- src/numbers.rt:29:41
 sub-more : tie.Need-sub-more
 sub-more c = omega (arith, digit-some (c .before .before .byte-at .result) (sym (c .before .is-digit .ensures) ∙ c .if1 .taken) .0)
 
--- src/numbers.rt:29:40
 cast-more : tie.Need-cast-more
 cast-more c = omega (arith, digit-some (c .before .before .byte-at .result) (sym (c .before .is-digit .ensures) ∙ c .if1 .taken))
 
--- src/numbers.rt:29:20
 add-more : tie.Need-add-more
 add-more c = omega (arith, digit-some (c .before .before .byte-at .result) (sym (c .before .is-digit .ensures) ∙ c .if1 .taken))
 
--- src/numbers.rt:32:24
 cast-t12 : tie.Need-cast-t12
 cast-t12 c = search needs
 
--- src/numbers.rt:33:23
 add-t13 : tie.Need-add-t13
 add-t13 c = search needs
 
--- src/numbers.rt:31:13
 returns : tie.Need-returns
 returns c = digits-one _ _ _ _ (c .before .before .before .byte-at .ensures) (sym (c .before .before .is-digit .ensures) ∙ c .before .if1 .taken) (c .if2 .taken)
 
--- src/numbers.rt:23:1
 returns-2 : tie.Need-returns-2
 returns-2 c = digits-large _ _ _ _ (c .before .before .before .byte-at .ensures) (sym (c .before .before .is-digit .ensures) ∙ c .before .if1 .taken) (c .if2 .left) (search needs)
 
--- src/numbers.rt:23:1
 returns-3 : tie.Need-returns-3
 returns-3 c = digits-none _ _ _ _ (c .before .before .byte-at .ensures) (sym (c .before .is-digit .ensures) ∙ c .if1 .left) (search needs)
 

@@ -7,41 +7,28 @@ use borrow.Author.Tests.{not-true, not-false}
 use Rattle.listing.proofs.Places.{digit-some, at-digit, number-bad, number-zero, number-stop, number-more, number-within}
 use Rattle.listing.proofs.numbers.number.Statement.{statement}
 use Rattle.listing.proofs.numbers.number.Tie as tie
-use Rattle.listing.proofs.numbers.number.Reads as reads
-use Rattle.listing.proofs.numbers.number.Lts as lts
-use Rattle.listing.proofs.bytes.byte_at.Reads as byte-at-reads
-use Rattle.listing.proofs.numbers.is_digit.Reads as is-digit-reads
-use Rattle.listing.proofs.numbers.more_digits.Reads as more-digits-reads
 
--- src/numbers.rt:45:9
 byte-at-requires : tie.Need-byte-at-requires
 byte-at-requires c κs = search needs
 
--- src/numbers.rt:46:9
 is-digit-requires : tie.Need-is-digit-requires
 is-digit-requires c κs = search needs
 
--- src/numbers.rt:47:9
 returns : tie.Need-returns
 returns c = number-bad _ _ _ (c .before .before .byte-at .ensures) (sym (c .before .is-digit .ensures) ∙ not-true _ (c .if1 .taken))
 
--- src/numbers.rt:52:19
 add-t8 : tie.Need-add-t8
 add-t8 c = search needs
 
--- src/numbers.rt:50:9
 returns-2 : tie.Need-returns-2
 returns-2 c = number-zero _ _ _ (c .before .before .before .byte-at .ensures) (sym (c .before .before .is-digit .ensures) ∙ not-false _ (c .before .if1 .left)) (c .if2 .taken)
 
--- src/numbers.rt:55:29
 add-more-digits : tie.Need-add-more-digits
 add-more-digits c = search needs
 
--- src/numbers.rt:55:37
 sub-more-digits : tie.Need-sub-more-digits
 sub-more-digits c = omega (arith, digit-some (c .before .before .before .byte-at .result) (sym (c .before .before .is-digit .ensures) ∙ not-false _ (c .before .if1 .left)) .0)
 
--- src/numbers.rt:55:11
 more-digits-requires : tie.Need-more-digits-requires
 more-digits-requires c κs =
     let e = c .before in
@@ -49,19 +36,15 @@ more-digits-requires c κs =
     = at-digit _ _ (e .before .before .byte-at .result) (e .before .before .byte-at .ensures) (sym (e .before .is-digit .ensures) ∙ not-false _ (e .if1 .left)) in
     omega arith
 
--- src/numbers.rt:56:23
 enum-known-value : tie.Need-enum-known-value
 enum-known-value c = search needs
 
--- src/numbers.rt:56:40
 more-digits-requires-2 : tie.Need-more-digits-requires-2
 more-digits-requires-2 c κs = number-within (c .before .before .before .more-digits .ensures) (c .before .value .given .1)
 
--- src/numbers.rt:57:25
 enum-told : tie.Need-enum-told
 enum-told c = search needs
 
--- src/numbers.rt:41:1
 returns-3 : tie.Need-returns-3
 returns-3 c =
     let m = c .before .before .before .before in
@@ -69,7 +52,6 @@ returns-3 c =
     number-more _ _ _ (e .before .before .byte-at .ensures) (sym (e .before .is-digit .ensures) ∙ not-false _ (e .if1 .left)) (m .before .if2 .left)
     (m .more-digits .ensures) (c .before .before .value .given .1) (c .more-digits2 .ensures)
 
--- src/numbers.rt:41:1
 returns-4 : tie.Need-returns-4
 returns-4 c =
     let m = c .before .before in

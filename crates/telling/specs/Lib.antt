@@ -1,0 +1,6 @@
+-- A search told as text, in reading order: how things are written, the lines, what the calls promise.
+pub mod Text
+pub mod Lines
+pub mod Telling
+-- contracts of inner functions, which no public call promises
+pub mod Steps

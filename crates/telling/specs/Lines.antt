@@ -1,0 +1,37 @@
+-- The lines of a whole search: one for each pair, and the line behind them (`linesOf`); and the line of a refused input.
+-- Assumes nothing.
+use mathlib.Core.List.{List, _++_, map}
+use Prim.Native.Nat.{ℕ}
+use lib.IntN.{ℤ}
+use lib.ListN.{length}
+use Rattle.theory.specs.Lists.{join}
+use Rattle.score.specs.Score.{columnAt}
+use Rattle.score.specs.Sets.{sets}
+use Rattle.asking.specs.declared.way.Way.{Way}
+use Rattle.asking.specs.declared.bookmark.Pair.{Pair}
+use Rattle.search.specs.Pairs.{pairs}
+use Rattle.search.specs.Demands.{candidateLooks}
+use Rattle.telling.specs.Text.{hitWord, endWord, refusedWord, decimal, signed, line}
+
+abbrev pub pairOf : (column : ℕ) (shift : ℤ) → Pair
+pairOf column shift = record { column = columnAt column; shift = shift }
+
+-- `hit`, the column and the shift
+unfoldable pub hitLine : Pair → List ℕ
+hitLine pair = line hitWord (decimal (pair .column .0)) (signed (pair .shift))
+
+-- `end`, the number of pairs and the looks
+unfoldable pub endLine : (found looks : ℕ) → List ℕ
+endLine found looks = line endWord (decimal found) (decimal looks)
+
+-- `refused`, 11 and the line
+unfoldable pub refusedLine : (n : ℕ) → List ℕ
+refusedLine n = line refusedWord (decimal 11) (decimal n)
+
+abbrev pub hitLines : List Pair → List ℕ
+hitLines list = join (map hitLine list)
+
+-- a line for each pair, and the line behind them with the looks of all pages: the quick way, with the score's own sets
+unfoldable pub linesOf : Way → (score : List (List ℕ)) (theme : List ℕ) → List ℕ
+linesOf way score theme =
+    hitLines (pairs way score theme) ++ endLine (length (pairs way score theme)) (candidateLooks way score theme (sets score))

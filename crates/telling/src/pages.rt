@@ -1,0 +1,134 @@
+// The search: as many quick pages as there are, each written out as it comes, and the line behind them.
+
+use crate::writing::end_line;
+use crate::writing::hit_lines;
+use asking::Bookmark;
+use asking::Way;
+use score::columns_in;
+use score::prepare;
+use search::Page;
+use search::quick_page;
+ghost use Prim.Native.Nat.{_≤_};
+ghost use lib.ListN.{length};
+ghost use Rattle.score.specs.Score.{scoreOf};
+ghost use Rattle.asking.specs.Asking.{Accepted};
+ghost use Rattle.telling.specs.Lines.{linesOf};
+ghost use Rattle.telling.specs.Steps.{Wrote, Sought, Lent, Asked};
+
+// All pages by the score's own sets, with room for some pairs in the two buffers, into the output from its front.
+fn pages(
+    cells: &[u8],
+    tracks: usize,
+    theme: &[u8],
+    way: Way,
+    sets: &[u16],
+    table: &mut [u32],
+    columns: &mut [u16],
+    shifts: &mut [i16],
+    out: &mut [u8],
+) -> usize
+    requires { ⌜ Asked (now cells) tracks (now theme) (now sets) (now table) (now columns) (now shifts) (now out) ⌝ }
+    ensures { λ r. ⌜ Wrote (linesOf way (scoreOf (now (cells .entry)) tracks) (now (theme .entry))) 0 (now (out .entry)) r (now (out .exit)) ⌝ }
+{
+    let mut bookmark = Bookmark::first(way);
+    let mut at: usize = 0;
+    let mut found: usize = 0;
+    let mut looks: u32 = 0;
+    let mut more = true;
+    while more {
+        match quick_page(
+            cells,
+            tracks,
+            theme,
+            way,
+            bookmark,
+            sets,
+            table,
+            columns,
+            shifts,
+        ) {
+            Page::Turned(t) => {
+                at = hit_lines(out, at, columns, shifts, t.written);
+                found += t.written;
+                looks += t.looks;
+                bookmark = t.next;
+                more = !t.finished;
+            }
+            Page::Refused(_) => {
+                more = false;
+            }
+        }
+    }
+    end_line(out, at, found as u32, looks)
+}
+
+// Prepares the sets of a score, and searches it.
+fn prepared_pages(
+    cells: &[u8],
+    tracks: usize,
+    theme: &[u8],
+    way: Way,
+    sets: &mut [u16],
+    table: &mut [u32],
+    columns: &mut [u16],
+    shifts: &mut [i16],
+    out: &mut [u8],
+) -> usize
+    requires { ⌜ Lent (now cells) tracks (now theme) (now sets) (now table) (now columns) (now shifts) (now out) ⌝ }
+    ensures { λ r. ⌜ Wrote (linesOf way (scoreOf (now (cells .entry)) tracks) (now (theme .entry))) 0 (now (out .entry)) r (now (out .exit)) ⌝ }
+{
+    prepare(cells, tracks, sets);
+    pages(cells, tracks, theme, way, sets, table, columns, shifts, out)
+}
+
+// The same with room for the sets of any score, of which this one's columns take a part.
+fn search_in(
+    cells: &[u8],
+    tracks: usize,
+    theme: &[u8],
+    way: Way,
+    sets: &mut [u16],
+    table: &mut [u32],
+    places: &mut [u16],
+    shifts: &mut [i16],
+    out: &mut [u8],
+) -> usize
+    requires { ⌜ Sought (now cells) tracks (now theme) (now sets) (now table) (now places) (now shifts) (now out) ⌝ }
+    ensures { λ r. ⌜ Wrote (linesOf way (scoreOf (now (cells .entry)) tracks) (now (theme .entry))) 0 (now (out .entry)) r (now (out .exit)) ⌝ }
+{
+    let last = columns_in(cells, tracks) - 1;
+    prepared_pages(
+        cells,
+        tracks,
+        theme,
+        way,
+        &mut sets[0..last],
+        table,
+        places,
+        shifts,
+        out,
+    )
+}
+
+// The same with room of its own for all that is between.
+pub fn search_lines(cells: &[u8], tracks: usize, theme: &[u8], way: Way, out: &mut [u8]) -> usize
+    requires { ⌜ Accepted (now cells) tracks (now theme) ⌝ }
+    requires { ⌜ 458546 ≤ length (now out) ⌝ }
+    ensures { λ r. ⌜ Wrote (linesOf way (scoreOf (now (cells .entry)) tracks) (now (theme .entry))) 0 (now (out .entry)) r (now (out .exit)) ⌝ }
+{
+    let mut sets = [0u16; 2047];
+    let mut table = [0u32; 4096];
+    let mut places = [0u16; 256];
+    let mut shifts = [0i16; 256];
+    search_in(
+        cells,
+        tracks,
+        theme,
+        way,
+        &mut sets,
+        &mut table,
+        &mut places,
+        &mut shifts,
+        out,
+    )
+}
