@@ -29,6 +29,7 @@ pub fn list(input: &[u8], out: &mut [u8]) -> Listing
     }
     let mut theme = [0u8; 32];
     let mut cells = [0u8; 32768];
+    // there is room, and what is read right is accepted: it is always told
     match answer(input, &mut theme, &mut cells, out) {
         Telling::Told(n) => Listing::Written(n),
         Telling::Refused(_) => Listing::Short,
@@ -36,7 +37,7 @@ pub fn list(input: &[u8], out: &mut [u8]) -> Listing
     }
 }
 
-// The output, by way of room for a theme and for cells. What is read right is never refused.
+// The output, by way of room for a theme and for cells.
 fn answer(input: &[u8], theme: &mut [u8], cells: &mut [u8], out: &mut [u8]) -> Telling
     requires { ⌜ (length (now theme) ≡ 32) × (length (now cells) ≡ 32768) ⌝ }
     ensures { λ r. ⌜ Tells (told (output (now (input .entry))) (now (out .entry))) r (now (out .exit)) ⌝ }

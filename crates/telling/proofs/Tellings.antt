@@ -1,21 +1,25 @@
 -- The calls' promise, from what was checked and written; and it leaves one answer and one state of the buffer (`tells-unique`). A
--- search is refused by exactly the first of the rows 1 to 5 that applies, and then nothing is written; an accepted one is told
--- (`accepted-told`). Assumes nothing.
+-- search is refused exactly where it is not accepted (`search-accepted`), by the first of the rows 1 to 5 that applies
+-- (`search-refused`); where nothing is told, nothing is written (`search-kept`). Assumes nothing.
 use mathlib.Core.Path.{_≡_, refl, sym, ap, _∙_}
+use mathlib.Core.Bool.{Bool, true, false, cond}
+use mathlib.Core.Logic.{_↔_}
 use mathlib.Core.List.{List, [], _∷_, _++_}
 use Prim.Native.Nat.{ℕ, _+_, _≤_, _<_}
 use native.Mathlib.Nat.{zero-add}
 use native.Mathlib.Omega.{arith}
+use lib.Dec.{ltb}
 use lib.ListN.{length}
 use borrow.Author.Tests.{lt-ltb, le-ltb}
+use Rattle.theory.specs.Lists.{over}
 use Rattle.theory.proofs.Lists.{over-sets}
 use Rattle.score.specs.declared.refusals.Refusal.{Refusal}
 use Rattle.score.specs.declared.refusals.Verdict.{Verdict}
 use Rattle.score.specs.declared.refusals.Verdict.the-variants.{Accepted as Passed, Refused as Away}
 use Rattle.score.specs.Score.{columnsIn, scoreOf}
-use Rattle.score.specs.Refusals.{Row, judge, verdict}
+use Rattle.score.specs.Refusals.{Row, judge, verdict, GivenBy, placeBy}
 use Rattle.score.proofs.Judging.{judge-append, judge-refused}
-use Rattle.score.proofs.Judged.{Clear, judge-clear, judge-clear-of}
+use Rattle.score.proofs.Judged.{Clear, judge-either, judge-clear, judge-given, judge-clear-of, judge-shown}
 use Rattle.asking.specs.declared.way.Way.{Way}
 use Rattle.asking.specs.declared.bookmark.Bookmark.{Bookmark}
 use Rattle.asking.specs.Refusals.{row9, row10}
@@ -32,6 +36,9 @@ use Rattle.telling.specs.Steps.{Wrote}
 pub tells-unique : {tale : Tale} {a b : Telling} {s t : List ℕ} → Tells tale a s → Tells tale b t → (a ≡ b) × (s ≡ t)
 tells-unique p q = (p .answers ∙ sym (q .answers), p .writes ∙ sym (q .writes))
 
+refused-same : {r s : Refusal} → Refused r ≡ Refused s → r ≡ s
+refused-same e = cc
+
 -- ---- a text, and the buffer
 
 module _ (text out : List ℕ) where
@@ -46,6 +53,30 @@ module _ (text out : List ℕ) where
         answers = rw (le-ltb (length out) 458546 h) (ap Told (w .place ∙ zero-add (length text)));
         writes = rw (le-ltb (length out) 458546 h) (w .is ∙ over-sets out [] 0 text 0 refl (omega arith));
       }
+
+  abbrev short : Tale
+  short = record { answer = Short; out = out }
+
+  abbrev said : Tale
+  said = record { answer = Told (length text); out = over out text }
+
+  -- it is no refusal
+  never-refused : (r : Refusal) → told text out .answer ≡ Refused r → ⊥
+  unfolding told
+  never-refused r = step (ltb (length out) room)
+    where
+      step : (t : Bool) → cond t short said .answer ≡ Refused r → ⊥
+      step true e = let z : _≡_ {A = ℕ} 0 1 = cc in omega arith
+      step false e = let z : _≡_ {A = ℕ} 0 1 = cc in omega arith
+
+  -- what is not told is not written
+  untold-kept : ((n : ℕ) → told text out .answer ≡ Told n → ⊥) → told text out .out ≡ out
+  unfolding told
+  untold-kept = step (ltb (length out) room)
+    where
+      step : (t : Bool) → ((n : ℕ) → cond t short said .answer ≡ Told n → ⊥) → cond t short said .out ≡ out
+      step true f = refl
+      step false f = absurd (f (length text) refl)
 
 -- ---- a search that is checked
 
@@ -83,3 +114,35 @@ module _ (cells : List ℕ) (h : ℕ) (theme : List ℕ) (way : Way) where
   unfolding searchTold
   accepted-told out a =
       judge-clear (λ r. record { answer = Refused r; out = out }) (told (linesOf way (scoreOf cells h) theme) out) (tellRows cells h theme) (accepted-clear cells h theme .0 a)
+
+  -- ---- when it is refused
+
+  module _ (out : List ℕ) where
+    abbrev away : Refusal → Tale
+    away r = record { answer = Refused r; out = out }
+
+    abbrev lines : List ℕ
+    lines = linesOf way (scoreOf cells h) theme
+
+    pub search-accepted : ((r : Refusal) → searchTold cells h theme way out .answer ≡ Refused r → ⊥) ↔ Accepted cells h theme
+    unfolding searchTold
+    search-accepted = (
+      λ f. accepted-clear cells h theme .1
+          (judge-clear-of away (told lines out) (λ (t : Tale). (r : Refusal) → t .answer ≡ Refused r → ⊥) (λ r g. g r refl) (tellRows cells h theme) f),
+      λ a r e. never-refused lines out r (sym (ap (λ (t : Tale). t .answer) (accepted-told out a)) ∙ e),
+    )
+
+    pub search-refused : (k p : ℕ) → (searchTold cells h theme way out .answer ≡ Refused (record { number = k; place = p }))
+        ↔ (GivenBy (tellRows cells h theme) k × (p ≡ placeBy (tellRows cells h theme) k))
+    unfolding searchTold
+    search-refused k p = (
+      judge-shown away (told lines out) (λ (t : Tale) (s : Refusal). t .answer ≡ Refused s) (λ r s e. refused-same e) (never-refused lines out) (tellRows cells h theme) 0
+          (omega arith) (record { number = k; place = p }),
+      λ g. ap (λ (t : Tale). t .answer) (judge-given away (told lines out) (tellRows cells h theme) k (g .0))
+          ∙ ap (λ (q : ℕ). Refused (record { number = k; place = q })) (sym (g .1)),
+    )
+
+    pub search-kept : ((n : ℕ) → searchTold cells h theme way out .answer ≡ Told n → ⊥) → searchTold cells h theme way out .out ≡ out
+    unfolding searchTold
+    search-kept =
+        judge-either away (told lines out) (λ (t : Tale). ((n : ℕ) → t .answer ≡ Told n → ⊥) → t .out ≡ out) (λ r f. refl) (untold-kept lines out) (tellRows cells h theme)
