@@ -2,11 +2,11 @@
 -- Assumes nothing.
 use mathlib.Core.Path.{_≡_}
 use mathlib.Core.List.{List}
-use Prim.Native.Nat.{ℕ, _+_, _-_, _≤_}
+use Prim.Native.Nat.{ℕ, _+_, _≤_}
 use lib.IntN.{ℤ}
 use lib.ListN.{length}
 use lib.Seq.{sets as stored}
-use Rattle.score.specs.Score.{columnsIn, scoreOf}
+use Rattle.score.specs.Score.{scoreOf}
 use Rattle.score.specs.Sets.{sets as setsOf}
 use Rattle.asking.specs.Asking.{Accepted}
 
@@ -26,12 +26,6 @@ pub record Room (table columns : List ℕ) (shifts : List ℤ) (out : List ℕ) 
 pub record Sought (cells : List ℕ) (h : ℕ) (theme sets table columns : List ℕ) (shifts : List ℤ) (out : List ℕ) : Type 0 where
   pub accepted : Accepted cells h theme
   pub sets-room : length sets ≡ 2047
-  pub room : Room table columns shifts out
-
--- the same with just the room that its sets take
-pub record Lent (cells : List ℕ) (h : ℕ) (theme sets table columns : List ℕ) (shifts : List ℤ) (out : List ℕ) : Type 0 where
-  pub accepted : Accepted cells h theme
-  pub sets-long : length sets ≡ columnsIn cells h - 1
   pub room : Room table columns shifts out
 
 -- what the pages are written of: an accepted score and theme, the score's own sets, and room for all

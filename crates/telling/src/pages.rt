@@ -13,7 +13,7 @@ ghost use lib.ListN.{length};
 ghost use Rattle.score.specs.Score.{scoreOf};
 ghost use Rattle.asking.specs.Asking.{Accepted};
 ghost use Rattle.telling.specs.Lines.{linesOf};
-ghost use Rattle.telling.specs.Steps.{Wrote, Sought, Lent, Asked};
+ghost use Rattle.telling.specs.Steps.{Wrote, Sought, Asked};
 
 // All pages by the score's own sets, with room for some pairs in the two buffers, into the output from its front.
 fn pages(
@@ -62,8 +62,8 @@ fn pages(
     end_line(out, at, found as u32, looks)
 }
 
-// Prepares the sets of a score, and searches it.
-fn prepared_pages(
+// Prepares the sets of a score, in room for those of any score, and searches it.
+fn search_in(
     cells: &[u8],
     tracks: usize,
     theme: &[u8],
@@ -74,37 +74,19 @@ fn prepared_pages(
     shifts: &mut [i16],
     out: &mut [u8],
 ) -> usize
-    requires { ⌜ Lent (now cells) tracks (now theme) (now sets) (now table) (now columns) (now shifts) (now out) ⌝ }
-    ensures { λ r. ⌜ Wrote (linesOf way (scoreOf (now (cells .entry)) tracks) (now (theme .entry))) 0 (now (out .entry)) r (now (out .exit)) ⌝ }
-{
-    prepare(cells, tracks, sets);
-    pages(cells, tracks, theme, way, sets, table, columns, shifts, out)
-}
-
-// The same with room for the sets of any score, of which this one's columns take a part.
-fn search_in(
-    cells: &[u8],
-    tracks: usize,
-    theme: &[u8],
-    way: Way,
-    sets: &mut [u16],
-    table: &mut [u32],
-    places: &mut [u16],
-    shifts: &mut [i16],
-    out: &mut [u8],
-) -> usize
-    requires { ⌜ Sought (now cells) tracks (now theme) (now sets) (now table) (now places) (now shifts) (now out) ⌝ }
+    requires { ⌜ Sought (now cells) tracks (now theme) (now sets) (now table) (now columns) (now shifts) (now out) ⌝ }
     ensures { λ r. ⌜ Wrote (linesOf way (scoreOf (now (cells .entry)) tracks) (now (theme .entry))) 0 (now (out .entry)) r (now (out .exit)) ⌝ }
 {
     let last = columns_in(cells, tracks) - 1;
-    prepared_pages(
+    prepare(cells, tracks, &mut sets[0..last]);
+    pages(
         cells,
         tracks,
         theme,
         way,
-        &mut sets[0..last],
+        &sets[0..last],
         table,
-        places,
+        columns,
         shifts,
         out,
     )

@@ -1,10 +1,13 @@
--- `telling::pages::search_in` meets its contract. Assumes nothing.
-use mathlib.Core.Path.{_∙_}
+-- `telling::pages::search_in` meets its contract: the part of the room that was prepared holds the score's own sets.
+-- Assumes nothing.
+use mathlib.Core.Path.{_≡_, _∙_}
 use Prim.Native.Nat.{_-_, _≤_}
 use native.Mathlib.Omega.{arith}
-use lib.Seq.{length-take-le}
+use lib.ListN.{length, take}
+use lib.Seq.{take-at, length-take-le}
 use Rattle.score.specs.Score.{columnsIn}
 use borrow.Author.Needs.{needs}
+use Rattle.telling.proofs.Searching.{prepared-own}
 use Rattle.telling.proofs.pages.search_in.Statement.{statement}
 use Rattle.telling.proofs.pages.search_in.Tie as tie
 
@@ -14,25 +17,38 @@ columns-in-requires c κs = search needs
 sub-last : tie.Need-sub-last
 sub-last c = search needs
 
-sub-prepared-pages : tie.Need-sub-prepared-pages
-sub-prepared-pages c = search needs
+sub-prepare : tie.Need-sub-prepare
+sub-prepare c = search needs
 
-part-prepared-pages-start : tie.Need-part-prepared-pages-start
-part-prepared-pages-start c = search needs
+part-prepare-start : tie.Need-part-prepare-start
+part-prepare-start c = search needs
 
-part-prepared-pages-end : tie.Need-part-prepared-pages-end
-part-prepared-pages-end c = search needs
+part-prepare-end : tie.Need-part-prepare-end
+part-prepare-end c = search needs
 
-prepared-pages-requires : tie.Need-prepared-pages-requires
-prepared-pages-requires c κs =
-    let k = c .before .before .before .before .before in
+prepare-requires : tie.Need-prepare-requires
+prepare-requires c κs = search needs
+
+sub-pages : tie.Need-sub-pages
+sub-pages c = search needs
+
+part-pages-start : tie.Need-part-pages-start
+part-pages-start c = search needs
+
+part-pages-end : tie.Need-part-pages-end
+part-pages-end c = search needs
+
+pages-requires : tie.Need-pages-requires
+pages-requires c κs =
+    let p = c .before .before .before .before .before .before .before .before in
+    let k = p .before .before in
     let a = k .before .before .before .before .before .before .before in
     let few : columnsIn (a .args .cells .now) (a .args .tracks) ≤ 2048 = a .pre .accepted .columns-few in
+    let n = k .columns-in .result - 1 - 0 in
+    let lent : length (take n (a .args .sets .now)) ≡ n = length-take-le n (a .args .sets .now) (omega (arith, k .columns-in .ensures, a .pre .sets-room)) in
     record {
       accepted = a .pre .accepted;
-      sets-long =
-          length-take-le (k .columns-in .result - 1 - 0) (a .args .sets .now) (omega (arith, k .columns-in .ensures, a .pre .sets-room))
-          ∙ omega (arith, k .columns-in .ensures);
+      own = take-at _ _ n (p .prepare .kept .1 .1 .0 ∙ lent) ∙ prepared-own _ _ _ (a .pre .accepted) (lent ∙ omega (arith, k .columns-in .ensures)) (p .prepare .ensures);
       room = a .pre .room;
     }
 
@@ -60,10 +76,14 @@ search-in-spec =
     (tie.spec
     columns-in-requires
     sub-last
-    sub-prepared-pages
-    part-prepared-pages-start
-    part-prepared-pages-end
-    prepared-pages-requires
+    sub-prepare
+    part-prepare-start
+    part-prepare-end
+    prepare-requires
+    sub-pages
+    part-pages-start
+    part-pages-end
+    pages-requires
     same-length
     same-length-2
     same-length-3
