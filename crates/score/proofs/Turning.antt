@@ -4,13 +4,12 @@ use mathlib.Core.Path.{_≡_, refl, sym, ap, _∙_, subst}
 use mathlib.Core.Bool.{Bool, true, false, cond, true≢false}
 use mathlib.Core.List.{List}
 use Prim.Native.Nat.{ℕ, _+_, _-_, _*_, _/_, _%_, _^_, _≤_, _<_, zero-le, min, max}
-use native.Mathlib.Nat.{mod-lt, zero-lt-suc, add-zero}
+use native.Mathlib.Nat.{mod-lt, zero-lt-suc}
 use native.Mathlib.Decide.{decLt}
 use native.Mathlib.Omega.{arith}
 use lib.Bits.{bitOr, bitAnd, bitXor, and-mask, xor-add-and}
-use lib.Pow.{pow-pos, shl-shr, low}
 use Rattle.theory.specs.Bits.{bit}
-use Rattle.theory.proofs.Bits.{bit-lt, bit-or, bit-shr, bit-mod, bit-high, bit-not, bit-ext}
+use Rattle.theory.proofs.Bits.{bit-lt, bit-or, bit-shr, bit-shl, bit-shl-low, bit-mod, bit-high, bit-not, bit-ext}
 use Rattle.score.specs.Sets.{semitones, Apart, apart, intervalSet}
 use Rattle.score.specs.Classes.{classSet, SetOf}
 use Rattle.score.proofs.ClassSets.{present, class-lt, class-in, in-class}
@@ -58,16 +57,6 @@ module _ (a b : List ℕ) (q : ℕ) (h : q < 12) where
       step : (t : Bool) → apart a b q ≡ t → most f 0 12 < 2 → most f 0 12 ≡ present t
       step true e l = omega (arith, apart-met (apart-true a b (semitones q) e))
       step false e l = none (decLt 0 (most f 0 12)) e l
-
--- ---- a bit of a number that is shifted up
-
-bit-shl : (x d q : ℕ) → bit (x * 2 ^ d) (d + q) ≡ bit x q
-bit-shl x d q = sym (bit-shr (x * 2 ^ d) d q) ∙ ap (λ (n : ℕ). bit n q) (shl-shr x d)
-
-bit-shl-low : (x d q : ℕ) → q < d → bit (x * 2 ^ d) q ≡ 0
-bit-shl-low x d q h =
-    sym (bit-mod (x * 2 ^ d) q d h) ∙ ap (λ (n : ℕ). bit n q) (ap (λ (n : ℕ). n % 2 ^ d) (sym (add-zero (x * 2 ^ d))) ∙ low x d (pow-pos d))
-    ∙ bit-high 0 q 0 (omega arith) zero-le
 
 -- ---- twelve bits turned down by k: what falls out below comes in above
 
