@@ -4,8 +4,8 @@
 use mathlib.Core.Path.{_≡_, refl, sym, ap, ap₂, _∙_, subst}
 use mathlib.Core.Bool.{Bool, true, false, cond}
 use mathlib.Core.List.{List}
-use Prim.Native.Nat.{ℕ, suc, _+_, _-_, _*_, _%_, _^_, _≤_, _<_, zero-le, min, max}
-use native.Mathlib.Nat.{mod-lt, mod-add-mod, add-mod-mod, pow-suc, one-mul, zero-lt-suc, not-suc-le-zero}
+use Prim.Native.Nat.{ℕ, _+_, _-_, _*_, _%_, _^_, _≤_, _<_, zero-le, min, max}
+use native.Mathlib.Nat.{mod-lt, mod-add-mod, add-mod-mod, pow-suc, one-mul, zero-lt-suc}
 use native.Mathlib.Numerals.{add-one}
 use native.Mathlib.Decide.{decLe, decLt}
 use native.Mathlib.Omega.{arith}
@@ -14,7 +14,7 @@ use lib.Dec.{ltb, eqb}
 use lib.ListN.{length, getD, set, replicate, length-set, length-replicate, getD-replicate}
 use lib.Pow.{pow-pos}
 use lib.Seq.{getD-set-same, getD-set-other}
-use borrow.Author.Tests.{lt-ltb, le-ltb, eq-eqb, eqb-true, eqb-false}
+use borrow.Author.Tests.{lt-ltb, le-ltb, eqb-true, eqb-false}
 use Rattle.theory.specs.Bits.{bit}
 use Rattle.theory.proofs.Bits.{bit-lt, bit-or, bit-mod, bit-high, bit-shl, bit-shl-low, bit-ones, bit-pow-same, bit-pow-other, bit-ext}
 use Rattle.score.specs.Score.{pitch}

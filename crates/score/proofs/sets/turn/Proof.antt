@@ -2,7 +2,6 @@
 -- set before them is at hand. The measure is the class sets left. Assumes nothing.
 use borrow.Author.Needs.{needs}
 use Prim.Native.Nat.{_-_}
-use native.Mathlib.Omega.{arith}
 use lib.ListN.{length}
 use Rattle.score.proofs.Filling.{Turns, turns-start, turns-more, turns-end}
 use Rattle.score.proofs.sets.turn.Statement.{statement}

@@ -3,7 +3,6 @@
 use borrow.Author.Needs.{needs}
 use mathlib.Core.Path.{sym, _∙_}
 use Prim.Native.Nat.{_-_}
-use native.Mathlib.Omega.{arith}
 use Rattle.theory.proofs.Masks.{one-shl}
 use Rattle.search.specs.Candidates.{word, themeTable}
 use Rattle.search.proofs.table.Doubling.{Filled, filled-first, filled-room, filled-twice, filled-all}
