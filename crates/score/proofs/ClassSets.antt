@@ -1,25 +1,26 @@
--- The class set of a column: its bits, and a loop that gathers them. The idea: what is gathered, or-ed with what the cells
--- left have, stays the same. Assumes nothing.
+-- The class set of a column: its bits, and a loop that gathers them (`Gathered`). The idea: what is gathered, or-ed with
+-- what the cells left have, stays the same. Last, the table of class bits (`Tabled`). Assumes nothing.
 use mathlib.Core.Path.{_≡_, refl, sym, ap, _∙_}
 use mathlib.Core.Bool.{Bool, true, false, cond}
 use mathlib.Core.List.{List, _∷_, List·Memᴰ as In}
 use Prim.Native.Nat.{ℕ, _+_, _*_, _%_, _^_, _≤_, _<_, zero-le, max}
-use native.Mathlib.Nat.{mod-lt, zero-lt-suc}
+use native.Mathlib.Nat.{mod-lt, zero-lt-suc, not-suc-le-zero}
 use native.Mathlib.Numerals.{add-one}
+use native.Mathlib.Decide.{decLt}
 use native.Mathlib.Omega.{arith}
-use lib.Bits.{bitOr, or-lt}
-use lib.Dec.{eqb}
-use lib.ListN.{length, getD, drop, drop-of-length-le}
+use lib.Bits.{bitOr, or-lt, or-zero-r}
+use lib.Dec.{leb, eqb}
+use lib.ListN.{length, getD, set, drop, replicate, drop-of-length-le, length-set, length-replicate, getD-replicate}
 use lib.Pow.{pow-lt}
-use lib.Seq.{drop-cons}
-use borrow.Author.Tests.{le-leb, lt-leb, eq-eqb, eqb-true, eqb-false}
+use lib.Seq.{drop-cons, getD-set-other}
+use borrow.Author.Tests.{le-leb, lt-leb, leb-true, leb-false, eq-eqb, eqb-true, eqb-false}
 use Rattle.theory.specs.Bits.{bit}
 use Rattle.theory.proofs.Bits.{bit-lt, bit-high, bit-number, number-lt, number-unique}
-use Rattle.theory.proofs.Lists.{some-in, in-some}
+use Rattle.theory.proofs.Lists.{some-in, in-some, stored-more}
 use Rattle.theory.proofs.Masks.{put-same, put-other, one-shl}
 use Rattle.score.specs.declared.quantities.Pitch.{Pitch}
 use Rattle.score.specs.Score.{pitches}
-use Rattle.score.specs.Classes.{hasClass, classSet}
+use Rattle.score.specs.Classes.{classBit, ClassBits, hasClass, classSet}
 
 -- the bit for a test: 1 where it is passed
 abbrev pub present : Bool → ℕ
@@ -105,8 +106,55 @@ module _ (column : List ℕ) where
     pub gathered-shl : getD column i 0 ≤ 127 → Gathered column (i + 1) (bitOr mask (1 * 2 ^ (getD column i 0 % 12) % 2 ^ 16))
     gathered-shl n = rw (one-shl (getD column i 0 % 12) 16 (omega arith)) (gathered-pitch n)
 
+    gathered-bit : Gathered column (i + 1) (bitOr mask (classBit (getD column i 0)))
+    gathered-bit = pick (leb (getD column i 0) 127) refl
+      where
+        pick : (t : Bool) → leb (getD column i 0) 127 ≡ t → Gathered column (i + 1) (bitOr mask (cond t (2 ^ (getD column i 0 % 12)) 0))
+        pick true e = gathered-pitch (leb-true _ _ e)
+        pick false e = rw or-zero-r (gathered-rest (leb-false _ _ e))
+
+    -- as a table has it
+    pub gathered-look : {bits : List ℕ} → ClassBits bits → getD column i 0 < 256 → Gathered column (i + 1) (bitOr mask (getD bits (getD column i 0) 0))
+    gathered-look b l = rw (b .at (getD column i 0) l) gathered-bit
+
   pub gathered-end : {i mask : ℕ} → Gathered column i mask → length column ≤ i → mask ≡ classSet column
   unfolding classSet
   gathered-end {i} {mask} g h =
       number-unique 12 (λ k. present (hasClass column k)) (λ k. present-lt (hasClass column k)) mask (g .small)
       (λ q l. let e = rw (drop-of-length-le column h) at (g .left q l) in omega (arith, e))
+
+-- ---- a table of class bits, made from the front; what is not made yet is 0
+
+pub record Tabled (bits : List ℕ) (cell : ℕ) : Type 0 where
+  pub within : cell ≤ 128
+  pub long : length bits ≡ 256
+  pub made : (k : ℕ) → k < cell → getD bits k 0 ≡ 2 ^ (k % 12)
+  pub left : (k : ℕ) → k < 256 → cell ≤ k → getD bits k 0 ≡ 0
+
+pub tabled-start : Tabled (replicate {A = ℕ} 256 0) 0
+tabled-start =
+    record {
+      within = zero-le;
+      long = length-replicate {A = ℕ} 256 0;
+      made = λ k h. absurd (not-suc-le-zero h);
+      left = λ k l h. getD-replicate {A = ℕ} 256 k 0 0 l;
+    }
+
+pub tabled-more : {bits : List ℕ} {cell : ℕ} → Tabled bits cell → cell ≤ 127 → Tabled (set bits cell (1 * 2 ^ (cell % 12) % 2 ^ 16)) (cell + 1)
+tabled-more {bits} {cell} t h =
+    record {
+      within = omega arith;
+      long = length-set bits cell v ∙ t .long;
+      made = stored-more (λ (k x : ℕ). x ≡ 2 ^ (k % 12)) bits cell v 0 (t .made) (omega (arith, t .long)) (one-shl (cell % 12) 16 (omega arith));
+      left = λ k l m. getD-set-other bits cell k v 0 (λ e. omega arith) ∙ t .left k l (omega arith);
+    }
+  where
+    v : ℕ
+    v = 1 * 2 ^ (cell % 12) % 2 ^ 16
+
+pub tabled-end : {bits : List ℕ} {cell : ℕ} → Tabled bits cell → 127 < cell → ClassBits bits
+tabled-end {bits} {cell} t h = record { at = λ k l. pick k l (decLt 127 k) }
+  where
+    pick : (k : ℕ) → k < 256 → Dec (127 < k) → getD bits k 0 ≡ classBit k
+    pick k l (yes m) = rw (lt-leb k 127 m) (t .left k l (omega (arith, t .within)))
+    pick k l (no m) = let n : k ≤ 127 = omega arith in rw (le-leb k 127 n) (t .made k (omega arith))

@@ -1,79 +1,123 @@
--- The loop that fills the sets: those before k are right, and the class set of column k is at hand. Column k begins at
--- cell k * h. Assumes nothing.
-use mathlib.Core.Path.{_≡_, sym, ap, ap₂, _∙_}
-use mathlib.Core.List.{List}
-use Prim.Native.Nat.{ℕ, _+_, _-_, _*_, _≤_, _<_, zero-le}
-use native.Mathlib.Nat.{add-mul, one-mul, zero-mul, sub-zero, add-sub-cancel-left, mul-le-mul-right, not-suc-le-zero}
+-- The two loops that fill the sets. The first gathers the class sets (`Gathering`): those of columns 1 to k, counted from
+-- 0, are stored, and column k + 1 begins at cell (k + 1) * h. The second turns them to sets in their place (`Turns`): the
+-- first k are sets, and the others are still class sets. Assumes nothing.
+use mathlib.Core.Path.{_≡_, refl, sym, ap, ap₂, _∙_}
+use mathlib.Core.List.{List, [], _∷_, map}
+use Prim.Native.Nat.{ℕ, zero, suc, _+_, _-_, _*_, _≤_, _<_, zero-le}
+use native.Mathlib.Nat.{add-mul, one-mul, zero-mul, sub-zero, add-sub-cancel-left, mul-le-mul-right, not-suc-le-zero, le-of-suc-le-suc, le-refl}
+use native.Mathlib.Numerals.{add-one}
 use native.Mathlib.Omega.{arith}
-use lib.ListN.{length, getD, take, drop, set, length-set}
-use lib.Seq.{ext-getD}
+use lib.ListN.{length, getD, take, drop, set, length-set, length-map}
+use lib.Seq.{ext-getD, getD-set-other}
 use Rattle.theory.proofs.Lists.{stored-more}
 use Rattle.score.specs.Score.{cut}
-use Rattle.score.specs.Sets.{intervalSet, sets}
-use Rattle.score.specs.Classes.{classSet, SetOf}
-use Rattle.score.proofs.Columns.{cut-length}
-use Rattle.score.proofs.IntervalSets.{sets-length, cut-sets-at}
+use Rattle.score.specs.Sets.{sets}
+use Rattle.score.specs.Classes.{classSet, SetOf, ClassSets, Turned}
+use Rattle.score.proofs.Columns.{cut-length, cut-at}
+use Rattle.score.proofs.IntervalSets.{sets-length, sets-at}
+
+-- an entry of the class sets
+class-at : (score : List (List ℕ)) (i : ℕ) → i < length score → getD (map classSet score) i 0 ≡ classSet (getD score i [])
+class-at [] i h = absurd (not-suc-le-zero h)
+class-at (a ∷ score) zero h = refl
+class-at (a ∷ score) (suc i) h = class-at score i (le-of-suc-le-suc h)
+
+-- ---- gathering
 
 -- the cells of column k, from 0
-abbrev pub columnFrom : (cells : List ℕ) (h k : ℕ) → List ℕ
+abbrev columnFrom : (cells : List ℕ) (h k : ℕ) → List ℕ
 columnFrom cells h k = take h (drop (k * h) cells)
 
--- v is set k
-abbrev pub Right : (cells : List ℕ) (h k v : ℕ) → Type 0
-Right cells h k v = v ≡ intervalSet (columnFrom cells h k) (columnFrom cells h (k + 1))
-
-pub record Filling (cells : List ℕ) (h n : ℕ) (out : List ℕ) (k base earlier : ℕ) : Type 0 where
+pub record Gathering (cells : List ℕ) (h n : ℕ) (out : List ℕ) (k base : ℕ) : Type 0 where
   pub within : k ≤ n
   pub long : length out ≡ n
   pub starts : base ≡ (k + 1) * h
-  pub has : earlier ≡ classSet (columnFrom cells h k)
-  pub stored : (i : ℕ) → i < k → Right cells h i (getD out i 0)
+  pub stored : (i : ℕ) → i < k → getD out i 0 ≡ classSet (columnFrom cells h (i + 1))
 
 module _ (cells : List ℕ) (h n : ℕ) where
-  pub filling-start : (out : List ℕ) (earlier : ℕ) → length out ≡ n → earlier ≡ classSet (take (h - 0) (drop 0 cells))
-      → Filling cells h n out 0 h earlier
-  filling-start out earlier l e =
-      record {
-        within = zero-le;
-        long = l;
-        starts = sym (one-mul h);
-        has = rw zero-mul (rw sub-zero at e);
-        stored = λ i m. absurd (not-suc-le-zero m);
-      }
+  pub gathering-start : (out : List ℕ) → length out ≡ n → Gathering cells h n out 0 h
+  gathering-start out l = record { within = zero-le; long = l; starts = sym (one-mul h); stored = λ i m. absurd (not-suc-le-zero m) }
 
   -- the first column is within the cells
   pub first-room : (n + 1) * h ≤ length cells → h ≤ length cells
   first-room r = omega (arith, add-mul n 1 h, one-mul h)
 
-  module _ {out : List ℕ} {k base earlier : ℕ} (f : Filling cells h n out k base earlier) (m : k < n) where
+  module _ {out : List ℕ} {k base : ℕ} (g : Gathering cells h n out k base) (m : k < n) where
     next-starts : base + h ≡ (k + 1 + 1) * h
-    next-starts = omega (arith, f .starts, add-mul (k + 1) 1 h, one-mul h)
+    next-starts = omega (arith, g .starts, add-mul (k + 1) 1 h, one-mul h)
 
     -- the next column is within the cells
-    pub filling-room : (n + 1) * h ≤ length cells → base + h ≤ length cells
-    filling-room r =
+    pub gathering-room : (n + 1) * h ≤ length cells → base + h ≤ length cells
+    gathering-room r =
         let below : k + 1 + 1 ≤ n + 1 = omega arith in
         omega (arith, next-starts, mul-le-mul-right h below)
 
-    -- its class set, and the set of column k and it
-    pub filling-more : (later v : ℕ) → later ≡ classSet (take (base + h - base) (drop base cells)) → SetOf earlier later v
-        → Filling cells h n (set out k v) (k + 1) (base + h) later
-    filling-more later v e s =
-        let here = s .of-columns (columnFrom cells h k) (columnFrom cells h (k + 1)) (f .has) next in
+    -- its class set
+    pub gathering-more : (v : ℕ) → v ≡ classSet (take (base + h - base) (drop base cells)) → Gathering cells h n (set out k v) (k + 1) (base + h)
+    gathering-more v e =
         record {
           within = omega arith;
-          long = simp length-set (f .long);
+          long = length-set out k v ∙ g .long;
           starts = next-starts;
-          has = next;
-          stored = stored-more (Right cells h) out k v 0 (f .stored) (omega (arith, f .long)) here;
+          stored = stored-more (λ (i x : ℕ). x ≡ classSet (columnFrom cells h (i + 1))) out k v 0 (g .stored) (omega (arith, g .long))
+              (e ∙ ap classSet (ap₂ (λ (a b : ℕ). take a (drop b cells)) (add-sub-cancel-left base h) (g .starts)));
         }
-      where
-        next : later ≡ classSet (columnFrom cells h (k + 1))
-        next = e ∙ ap classSet (ap₂ (λ (a b : ℕ). take a (drop b cells)) (add-sub-cancel-left base h) (f .starts))
 
-  pub filling-end : {out : List ℕ} {k base earlier : ℕ} → Filling cells h n out k base earlier → n ≤ k → out ≡ sets (cut (n + 1) h cells)
-  filling-end {out} f m =
-      let same : length out ≡ length (sets (cut (n + 1) h cells)) =
-      omega (arith, f .long, sets-length (cut (n + 1) h cells), cut-length (n + 1) h cells) in
-      ext-getD 0 out (sets (cut (n + 1) h cells)) same
-      (λ i b. f .stored i (omega (arith, f .long)) ∙ sym (cut-sets-at (n + 1) h cells i (omega (arith, f .long))))
+  pub gathering-end : {out : List ℕ} {k base first : ℕ} → Gathering cells h n out k base → n ≤ k → first ≡ classSet (take (h - 0) (drop 0 cells))
+      → ClassSets (cut (n + 1) h cells) first out
+  gathering-end {out} {k} {base} {first} g m e = record { each = ext-getD 0 (first ∷ out) (map classSet (cut (n + 1) h cells)) same at }
+    where
+      same : suc (length out) ≡ length (map classSet (cut (n + 1) h cells))
+      same = omega (arith, g .long, length-map (cut (n + 1) h cells) classSet, cut-length (n + 1) h cells)
+
+      column : (i : ℕ) → i < n + 1 → getD (map classSet (cut (n + 1) h cells)) i 0 ≡ classSet (columnFrom cells h i)
+      column i l = class-at (cut (n + 1) h cells) i (omega (arith, cut-length (n + 1) h cells)) ∙ ap classSet (cut-at (n + 1) h cells i l)
+
+      at : (i : ℕ) → i < suc (length out) → getD (first ∷ out) i 0 ≡ getD (map classSet (cut (n + 1) h cells)) i 0
+      at zero l = rw zero-mul (rw sub-zero at e) ∙ sym (column 0 (omega arith))
+      at (suc i) l =
+          let b : i < k = omega (arith, g .long) in
+          rw add-one at (g .stored i b) ∙ sym (column (suc i) (omega (arith, g .long)))
+
+-- ---- turning
+
+pub record Turns (first : ℕ) (others out : List ℕ) (k earlier : ℕ) : Type 0 where
+  pub within : k ≤ length others
+  pub long : length out ≡ length others
+  pub has : earlier ≡ getD (first ∷ others) k 0
+  pub stored : (i : ℕ) → i < k → SetOf (getD (first ∷ others) i 0) (getD others i 0) (getD out i 0)
+  pub left : (i : ℕ) → k ≤ i → getD out i 0 ≡ getD others i 0
+
+module _ (first : ℕ) (others : List ℕ) where
+  pub turns-start : Turns first others others 0 first
+  turns-start = record { within = zero-le; long = refl; has = refl; stored = λ i m. absurd (not-suc-le-zero m); left = λ i m. refl }
+
+  pub turns-more : {out : List ℕ} {k earlier : ℕ} (v : ℕ) → Turns first others out k earlier → k < length others → SetOf earlier (getD out k 0) v
+      → Turns first others (set out k v) (k + 1) (getD out k 0)
+  turns-more {out} {k} {earlier} v t m s =
+      record {
+        within = omega arith;
+        long = length-set out k v ∙ t .long;
+        has = rw add-one (t .left k (le-refl k));
+        stored = stored-more (λ (i x : ℕ). SetOf (getD (first ∷ others) i 0) (getD others i 0) x) out k v 0 (t .stored) (omega (arith, t .long))
+            (rw (t .has, t .left k (le-refl k)) at s);
+        left = λ i l. getD-set-other out k i v 0 (λ e. omega arith) ∙ t .left i (omega arith);
+      }
+
+  pub turns-end : {out : List ℕ} {k earlier : ℕ} → Turns first others out k earlier → length others ≤ k → Turned first others out
+  turns-end {out} {k} t m = record { of-score = turned }
+    where
+      turned : (score : List (List ℕ)) → ClassSets score first others → out ≡ sets score
+      turned score c = ext-getD 0 out (sets score) (omega (arith, t .long, sets-length score, columns)) at
+        where
+          columns : suc (length others) ≡ length score
+          columns = ap length (c .each) ∙ length-map score classSet
+
+          class-of : (i : ℕ) → i < length score → getD (first ∷ others) i 0 ≡ classSet (getD score i [])
+          class-of i l = ap (λ (all : List ℕ). getD all i 0) (c .each) ∙ class-at score i l
+
+          at : (i : ℕ) → i < length out → getD out i 0 ≡ getD (sets score) i 0
+          at i l =
+              let b : i < k = omega (arith, t .long) in
+              t .stored i b .of-columns (getD score i []) (getD score (suc i) []) (class-of i (omega (arith, t .long, columns)))
+              (class-of (suc i) (omega (arith, t .long, columns))) ∙ sym (rw add-one at (sets-at score i (omega (arith, t .long, columns))))

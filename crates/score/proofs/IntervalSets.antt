@@ -1,14 +1,14 @@
 -- The interval sets: a bit is 0 exactly where the interval is there (`set-bit`), the bits from 12 on are 0, and entry k of
 -- the sets belongs to columns k and k + 1. Assumes nothing.
-use mathlib.Core.Path.{_≡_, refl, sym, ap, _∙_, subst, ap₂}
+use mathlib.Core.Path.{_≡_, refl, sym, ap, _∙_, subst}
 use mathlib.Core.Bool.{Bool, true, false, cond}
 use mathlib.Core.Logic.{_↔_}
 use mathlib.Core.List.{List, [], _∷_}
-use Prim.Native.Nat.{ℕ, zero, suc, _+_, _-_, _*_, _≤_, _<_}
+use Prim.Native.Nat.{ℕ, zero, suc, _+_, _-_, _≤_, _<_}
 use native.Mathlib.Nat.{suc-add}
 use native.Mathlib.Omega.{arith}
 use lib.Dec.{eqb}
-use lib.ListN.{length, getD, take, drop}
+use lib.ListN.{length, getD}
 use borrow.Author.Tests.{eqb-true, eq-eqb}
 use Rattle.theory.specs.Bits.{bit}
 use Rattle.theory.specs.Lists.{some}
@@ -16,9 +16,8 @@ use Rattle.theory.proofs.Bits.{bit-number, number-lt, bit-high, bit-ext, bit-on
 use Rattle.theory.proofs.Lists.{some-in, in-some}
 use Rattle.score.specs.declared.quantities.Pitch.{Pitch}
 use Rattle.score.specs.declared.quantities.Interval.{Interval}
-use Rattle.score.specs.Score.{pitches, cut}
+use Rattle.score.specs.Score.{pitches}
 use Rattle.score.specs.Sets.{semitones, IsInterval, interval, Apart, apart, intervalSet, sets}
-use Rattle.score.proofs.Columns.{cut-length, cut-at}
 use Rattle.score.proofs.Pitches.{pitch-le}
 use Rattle.score.proofs.Intervals.{interval-is, interval-only}
 
@@ -101,10 +100,3 @@ sets-lt [] k = omega arith
 sets-lt (a ∷ []) k = omega arith
 sets-lt (a ∷ b ∷ score) zero = set-lt a b
 sets-lt (a ∷ b ∷ score) (suc k) = sets-lt (b ∷ score) k
-
--- of a score that is cut from cells, by the cells
-pub cut-sets-at : (n h : ℕ) (cells : List ℕ) (k : ℕ) → k + 1 < n
-    → getD (sets (cut n h cells)) k 0 ≡ intervalSet (take h (drop (k * h) cells)) (take h (drop ((k + 1) * h) cells))
-cut-sets-at n h cells k l =
-    sets-at (cut n h cells) k (omega (arith, cut-length n h cells))
-    ∙ ap₂ intervalSet (cut-at n h cells k (omega arith)) (cut-at n h cells (k + 1) l)

@@ -1,6 +1,6 @@
 -- The set of two columns by their class sets, and the loop that finds it. From a pitch of class k, interval q reaches the
 -- class (k + q) mod 12, which is bit q of the later class set turned down by k. Assumes nothing.
-use mathlib.Core.Path.{_≡_, refl, sym, ap, _∙_}
+use mathlib.Core.Path.{_≡_, refl, sym, ap, _∙_, subst}
 use mathlib.Core.Bool.{Bool, true, false, cond, true≢false}
 use mathlib.Core.List.{List}
 use Prim.Native.Nat.{ℕ, _+_, _-_, _*_, _/_, _%_, _^_, _≤_, _<_, zero-le, min, max}
@@ -8,12 +8,11 @@ use native.Mathlib.Nat.{mod-lt, zero-lt-suc}
 use native.Mathlib.Decide.{decLt}
 use native.Mathlib.Omega.{arith}
 use lib.Bits.{bitOr, bitAnd, bitXor, and-mask, xor-add-and}
-use lib.Pow.{high, low}
 use Rattle.theory.specs.Bits.{bit}
-use Rattle.theory.proofs.Bits.{bit-lt, bit-or, bit-shr, bit-mod, bit-high, bit-not, bit-ext}
+use Rattle.theory.proofs.Bits.{bit-lt, bit-or, bit-shr, bit-shl, bit-shl-low, bit-mod, bit-high, bit-not, bit-ext}
 use Rattle.score.specs.Sets.{semitones, Apart, apart, intervalSet}
 use Rattle.score.specs.Classes.{classSet, SetOf}
-use Rattle.score.proofs.ClassSets.{present, class-in, in-class}
+use Rattle.score.proofs.ClassSets.{present, class-lt, class-in, in-class}
 use Rattle.score.proofs.IntervalSets.{apart-true, true-apart, set-number, set-lt}
 use Rattle.score.proofs.Intervals.{interval-from, interval-mod}
 use Rattle.score.proofs.Most.{most, most-nil, most-more, most-ge, most-one, most-lt}
@@ -59,21 +58,22 @@ module _ (a b : List ℕ) (q : ℕ) (h : q < 12) where
       step true e l = omega (arith, apart-met (apart-true a b (semitones q) e))
       step false e l = none (decLt 0 (most f 0 12)) e l
 
--- ---- two copies of a class set, one above the other
+-- ---- twelve bits turned down by k: what falls out below comes in above
 
-twice-bit : (later p : ℕ) → later < 4096 → p < 24 → bit (later * 4097) p ≡ bit later (p % 12)
-twice-bit later p h l = ap (λ (n : ℕ). bit n p) twice ∙ pick (decLt p 12)
+turned-bit : (later k q : ℕ) → later < 4096 → k < 12 → q < 12
+    → max (bit (later / 2 ^ k) q) (bit (later * 2 ^ (12 - k) % 2 ^ 16) q) ≡ bit later ((k + q) % 12)
+turned-bit later k q h l m =
+    omega (arith, bit-shr later k q, bit-mod (later * 2 ^ (12 - k)) q 16 (omega arith), pick (decLt (k + q) 12))
   where
-    twice : later * 4097 ≡ later * 2 ^ 12 + later
-    twice = omega arith
-
-    pick : Dec (p < 12) → bit (later * 2 ^ 12 + later) p ≡ bit later (p % 12)
-    pick (yes k) =
-        let e : p % 12 ≡ p = omega arith in
-        rw e (sym (bit-mod (later * 2 ^ 12 + later) p 12 k) ∙ ap (λ (n : ℕ). bit n p) (low later 12 h))
-    pick (no k) =
-        let e : p ≡ 12 + p % 12 = omega arith in
-        ap (bit (later * 2 ^ 12 + later)) e ∙ sym (bit-shr (later * 2 ^ 12 + later) 12 (p % 12)) ∙ ap (λ (n : ℕ). bit n (p % 12)) (high later 12 h)
+    pick : Dec (k + q < 12) → max (bit later (k + q)) (bit (later * 2 ^ (12 - k)) q) ≡ bit later ((k + q) % 12)
+    pick (yes n) =
+        let e : (k + q) % 12 ≡ k + q = omega arith in
+        rw e (omega (arith, bit-shl-low later (12 - k) q (omega arith)))
+    pick (no n) =
+        let e : (k + q) % 12 ≡ q - (12 - k) = omega arith in
+        let f : 12 - k + (q - (12 - k)) ≡ q = omega arith in
+        let up : bit (later * 2 ^ (12 - k)) q ≡ bit later (q - (12 - k)) = subst (λ (n : ℕ). bit (later * 2 ^ (12 - k)) n ≡ bit later (q - (12 - k))) f (bit-shl later (12 - k) (q - (12 - k))) in
+        rw e (omega (arith, up, bit-high later (k + q) 12 h (omega arith)))
 
 -- ---- the twelve bits that are not reached, `(x & 4095) ^ 4095`: a set has a 0 for each interval that is
 
@@ -93,11 +93,11 @@ others-bit x q h =
 
 pub record Turning (earlier later k reached : ℕ) : Type 0 where
   pub within : k ≤ 12
-  pub left : (q : ℕ) → q < 12 → max (bit reached q) (most (meet earlier later q) k (12 - k)) ≡ most (meet earlier later q) 0 12
+  pub left : later < 4096 → (q : ℕ) → q < 12 → max (bit reached q) (most (meet earlier later q) k (12 - k)) ≡ most (meet earlier later q) 0 12
 
 module _ (earlier later : ℕ) where
   pub turning-start : Turning earlier later 0 0
-  turning-start = record { within = zero-le; left = λ q h. omega (arith, bit-high 0 q 0 (omega arith) zero-le) }
+  turning-start = record { within = zero-le; left = λ n q h. omega (arith, bit-high 0 q 0 (omega arith) zero-le) }
 
   module _ {k reached : ℕ} (t : Turning earlier later k reached) (h : k < 12) where
     more : (q : ℕ) → most (meet earlier later q) k (12 - k) ≡ max (meet earlier later q k) (most (meet earlier later q) (k + 1) (12 - (k + 1)))
@@ -106,27 +106,32 @@ module _ (earlier later : ℕ) where
         most-more (meet earlier later q) k (12 - k) (omega arith) ∙ ap (λ (n : ℕ). max (meet earlier later q k) (most (meet earlier later q) (k + 1) n)) e
 
     pub turning-skip : bit earlier k ≡ 0 → Turning earlier later (k + 1) reached
-    turning-skip e = record { within = omega arith; left = λ q l. omega (arith, more q, t .left q l) }
+    turning-skip e = record { within = omega arith; left = λ n q l. omega (arith, more q, t .left n q l) }
 
-    pub turning-take : later < 4096 → bit earlier k ≡ 1 → Turning earlier later (k + 1) (bitOr reached (later * 4097 / 2 ^ k))
-    turning-take n e = record { within = omega arith; left = λ q l. omega (arith, more q, t .left q l, turned q l) }
+    pub turning-take : bit earlier k ≡ 1 → Turning earlier later (k + 1) (bitOr (bitOr reached (later / 2 ^ k)) (later * 2 ^ (12 - k) % 2 ^ 16))
+    turning-take e = record { within = omega arith; left = λ n q l. omega (arith, more q, t .left n q l, turned n q l) }
       where
-        turned : (q : ℕ) → q < 12 → bit (bitOr reached (later * 4097 / 2 ^ k)) q ≡ max (bit reached q) (meet earlier later q k)
-        turned q l =
-            bit-or reached (later * 4097 / 2 ^ k) q
-            ∙ ap (max (bit reached q)) (bit-shr (later * 4097) k q ∙ twice-bit later (k + q) n (omega arith) ∙ omega (arith, bit-lt later ((k + q) % 12)))
+        low : ℕ
+        low = later / 2 ^ k
+
+        high : ℕ
+        high = later * 2 ^ (12 - k) % 2 ^ 16
+
+        turned : later < 4096 → (q : ℕ) → q < 12 → bit (bitOr (bitOr reached low) high) q ≡ max (bit reached q) (meet earlier later q k)
+        turned n q l =
+            omega (arith, bit-or (bitOr reached low) high q, bit-or reached low q, turned-bit later k q n h l, bit-lt later ((k + q) % 12))
 
   module _ {k reached : ℕ} (t : Turning earlier later k reached) (h : 12 ≤ k) where
-    all-reached : (q : ℕ) → q < 12 → bit reached q ≡ most (meet earlier later q) 0 12
-    all-reached q l =
+    all-reached : later < 4096 → (q : ℕ) → q < 12 → bit reached q ≡ most (meet earlier later q) 0 12
+    all-reached n q l =
         let z : 12 - k ≡ 0 = omega arith in
-        omega (arith, t .left q l, ap (most (meet earlier later q) k) z, most-nil (meet earlier later q) k)
+        omega (arith, t .left n q l, ap (most (meet earlier later q) k) z, most-nil (meet earlier later q) k)
 
     pub turning-end : SetOf earlier later (bitXor (bitAnd reached 4095) 4095)
     turning-end =
         record {
           of-columns = λ a b e f. bit-ext 12 (bitXor (bitAnd reached 4095) 4095) (intervalSet a b) (others-lt reached) (set-lt a b) (λ q l.
-              others-bit reached q l ∙ ap (λ (n : ℕ). 1 - n) (all-reached q l ∙ rw (e, f) (met a b q l)) ∙ flip (apart a b q)
+              others-bit reached q l ∙ ap (λ (n : ℕ). 1 - n) (all-reached (rw f (class-lt b)) q l ∙ rw (e, f) (met a b q l)) ∙ flip (apart a b q)
               ∙ sym (set-number a b q l));
         }
       where

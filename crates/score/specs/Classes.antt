@@ -1,14 +1,24 @@
--- How a set is found: the class of a pitch is what is left of it without its octaves, a column's class set has a bit for
--- each class that is there, and two class sets give the set of their columns (`SetOf`). Assumes nothing.
+-- How the sets are found: the class of a pitch is what is left of it without its octaves, a column's class set has a bit
+-- for each class that is there (`classSet`), two class sets give the set of their columns (`SetOf`), and the class sets of
+-- a score give its sets (`Turned`). Assumes nothing.
 use mathlib.Core.Path.{_≡_}
 use mathlib.Core.Bool.{Bool, cond}
-use mathlib.Core.List.{List}
-use Prim.Native.Nat.{ℕ, _%_}
-use lib.Dec.{eqb}
+use mathlib.Core.List.{List, _∷_, map}
+use Prim.Native.Nat.{ℕ, _%_, _^_, _<_}
+use lib.Dec.{leb, eqb}
+use lib.ListN.{getD}
 use Rattle.theory.specs.Bits.{number}
 use Rattle.theory.specs.Lists.{some}
 use Rattle.score.specs.Score.{pitches}
-use Rattle.score.specs.Sets.{intervalSet}
+use Rattle.score.specs.Sets.{intervalSet, sets}
+
+-- the bit of a cell's class; a rest has none
+abbrev pub classBit : (cell : ℕ) → ℕ
+classBit cell = cond (leb cell 127) (2 ^ (cell % 12)) 0
+
+-- a table of the class bit of every byte
+pub record ClassBits (bits : List ℕ) : Type 0 where
+  pub at : (cell : ℕ) → cell < 256 → getD bits cell 0 ≡ classBit cell
 
 -- some pitch of the column is of class k
 abbrev pub hasClass : (column : List ℕ) → ℕ → Bool
@@ -21,3 +31,11 @@ classSet column = number 12 (λ k. cond (hasClass column k) 1 0)
 -- the set of any two columns that have these class sets
 pub record SetOf (earlier later set : ℕ) : Type 0 where
   pub of-columns : (a b : List ℕ) → earlier ≡ classSet a → later ≡ classSet b → set ≡ intervalSet a b
+
+-- the class sets of a score's columns, the first column's apart
+pub record ClassSets (score : List (List ℕ)) (first : ℕ) (others : List ℕ) : Type 0 where
+  pub each : first ∷ others ≡ map classSet score
+
+-- the sets of any score that has these class sets
+pub record Turned (first : ℕ) (others after : List ℕ) : Type 0 where
+  pub of-score : (score : List (List ℕ)) → ClassSets score first others → after ≡ sets score

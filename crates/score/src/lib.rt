@@ -1,9 +1,10 @@
 // A score, what is turned away, and what is prepared of it.
 //
 // `quantities` keeps pitch, interval and column number apart; `refusals` says what a refusal holds; `checks` says what is
-// refused and where; then `sets` prepares.
+// refused and where; then `classes` says which tones a column has, and `sets` prepares.
 
 pub mod checks;
+mod classes;
 pub mod quantities;
 pub mod refusals;
 pub mod sets;

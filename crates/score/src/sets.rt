@@ -1,17 +1,18 @@
 // The prepared interval sets. The class set of each column is computed once, and a set is found of two class sets by
-// turning the later one, so that the time goes by the cells and not by their pairs.
+// turning the later one, so that the time goes by the cells and not by their pairs. The class sets of all columns come
+// first, in the place of the sets: each of the two loops then does one thing to column after column.
 
 use crate::checks::bad_length;
 use crate::checks::check_score;
-use crate::quantities::Pitch;
+use crate::classes::gather;
 use crate::refusals::Refusal;
 use crate::refusals::Verdict;
 ghost use mathlib.Core.Path.{_≡_};
-ghost use Prim.Native.Nat.{_+_, _*_, _%_, _≤_, _<_};
+ghost use Prim.Native.Nat.{_+_, _*_, _≤_};
 ghost use lib.ListN.{length};
 ghost use Rattle.score.specs.Score.{cut};
 ghost use Rattle.score.specs.Sets.{sets as setsOf};
-ghost use Rattle.score.specs.Classes.{classSet, SetOf};
+ghost use Rattle.score.specs.Classes.{SetOf, Turned};
 ghost use Rattle.score.specs.Preparing.{Prepares};
 
 // The answer of a preparation.
@@ -42,56 +43,36 @@ fn fill(cells: &[u8], tracks: usize, sets: &mut [u16])
     requires { ⌜ (length (now sets) + 1) * tracks ≤ length (now cells) ⌝ }
     ensures { λ _. ⌜ now (sets .exit) ≡ setsOf (cut (length (now (sets .entry)) + 1) tracks (now (cells .entry))) ⌝ }
 {
-    let mut earlier = classes(&cells[0..tracks]);
-    let mut base = tracks;
+    let first = gather(cells, tracks, sets);
+    turn(first, sets);
+}
+
+// From the class sets to the sets, in their place.
+fn turn(first: u16, sets: &mut [u16])
+    ensures { λ _. ⌜ Turned first (now (sets .entry)) (now (sets .exit)) ⌝ }
+{
+    let mut earlier = first;
     let mut k = 0;
     while k < sets.len() {
-        let end = base + tracks;
-        let later = classes(&cells[base..end]);
+        let later = sets[k];
         sets[k] = set_of(earlier, later);
         earlier = later;
-        base = end;
         k += 1;
     }
-}
-
-// The class set of a column.
-fn classes(column: &[u8]) -> u16
-    ensures { λ r. ⌜ r ≡ classSet (now (column .entry)) ⌝ }
-{
-    let mut mask: u16 = 0;
-    let mut i = 0;
-    while i < column.len() {
-        let cell = column[i];
-        if cell <= 127 {
-            mask = mask | (1 << class_of(Pitch(cell)));
-        }
-        i += 1;
-    }
-    mask
-}
-
-// The class of a pitch: which of the twelve tones it is.
-fn class_of(p: Pitch) -> u8
-    ensures { λ r. ⌜ r ≡ p .0 % 12 ⌝ }
-{
-    p.0 % 12
 }
 
 // The set of two columns by their class sets. From a pitch of class k the later column's classes are reached by what is
-// left after turning them down by k; two copies, one above the other, are turned by a shift.
+// left after turning their twelve bits down by k.
 fn set_of(earlier: u16, later: u16) -> u16
-    requires { ⌜ later < 4096 ⌝ }
     ensures { λ r. ⌜ SetOf earlier later r ⌝ }
 {
-    let twice = later as u32 * 4097;
-    let mut reached: u32 = 0;
+    let mut reached: u16 = 0;
     let mut k: u32 = 0;
     while k < 12 {
         if (earlier >> k) & 1 == 1 {
-            reached = reached | (twice >> k);
+            reached = reached | (later >> k) | (later << (12 - k));
         }
         k += 1;
     }
-    ((reached & 4095) ^ 4095) as u16
+    (reached & 4095) ^ 4095
 }

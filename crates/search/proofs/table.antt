@@ -1,3 +1,3 @@
--- Laws of the theme table as it is filled: `Laws` (a word from its bits, and from other words), `Doubling` (the table).
+-- Laws of the theme table as it is filled: `Laws` (rows, and a word from others), `Doubling` (the table).
 pub mod Laws
 pub mod Doubling

@@ -1,33 +1,50 @@
 // The theme table: a word for each of the 4,096 sets.
 //
-// The word of a set is the or of the words of its single bits. So the thirteen words of no bit and of one are built from
-// the theme's notes, and all others come by doubling what stands before them.
+// A word is the or of a row for each bit of its set, and of the ones past the theme's intervals. So the theme is gone
+// through once, for the twelve rows, and the words come by doubling what stands before them.
 
-use crate::register::step;
 use score::Pitch;
 use score::interval_of;
 ghost use mathlib.Core.Path.{_≡_};
-ghost use Prim.Native.Nat.{_+_, _≤_};
-ghost use lib.ListN.{length};
+ghost use Prim.Native.Nat.{ℕ, _+_, _^_, _≤_, _<_};
+ghost use lib.Bits.{bitOr};
+ghost use lib.ListN.{length, getD};
 ghost use Rattle.search.specs.Candidates.{word, themeTable};
 ghost use Rattle.search.specs.Scan.{Doubled};
 
-// The table's word for a set, from the theme's last interval to its first: each puts its bit in at the bottom and moves
-// the others up, so the bits past the theme's intervals are the ones that the word began with.
-fn word_of(theme: &[u8], set: u32) -> u32
+// The row of each interval: a bit for each place where it stands in the theme. The row of d leads from the word of a set
+// of lower bits to the word of that set and d.
+fn rows_of(theme: &[u8]) -> [u32; 12]
     requires { ⌜ 1 ≤ length (now theme) ⌝ }
-    ensures { λ r. ⌜ r ≡ word (now (theme .entry)) set ⌝ }
+    ensures { λ rows. ⌜ ((d s : ℕ) → d < 12 → s < 2 ^ d → word (now (theme .entry)) (2 ^ d + s) ≡ bitOr (word (now (theme .entry)) s) (getD rows d 0)) ⌝ }
 {
-    let mut word: u32 = 0xffff_ffff;
-    let mut i = theme.len() - 1;
-    while 0 < i {
-        i -= 1;
+    let mut rows = [0u32; 12];
+    let mut mark: u32 = 1;
+    let intervals = theme.len() - 1;
+    let mut i = 0;
+    while i < intervals {
         let note = theme[i];
         let next = theme[i + 1];
         let d = interval_of(Pitch(note), Pitch(next));
-        word = step(word, (set >> d.0) & 1);
+        let at = d.0 as usize;
+        rows[at] = rows[at] | mark;
+        mark = mark << 1;
+        i += 1;
     }
-    word
+    rows
+}
+
+// The word of the set with no bit: ones past the theme's intervals.
+fn blank(theme: &[u8]) -> u32
+    requires { ⌜ 1 ≤ length (now theme) ⌝ }
+    ensures { λ r. ⌜ r ≡ word (now (theme .entry)) 0 ⌝ }
+{
+    let intervals = theme.len() - 1;
+    if intervals < 32 {
+        0xffff_ffff << intervals
+    } else {
+        0
+    }
 }
 
 // The first `power` entries again behind themselves, each or-ed with the word.
@@ -48,10 +65,11 @@ pub fn fill_table(theme: &[u8], table: &mut [u32])
     requires { ⌜ length (now table) ≡ 4096 ⌝ }
     ensures { λ _. ⌜ now (table .exit) ≡ themeTable (now (theme .entry)) ⌝ }
 {
-    table[0] = word_of(theme, 0);
-    let mut power: u32 = 1;
-    while power < 4096 {
-        double(table, power as usize, word_of(theme, power));
-        power += power;
+    let rows = rows_of(theme);
+    table[0] = blank(theme);
+    let mut d = 0;
+    while d < 12 {
+        double(table, 1 << d, rows[d]);
+        d += 1;
     }
 }

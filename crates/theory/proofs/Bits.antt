@@ -1,12 +1,12 @@
--- Laws of a bit: of or, and, complement, remainder, shift and twice; of all ones and of a power of two; and that
+-- Laws of a bit: of or, and, complement, remainder, shifts and twice; of all ones and of a power of two; and that
 -- numbers of w bits are equal where their bits are. Last, the number with given bits. Assumes nothing.
 use mathlib.Core.Path.{_≡_, refl, sym, ap, ap₂, _∙_, subst}
 use Prim.Native.Nat.{ℕ, zero, suc, _+_, _-_, _*_, _/_, _%_, _^_, _≤_, _<_, zero-le, suc-le-suc, min, max}
-use native.Mathlib.Nat.{mod-lt, pow-suc, zero-lt-suc, div-eq-of-lt, lt-of-lt-of-le, div-one, not-suc-le-zero, le-of-suc-le-suc}
+use native.Mathlib.Nat.{mod-lt, mul-mod-left, pow-suc, zero-lt-suc, div-eq-of-lt, lt-of-lt-of-le, div-one, not-suc-le-zero, le-of-suc-le-suc}
 use native.Mathlib.Numerals.{one-add}
 use native.Mathlib.Omega.{arith}
 use lib.Bits.{bitOr, bitAnd, or-shr, and-shr, or-mod, and-mod, or-lt}
-use lib.Pow.{pow-mono, field, shr-shr, mod-mod-pow, ones-split, ones-lt, high, low}
+use lib.Pow.{pow-mono, field, shl-shr, shr-shr, mod-mod-pow, ones-split, ones-lt, high, low}
 use lib.Arith.{lt-one}
 use Rattle.theory.specs.Bits.{bit, number}
 
@@ -55,6 +55,10 @@ pub bit-shr : (x d q : ℕ) → bit (x / 2 ^ d) q ≡ bit x (d + q)
 unfolding bit
 bit-shr x d q = ap (λ (n : ℕ). n % 2) (shr-shr x d q)
 
+-- and of one that is shifted up: d bits come in below, all 0
+pub bit-shl : (x d q : ℕ) → bit (x * 2 ^ d) (d + q) ≡ bit x q
+bit-shl x d q = sym (bit-shr (x * 2 ^ d) d q) ∙ ap (λ (n : ℕ). bit n q) (shl-shr x d)
+
 -- past the width there is none
 pub bit-high : (x q w : ℕ) → x < 2 ^ w → w ≤ q → bit x q ≡ 0
 unfolding bit
@@ -69,6 +73,9 @@ above q w h = omega arith
 
 pub bit-mod : (x q w : ℕ) → q < w → bit (x % 2 ^ w) q ≡ bit x q
 bit-mod x q w h = subst (λ (n : ℕ). bit (x % 2 ^ n) q ≡ bit x q) (above q w h) (bit-mod-at x q (w - suc q))
+
+pub bit-shl-low : (x d q : ℕ) → q < d → bit (x * 2 ^ d) q ≡ 0
+bit-shl-low x d q h = sym (bit-mod (x * 2 ^ d) q d h) ∙ ap (λ (n : ℕ). bit n q) (mul-mod-left x (2 ^ d)) ∙ bit-high 0 q 0 (zero-lt-suc 0) zero-le
 
 bit-ones-at : (q j : ℕ) → bit (2 ^ (j + 1 + q) - 1) q ≡ 1
 unfolding bit

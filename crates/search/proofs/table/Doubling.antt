@@ -1,15 +1,16 @@
--- A table that is filled by doubling, over any words. A turn of the copying loop: `Half` and its laws. From p right
--- entries to twice as many, and to all 4,096: `Filled` and its laws. The idea: the word of p + r, where r is below the
--- power of two p, is the or of r's word and p's. Assumes nothing.
-use mathlib.Core.Path.{_≡_, refl, sym, ap, ap₂, _∙_, subst}
+-- A table that is filled by doubling, over any words. A turn of the copying loop: `Half` and its laws. From 2 ^ d right
+-- entries to twice as many, and to all 4,096: `Filled` and its laws. The idea: the word of 2 ^ d + s, where s is below
+-- 2 ^ d, is the or of s's word and one that goes by d alone. Assumes nothing.
+use mathlib.Core.Path.{_≡_, refl, sym, ap, _∙_, subst}
 use mathlib.Core.Logic.{⊎-elim}
 use mathlib.Core.List.{List, map}
-use Prim.Native.Nat.{ℕ, suc, _+_, _-_, _^_, _≤_, _<_}
+use Prim.Native.Nat.{ℕ, suc, _+_, _-_, _*_, _^_, _≤_, _<_, zero-le}
 use native.Mathlib.Nat.{eq-or-lt-of-le, pow-suc, zero-add}
+use native.Mathlib.Numerals.{add-one}
 use native.Mathlib.Decide.{decLt}
 use native.Mathlib.Omega.{arith}
 use lib.Bits.{bitOr}
-use lib.Pow.{pow-pos, pow-mono}
+use lib.Pow.{pow-mono}
 use lib.ListN.{length, getD, set, length-set}
 use lib.Seq.{getD-set-same, getD-set-other, ext-getD}
 use Rattle.theory.specs.Lists.{count}
@@ -49,53 +50,47 @@ module _ (p i x : ℕ) (t t′ : List ℕ) (room : p + p ≤ length t) (hi : i <
 pub half-all : (p i x : ℕ) (t t′ : List ℕ) → p ≤ i → Half p i x t t′ → Doubled p x t t′
 half-all p i x t t′ l h = record { long = h .long; low = h .low; high = λ k m. h .high k (omega arith) }
 
--- ---- filling: the first p entries are right, and p is a power of two
+-- ---- filling: the entries below 2 ^ d are right
 
-pub record Filled (word : ℕ → ℕ) (table : List ℕ) (p : ℕ) : Type 0 where
+pub record Filled (word : ℕ → ℕ) (table : List ℕ) (d : ℕ) : Type 0 where
+  pub within : d ≤ 12
   pub long : length table ≡ 4096
-  pub exponent : ℕ
-  pub power : p ≡ 2 ^ exponent
-  pub each : (s : ℕ) → s < p → getD table s 0 ≡ word s
+  pub each : (s : ℕ) → s < 2 ^ d → getD table s 0 ≡ word s
 
-pub filled-first : (word : ℕ → ℕ) (table : List ℕ) (x : ℕ) → length table ≡ 4096 → x ≡ word 0 → Filled word (set table 0 x) 1
+pub filled-first : (word : ℕ → ℕ) (table : List ℕ) (x : ℕ) → length table ≡ 4096 → x ≡ word 0 → Filled word (set table 0 x) 0
 filled-first word table x l e =
     record {
+      within = zero-le;
       long = length-set table 0 x ∙ l;
-      exponent = 0;
-      power = refl;
       each = stored-more (λ (k y : ℕ). y ≡ word k) table 0 x 0 (λ k z. absurd (omega arith)) (omega arith) e;
     }
 
-pub filled-pos : {word : ℕ → ℕ} {table : List ℕ} {p : ℕ} → Filled word table p → 0 < p
-filled-pos f = omega (arith, f .power, pow-pos (f .exponent))
+module _ {word : ℕ → ℕ} {table : List ℕ} {d : ℕ} (f : Filled word table d) (h : d < 12) where
+  -- there is room for as many again
+  pub filled-room : 2 ^ d + 2 ^ d ≤ length table
+  filled-room = let m : 2 ^ suc d ≤ 2 ^ 12 = pow-mono h in omega (arith, pow-suc 2 d, f .long)
 
--- below 4,096 there is room for as many again
-pub filled-room : {word : ℕ → ℕ} {table : List ℕ} {p : ℕ} → Filled word table p → p < 4096 → p + p ≤ length table
-filled-room {word} {table} {p} f h = pick (decLt (f .exponent) 12)
-  where
-    pick : Dec (f .exponent < 12) → p + p ≤ length table
-    pick (yes l) = let m : 2 ^ suc (f .exponent) ≤ 2 ^ 12 = pow-mono l in omega (arith, pow-suc 2 (f .exponent), f .power, f .long)
-    pick (no l) = absurd (let g : 12 ≤ f .exponent = omega arith in let m : 2 ^ 12 ≤ 2 ^ f .exponent = pow-mono g in omega (arith, f .power))
+  pub filled-twice : {table′ : List ℕ} {x : ℕ} → ((s : ℕ) → s < 2 ^ d → word (2 ^ d + s) ≡ bitOr (word s) x)
+      → Doubled (2 ^ d) x table table′ → Filled word table′ (d + 1)
+  filled-twice {table′} {x} above b =
+      record {
+        within = omega arith;
+        long = b .long ∙ f .long;
+        each = λ s l. pick s (rw (add-one, pow-suc) at l) (decLt s (2 ^ d));
+      }
+    where
+      pick : (s : ℕ) → s < 2 ^ d * 2 → Dec (s < 2 ^ d) → getD table′ s 0 ≡ word s
+      pick s l (yes k) = b .low s k ∙ f .each s k
+      pick s l (no k) =
+          let r : s - 2 ^ d < 2 ^ d = omega arith in
+          let q : 2 ^ d + (s - 2 ^ d) ≡ s = omega arith in
+          subst (λ (n : ℕ). getD table′ n 0 ≡ word n) q
+          (b .high (s - 2 ^ d) r ∙ ap (λ (n : ℕ). bitOr n x) (f .each (s - 2 ^ d) r) ∙ sym (above (s - 2 ^ d) r))
 
-pub filled-twice : {word : ℕ → ℕ} {table table′ : List ℕ} {p x : ℕ} → ((k p r : ℕ) → p ≡ 2 ^ k → r < p → word (p + r) ≡ bitOr (word r) (word p))
-    → Filled word table p → x ≡ word p → Doubled p x table table′ → Filled word table′ (p + p)
-filled-twice {word} {table} {table′} {p} {x} above f e b =
-    record {
-      long = b .long ∙ f .long;
-      exponent = suc (f .exponent);
-      power = rw pow-suc (omega (arith, f .power));
-      each = λ s l. pick s l (decLt s p);
-    }
-  where
-    pick : (s : ℕ) → s < p + p → Dec (s < p) → getD table′ s 0 ≡ word s
-    pick s l (yes k) = b .low s k ∙ f .each s k
-    pick s l (no k) =
-        let r : s - p < p = omega arith in
-        let q : p + (s - p) ≡ s = omega arith in
-        subst (λ (n : ℕ). getD table′ n 0 ≡ word n) q
-        (b .high (s - p) r ∙ ap₂ bitOr (f .each (s - p) r) e ∙ sym (above (f .exponent) p (s - p) (f .power) r))
-
-pub filled-all : {word : ℕ → ℕ} {table : List ℕ} {p : ℕ} → Filled word table p → 4096 ≤ p → table ≡ map word (count 0 4096)
-filled-all {word} {table} f h =
+pub filled-all : {word : ℕ → ℕ} {table : List ℕ} {d : ℕ} → Filled word table d → 12 ≤ d → table ≡ map word (count 0 4096)
+filled-all {word} {table} {d} f h =
     ext-getD 0 table (map word (count 0 4096)) (f .long ∙ sym (count-map-length word 0 4096))
-    (λ s l. let k : s < 4096 = omega (arith, f .long) in f .each s (omega arith) ∙ sym (count-map-at word 0 4096 s 0 k ∙ ap word (zero-add s)))
+    (λ s l.
+    let k : s < 4096 = omega (arith, f .long) in
+    let m : 2 ^ 12 ≤ 2 ^ d = pow-mono h in
+    f .each s (omega arith) ∙ sym (count-map-at word 0 4096 s 0 k ∙ ap word (zero-add s)))

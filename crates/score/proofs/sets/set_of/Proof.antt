@@ -5,7 +5,6 @@ use mathlib.Core.Path.{sym, _∙_}
 use mathlib.Core.Logic.{⊎-elim}
 use Prim.Native.Nat.{_-_}
 use native.Mathlib.Omega.{arith}
-use lib.Bits.{bitAnd, and-le-r, xor-lt}
 use Rattle.theory.proofs.Bits.{bit-lt}
 use Rattle.theory.proofs.Masks.{shr-and-one}
 use Rattle.score.proofs.Turning.{Turning, turning-start, turning-skip, turning-take, turning-end}
@@ -13,13 +12,10 @@ use Rattle.score.proofs.sets.set_of.Statement.{statement}
 use Rattle.score.proofs.sets.set_of.Tie as tie
 
 abbrev Inv-loop : tie.InvT-loop
-Inv-loop earlier later twice reached₀ k₀ reached k = Turning earlier later k reached
+Inv-loop earlier later reached₀ k₀ reached k = Turning earlier later k reached
 
 abbrev μ-loop : tie.MeasureT-loop
-μ-loop earlier later twice reached₀ k₀ reached k = 12 - k
-
-mul-twice : tie.Need-mul-twice Inv-loop μ-loop
-mul-twice c = search needs
+μ-loop earlier later reached₀ k₀ reached k = 12 - k
 
 loop-holds : tie.Need-loop-holds Inv-loop μ-loop
 loop-holds c = turning-start _ _
@@ -30,8 +26,20 @@ cast-if1 c = search needs
 shr-if1 : tie.Need-shr-if1 Inv-loop μ-loop
 shr-if1 c = search needs
 
+cast-reached : tie.Need-cast-reached Inv-loop μ-loop
+cast-reached c = search needs
+
 shr-reached : tie.Need-shr-reached Inv-loop μ-loop
 shr-reached c = search needs
+
+sub-reached : tie.Need-sub-reached Inv-loop μ-loop
+sub-reached c = search needs
+
+cast-reached-2 : tie.Need-cast-reached-2 Inv-loop μ-loop
+cast-reached-2 c = search needs
+
+shl-reached : tie.Need-shl-reached Inv-loop μ-loop
+shl-reached c = search needs
 
 add-k : tie.Need-add-k Inv-loop μ-loop
 add-k c = search needs
@@ -46,14 +54,9 @@ loop-again c =
     let x = c .before .before .before .args .earlier in
     let e = shr-and-one x (a .k) in
     ⊎-elim
-    (λ w. rw (w .1) (turning-take _ _ t (search needs) (search needs) (sym e ∙ w .0 .taken)))
+    (λ w. rw (w .1) (turning-take _ _ t (search needs) (sym e ∙ w .0 .taken)))
     (λ w. rw (w .1) (turning-skip _ _ t (search needs) (omega (arith, bit-lt x (a .k), e, w .0 .left))))
     (c .if1 .came)
-
-cast-result : tie.Need-cast-result Inv-loop μ-loop
-cast-result c =
-    let x = c .before .loop .reached in
-    record { fits = xor-lt 16 (bitAnd x 4095) _ (omega (arith, and-le-r x 4095)) (omega arith) }
 
 returns : tie.Need-returns Inv-loop μ-loop
 returns c = turning-end _ _ (c .before .loop .inv) (search needs)
@@ -64,13 +67,15 @@ set-of-spec =
     (tie.spec
     Inv-loop
     μ-loop
-    mul-twice
     loop-holds
     cast-if1
     shr-if1
+    cast-reached
     shr-reached
+    sub-reached
+    cast-reached-2
+    shl-reached
     add-k
     loop-less
     loop-again
-    cast-result
     returns)

@@ -1,58 +1,63 @@
--- `search::table::fill_table` meets its contract. The invariant: the power is one of two, and each entry below it is right.
--- The measure is what is left to 4,096. Assumes nothing.
+-- `search::table::fill_table` meets its contract. The invariant: each entry below 2 ^ d is right. The measure is the rows
+-- left. Assumes nothing.
 use borrow.Author.Needs.{needs}
 use mathlib.Core.Path.{sym, _∙_}
 use Prim.Native.Nat.{_-_}
-use native.Mathlib.Omega.{arith}
+use Rattle.theory.proofs.Masks.{one-shl}
 use Rattle.search.specs.Candidates.{word, themeTable}
-use Rattle.search.proofs.table.Laws.{word-above}
-use Rattle.search.proofs.table.Doubling.{Filled, filled-first, filled-pos, filled-room, filled-twice, filled-all}
+use Rattle.search.proofs.table.Doubling.{Filled, filled-first, filled-room, filled-twice, filled-all}
 use Rattle.search.proofs.table.fill_table.Statement.{statement}
 use Rattle.search.proofs.table.fill_table.Tie as tie
 
 abbrev Inv-loop : tie.InvT-loop
-Inv-loop theme table₀ power₀ table power = Filled (word theme) table power
+Inv-loop theme table₀ rows d₀ table d = Filled (word theme) table d
 
 abbrev μ-loop : tie.MeasureT-loop
-μ-loop theme table₀ power₀ table power = 4096 - power
+μ-loop theme table₀ rows d₀ table d = 12 - d
 
-word-of-requires : tie.Need-word-of-requires Inv-loop μ-loop
-word-of-requires c κs = search needs
+rows-of-requires : tie.Need-rows-of-requires Inv-loop μ-loop
+rows-of-requires c κs = search needs
+
+blank-requires : tie.Need-blank-requires Inv-loop μ-loop
+blank-requires c κs = search needs
 
 slice-write-table : tie.Need-slice-write-table Inv-loop μ-loop
 slice-write-table c = search needs
 
 loop-holds : tie.Need-loop-holds Inv-loop μ-loop
-loop-holds c =
-    let s = c .before .before .before in
-    filled-first _ (s .args .table .now) _ (s .pre .1) (c .word-of .ensures)
+loop-holds c = filled-first _ (c .before .before .before .before .args .table .now) _ (c .before .before .before .before .pre .1) (c .blank .ensures)
 
-cast-double : tie.Need-cast-double Inv-loop μ-loop
-cast-double c = search needs
+shl-double : tie.Need-shl-double Inv-loop μ-loop
+shl-double c = search needs
 
-word-of-requires-2 : tie.Need-word-of-requires-2 Inv-loop μ-loop
-word-of-requires-2 c κs = search needs
+mul-double : tie.Need-mul-double Inv-loop μ-loop
+mul-double c = search needs
+
+array-read-double : tie.Need-array-read-double Inv-loop μ-loop
+array-read-double c = search needs
 
 double-requires : tie.Need-double-requires Inv-loop μ-loop
-double-requires c κs = filled-room (c .before .before .before .loop .inv) (omega arith)
+double-requires c κs = rw (one-shl (c .before .before .loop .d) 64 (search needs)) (filled-room (c .before .before .loop .inv) (search needs))
 
-add-power : tie.Need-add-power Inv-loop μ-loop
-add-power c = search needs
+add-d : tie.Need-add-d Inv-loop μ-loop
+add-d c = search needs
 
 loop-less : tie.Need-loop-less Inv-loop μ-loop
-loop-less c = omega (arith, filled-pos (c .before .before .before .before .before .before .loop .inv))
+loop-less c = search needs
 
 loop-again : tie.Need-loop-again Inv-loop μ-loop
 loop-again c =
-    filled-twice (word-above _) (c .before .before .before .before .before .before .loop .inv)
-    (c .before .before .before .word-of2 .ensures) (c .before .before .double .ensures)
+    let at-loop = c .before .before .before .before .before in
+    let rows = at-loop .before .before .rows-of .ensures in
+    let power = one-shl (at-loop .loop .d) 64 (search needs) in
+    filled-twice (at-loop .loop .inv) (search needs) (λ s l. rows (at-loop .loop .d) s (search needs) l) (rw power at (c .before .before .double .ensures))
 
 same-length : tie.Need-same-length Inv-loop μ-loop
-same-length c = c .before .loop .inv .long ∙ sym (c .before .before .before .before .before .pre .1)
+same-length c = c .before .loop .inv .long ∙ sym (c .before .before .before .before .before .before .pre .1)
 
 returns : tie.Need-returns Inv-loop μ-loop
 unfolding themeTable
-returns c = filled-all (c .before .loop .inv) (omega arith)
+returns c = filled-all (c .before .loop .inv) (search needs)
 
 pub fill-table-spec : {M : Type 1} → statement M
 fill-table-spec =
@@ -60,13 +65,15 @@ fill-table-spec =
     (tie.spec
     Inv-loop
     μ-loop
-    word-of-requires
+    rows-of-requires
+    blank-requires
     slice-write-table
     loop-holds
-    cast-double
-    word-of-requires-2
+    shl-double
+    mul-double
+    array-read-double
     double-requires
-    add-power
+    add-d
     loop-less
     loop-again
     same-length

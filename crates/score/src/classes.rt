@@ -1,0 +1,85 @@
+// The class sets of columns: a bit for each of the twelve tones that is there. `sets` finds the interval sets of them.
+
+use crate::quantities::Pitch;
+ghost use mathlib.Core.Path.{_≡_};
+ghost use Prim.Native.Nat.{_+_, _*_, _%_, _≤_};
+ghost use lib.ListN.{length};
+ghost use Rattle.score.specs.Score.{cut};
+ghost use Rattle.score.specs.Classes.{classSet, ClassBits, ClassSets};
+
+// The class sets of all columns: the first column's is the answer, and the others are stored in order.
+pub fn gather(cells: &[u8], tracks: usize, others: &mut [u16]) -> u16
+    requires { ⌜ (length (now others) + 1) * tracks ≤ length (now cells) ⌝ }
+    ensures { λ r. ⌜ ClassSets (cut (length (now (others .entry)) + 1) tracks (now (cells .entry))) r (now (others .exit)) ⌝ }
+{
+    let bits = class_bits();
+    let mut base = tracks;
+    let mut k = 0;
+    while k < others.len() {
+        let end = base + tracks;
+        others[k] = class_set(&cells[base..end], &bits);
+        base = end;
+        k += 1;
+    }
+    class_set(&cells[0..tracks], &bits)
+}
+
+// The class bit of every byte, made once for a whole score.
+fn class_bits() -> [u16; 256]
+    ensures { λ r. ⌜ ClassBits r ⌝ }
+{
+    let mut bits = [0u16; 256];
+    let mut cell: u8 = 0;
+    while cell <= 127 {
+        bits[cell as usize] = 1 << class_of(Pitch(cell));
+        cell += 1;
+    }
+    bits
+}
+
+// The class set of a column. Few cells are looked up; of many the bits are worked out, so that eight cells go together.
+fn class_set(column: &[u8], bits: &[u16; 256]) -> u16
+    requires { ⌜ ClassBits (now bits) ⌝ }
+    ensures { λ r. ⌜ r ≡ classSet (now (column .entry)) ⌝ }
+{
+    if column.len() < 8 {
+        looked_up(column, bits)
+    } else {
+        worked_out(column)
+    }
+}
+
+fn looked_up(column: &[u8], bits: &[u16; 256]) -> u16
+    requires { ⌜ ClassBits (now bits) ⌝ }
+    ensures { λ r. ⌜ r ≡ classSet (now (column .entry)) ⌝ }
+{
+    let mut mask: u16 = 0;
+    let mut i = 0;
+    while i < column.len() {
+        mask = mask | bits[column[i] as usize];
+        i += 1;
+    }
+    mask
+}
+
+fn worked_out(column: &[u8]) -> u16
+    ensures { λ r. ⌜ r ≡ classSet (now (column .entry)) ⌝ }
+{
+    let mut mask: u16 = 0;
+    let mut i = 0;
+    while i < column.len() {
+        let cell = column[i];
+        if cell <= 127 {
+            mask = mask | (1 << class_of(Pitch(cell)));
+        }
+        i += 1;
+    }
+    mask
+}
+
+// The class of a pitch: which of the twelve tones it is.
+fn class_of(p: Pitch) -> u8
+    ensures { λ r. ⌜ r ≡ p .0 % 12 ⌝ }
+{
+    p.0 % 12
+}
