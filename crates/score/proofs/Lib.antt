@@ -13,6 +13,6 @@ pub mod Sound
 pub mod Preparing
 pub mod Prepared
 mod Most
-mod ClassSets
-mod Turning
+pub mod ClassSets
+pub mod Turning
 mod Filling

@@ -58,12 +58,12 @@ module _ (a b : List ℕ) (q : ℕ) (h : q < 12) where
       step true e l = omega (arith, apart-met (apart-true a b (semitones q) e))
       step false e l = none (decLt 0 (most f 0 12)) e l
 
--- ---- twelve bits turned down by k: what falls out below comes in above
+-- ---- twelve bits turned down by k, in a word of w bits: what falls out below comes in above
 
-turned-bit : (later k q : ℕ) → later < 4096 → k < 12 → q < 12
-    → max (bit (later / 2 ^ k) q) (bit (later * 2 ^ (12 - k) % 2 ^ 16) q) ≡ bit later ((k + q) % 12)
-turned-bit later k q h l m =
-    omega (arith, bit-shr later k q, bit-mod (later * 2 ^ (12 - k)) q 16 (omega arith), pick (decLt (k + q) 12))
+pub turned-bit : (w later k q : ℕ) → 12 ≤ w → later < 4096 → k < 12 → q < 12
+    → max (bit (later / 2 ^ k) q) (bit (later * 2 ^ (12 - k) % 2 ^ w) q) ≡ bit later ((k + q) % 12)
+turned-bit w later k q wide h l m =
+    omega (arith, bit-shr later k q, bit-mod (later * 2 ^ (12 - k)) q w (omega arith), pick (decLt (k + q) 12))
   where
     pick : Dec (k + q < 12) → max (bit later (k + q)) (bit (later * 2 ^ (12 - k)) q) ≡ bit later ((k + q) % 12)
     pick (yes n) =
@@ -119,7 +119,7 @@ module _ (earlier later : ℕ) where
 
         turned : later < 4096 → (q : ℕ) → q < 12 → bit (bitOr (bitOr reached low) high) q ≡ max (bit reached q) (meet earlier later q k)
         turned n q l =
-            omega (arith, bit-or (bitOr reached low) high q, bit-or reached low q, turned-bit later k q n h l, bit-lt later ((k + q) % 12))
+            omega (arith, bit-or (bitOr reached low) high q, bit-or reached low q, turned-bit 16 later k q (omega arith) n h l, bit-lt later ((k + q) % 12))
 
   module _ {k reached : ℕ} (t : Turning earlier later k reached) (h : 12 ≤ k) where
     all-reached : later < 4096 → (q : ℕ) → q < 12 → bit reached q ≡ most (meet earlier later q) 0 12

@@ -45,7 +45,7 @@ fn class_set(column: &[u8], bits: &[u16; 256]) -> u16
     if column.len() < 8 {
         looked_up(column, bits)
     } else {
-        worked_out(column)
+        classes_of(column)
     }
 }
 
@@ -62,7 +62,8 @@ fn looked_up(column: &[u8], bits: &[u16; 256]) -> u16
     mask
 }
 
-fn worked_out(column: &[u8]) -> u16
+// The class set of a column, worked out cell by cell.
+pub fn classes_of(column: &[u8]) -> u16
     ensures { λ r. ⌜ r ≡ classSet (now (column .entry)) ⌝ }
 {
     let mut mask: u16 = 0;

@@ -12,6 +12,7 @@ pub mod sets;
 pub use checks::check_score;
 pub use checks::check_sets;
 pub use checks::columns_in;
+pub use classes::classes_of;
 pub use quantities::Column;
 pub use quantities::Interval;
 pub use quantities::Pitch;

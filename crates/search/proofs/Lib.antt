@@ -1,7 +1,6 @@
--- Laws of this crate's definitions. Places: `Order` (the starts, which they are and that they rise), `Notes` (all
--- notes), `LookBound`. The list: `Listed`. Candidates: `Words` (the
--- theme table), `Filtered`. The worked cases: `Worked`. Calls: `Answers`, `PlainCall`,
--- `QuickCall`. Pages: `Turning` (bookmarks, and what is read back), `Paging` (one page), `Readings` (page after page),
+-- Laws of this crate's definitions. Places: `Order` (the starts, which they are and that they rise), `Notes` (all notes),
+-- `LookBound`. The list: `Listed`. Candidates: `Words` (the theme table), `Filtered`. The worked cases: `Worked`. Calls: `Answers`,
+-- `PlainCall`, `QuickCall`. Pages: `Turning` (bookmarks, and what is read back), `Paging` (one page), `Readings` (page after page),
 -- `Searches` (plain and quick), `Quicker` (quick and plain compared), `AtOrAfter` and `OnePages` (a page, said of pairs).
 -- What all this comes to: `Demands`.
 pub mod Order

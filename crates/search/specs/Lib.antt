@@ -13,3 +13,4 @@ pub mod Cases
 -- contracts of inner functions, which no public call promises
 pub mod Scan
 pub mod Walk
+pub mod Alive

@@ -121,7 +121,18 @@ fn turn_plain(
 {
     let column = bookmark.column;
     let code = code_of(way, bookmark.shift);
-    let w = walk_all(cells, tracks, theme, way, column, code, columns, shifts);
+    let mut ring = [0u64; 96];
+    let w = walk_all(
+        cells,
+        tracks,
+        theme,
+        way,
+        column,
+        code,
+        columns,
+        shifts,
+        &mut ring,
+    );
     turned(way, columns_in(cells, tracks), w, columns, shifts)
 }
 

@@ -1,5 +1,6 @@
 // The walk along the starts: each column's starts are tried in order, and hits are written behind those found.
 
+use crate::alive::try_all;
 use crate::register::marks;
 use crate::register::taken;
 use crate::register::warmed;
@@ -22,6 +23,7 @@ ghost use Rattle.asking.specs.Way.{span, shiftOf};
 ghost use Rattle.search.specs.Starts.{key, starts};
 ghost use Rattle.search.specs.Page.{quickStarts};
 ghost use Rattle.search.specs.Walk.{Ready, Fits, Keeps, columnStarts, Tries, Lent, Walks};
+ghost use Rattle.search.specs.Alive.{Cached};
 
 // How far a walk has come: the pairs found, and the looks.
 pub struct Walked {
@@ -121,9 +123,11 @@ pub fn walk_all(
     x: u16,
     columns: &mut [u16],
     shifts: &mut [i16],
+    ring: &mut [u64],
 ) -> Walked
     requires { ⌜ Ready (now cells) h (now theme) ⌝ }
     requires { ⌜ (1 ≤ first .0) × (first .0 ≤ columnsIn (now cells) h + 1) × (x ≤ span way) × (length (now shifts) ≡ length (now columns)) ⌝ }
+    requires { ⌜ Cached way (now cells) h (now ring) ⌝ }
     ensures { λ r. ⌜ Walks way (scoreOf (now (cells .entry)) h) (now (theme .entry)) (from key (first .0 * 256 + x) (starts way (scoreOf (now (cells .entry)) h) (now (theme .entry)))) (now (columns .entry)) (now (shifts .entry)) (r .found) (r .looks) (now (columns .exit)) (now (shifts .exit)) ⌝ }
 {
     let past = columns_in(cells, h) + 1;
@@ -133,7 +137,7 @@ pub fn walk_all(
     let mut found: usize = 0;
     let mut looks: u32 = 0;
     while j + m <= past {
-        let t = try_column(
+        let t = try_all(
             cells,
             h,
             theme,
@@ -143,6 +147,7 @@ pub fn walk_all(
             found,
             columns,
             shifts,
+            ring,
         );
         found = t.found;
         looks += t.looks;

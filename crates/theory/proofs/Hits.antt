@@ -86,3 +86,14 @@ last-map f d (x ∷ xs) = last-map f x xs
 pub last-some : {A : Type 0} (d e : A) (xs : List A) → 0 < length xs → last d xs ≡ last e xs
 last-some d e [] h = absurd (not-suc-le-zero h)
 last-some d e (x ∷ xs) h = refl
+
+-- a test in two parts: what passes the first is tried by the second
+pub hits-part : {A : Type 0} (a b : A → Bool) (xs : List A) → hits (λ x. cond (a x) (b x) false) xs ≡ hits b (hits a xs)
+hits-part a b [] = refl
+hits-part {A} a b (x ∷ xs) = step (a x) refl (b x) refl (hits-part a b xs)
+  where
+    step : (s : Bool) → a x ≡ s → (t : Bool) → b x ≡ t → hits (λ x. cond (a x) (b x) false) xs ≡ hits b (hits a xs)
+        → cond (cond s (b x) false) (x ∷ hits (λ x. cond (a x) (b x) false) xs) (hits (λ x. cond (a x) (b x) false) xs) ≡ hits b (cond s (x ∷ hits a xs) (hits a xs))
+    step true e true f ih = rw f (ap (λ (l : List A). x ∷ l) ih)
+    step true e false f ih = rw f ih
+    step false e t f ih = ih

@@ -1,6 +1,7 @@
 -- Laws of the definitions in specs/, for every crate above. Lists: `Lists`, `Members`, `Counts` (how many pass a test).
 -- Pages: `Pages` (hits and what is left), `Looks`, `Readings` (page after page), `Bookmarks` (keys), `Hits` (two tests),
--- `Thin` (starts left out), `Going` (a page under way). Bits: `Bits`, `Masks` (what code writes), `Register`. Signs: `Signed`.
+-- `Thin` (starts left out), `Going` (a page under way). Bits: `Bits`, `Masks` (what code writes),
+-- `Marks` (what a word marks), `Register`. Signs: `Signed`.
 pub mod Unique
 pub mod Lists
 pub mod Members
@@ -16,5 +17,6 @@ pub mod Thin
 pub mod Going
 pub mod Bits
 pub mod Masks
+pub mod Marks
 pub mod Register
 pub mod Signed

@@ -35,6 +35,14 @@ sets-more l i [] v k e = let n : k ≡ i = omega arith in ap (λ (m : ℕ). set 
 sets-more l i (w ∷ vs) v k e = sets-more (set l i w) (suc i) vs v k (omega arith)
 
 -- stores behind what is written over the front
+pub sets-append : {A : Type 0} (vs : List A) (l : List A) (i k : ℕ) (ws : List A) → k ≡ i + length vs → sets (sets l i vs) k ws ≡ sets l i (vs ++ ws)
+sets-append [] l i k ws e = let n : k ≡ i = omega (arith, e) in rw n
+sets-append (v ∷ vs) l i k ws e = sets-append vs (set l i v) (suc i) k ws (omega (arith, e))
+
+pub map-twice : {A B C : Type 0} (f : A → B) (g : B → C) (xs : List A) → map g (map f xs) ≡ map (λ x. g (f x)) xs
+map-twice f g [] = refl
+map-twice {C = C} f g (x ∷ xs) = ap (λ (l : List C). g (f x) ∷ l) (map-twice f g xs)
+
 pub over-sets : {A : Type 0} (d vs : List A) (z : A) (ws : List A) (n : ℕ) → length vs ≡ n → n + length ws ≤ length d → sets (over d vs) n ws ≡ over d (vs ++ ws)
 over-sets d vs z [] n e h = ap (λ (l : List _). l ++ drop (length l) d) (sym (append-nil vs))
 over-sets d vs z (w ∷ ws) n e h =

@@ -11,7 +11,7 @@ use lib.Pow.{pow-pos, pow-lt}
 use lib.Dec.{eqb}
 use borrow.Author.Tests.{ne-eqb}
 use Rattle.theory.specs.Bits.{bit}
-use Rattle.theory.proofs.Bits.{bit-lt, bit-and, bit-or, bit-not, bit-high, bit-pow-same, bit-pow-other}
+use Rattle.theory.proofs.Bits.{bit-lt, bit-and, bit-or, bit-not, bit-high, bit-mod, bit-shl, bit-shl-low, bit-pow-same, bit-pow-other}
 
 pub shr-and-one : (x q : ℕ) → bitAnd (x / 2 ^ q) 1 ≡ bit x q
 unfolding bit
@@ -71,3 +71,11 @@ and-pow-test x q = ap (λ (n : ℕ). eqb n 0) (and-pow x q) ∙ go (bit x q) (bi
     go zero h = ap (λ (n : ℕ). eqb n 0) (zero-mul (2 ^ q))
     go (suc zero) h = ne-eqb (1 * 2 ^ q) 0 (λ e. omega (arith, one-mul (2 ^ q), pow-pos q))
     go (suc (suc b)) h = absurd (omega arith)
+
+-- ---- `x << d` at width w
+
+pub shl-high : (x d q w : ℕ) → d + q < w → bit (x * 2 ^ d % 2 ^ w) (d + q) ≡ bit x q
+shl-high x d q w h = bit-mod (x * 2 ^ d) (d + q) w h ∙ bit-shl x d q
+
+pub shl-low : (x d q w : ℕ) → q < d → q < w → bit (x * 2 ^ d % 2 ^ w) q ≡ 0
+shl-low x d q w h k = bit-mod (x * 2 ^ d) q w k ∙ bit-shl-low x d q h

@@ -2,4 +2,5 @@
 pub mod Lists
 pub mod Pages
 pub mod Bits
+pub mod Marks
 pub mod Register

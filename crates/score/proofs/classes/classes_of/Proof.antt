@@ -1,4 +1,4 @@
--- `score::classes::worked_out` meets its contract. The invariant: the mask has the classes of the cells passed. The measure is
+-- `score::classes::classes_of` meets its contract. The invariant: the mask has the classes of the cells passed. The measure is
 -- the cells left. Assumes nothing.
 use borrow.Author.Needs.{needs}
 use mathlib.Core.Logic.{⊎-elim}
@@ -6,8 +6,8 @@ use Prim.Native.Nat.{_-_}
 use native.Mathlib.Omega.{arith}
 use lib.ListN.{length}
 use Rattle.score.proofs.ClassSets.{Gathered, gathered-start, gathered-rest, gathered-shl, gathered-end}
-use Rattle.score.proofs.classes.worked_out.Statement.{statement}
-use Rattle.score.proofs.classes.worked_out.Tie as tie
+use Rattle.score.proofs.classes.classes_of.Statement.{statement}
+use Rattle.score.proofs.classes.classes_of.Tie as tie
 
 abbrev Inv-loop : tie.InvT-loop
 Inv-loop column mask₀ i₀ mask i = Gathered column i mask
@@ -47,8 +47,8 @@ loop-again c =
 returns : tie.Need-returns Inv-loop μ-loop
 returns c = gathered-end _ (c .before .loop .inv) (search needs)
 
-pub worked-out-spec : {M : Type 1} → statement M
-worked-out-spec =
+pub classes-of-spec : {M : Type 1} → statement M
+classes-of-spec =
     tie.close
     (tie.spec
     Inv-loop

@@ -1,0 +1,3 @@
+-- Laws of all starts of a column at once.
+pub mod Laws
+pub mod Putting

@@ -1,0 +1,3 @@
+-- Laws of the words of columns.
+pub mod Moving
+pub mod Laws
