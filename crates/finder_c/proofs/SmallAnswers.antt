@@ -15,8 +15,8 @@ use Rattle.score.specs.declared.refusals.Refusal.{Refusal}
 use Rattle.score.specs.Score.{columnsIn, scoreOf, pitch, columnAt, onward}
 use Rattle.score.specs.Refusals.{Row, judge, row1, row2, row3, row6, row7, badCell, badSet}
 use Rattle.score.specs.Sets.{sets as setsOf}
-use Rattle.score.specs.declared.sets.Preparation.the-variants.{Prepared, Refused as Away}
-use Rattle.score.specs.Preparing.{Filled, prepared}
+use Rattle.preparing.specs.declared.sets.Preparation.the-variants.{Prepared, Refused as Away}
+use Rattle.preparing.specs.Preparing.{Filled, prepared}
 use Rattle.score.proofs.Columns.{columns-whole}
 use Rattle.asking.specs.declared.way.Way.{Way}
 use Rattle.asking.specs.declared.bookmark.Bookmark.{Bookmark}

@@ -8,8 +8,8 @@ use lib.Dec.{eqb, ltb}
 use lib.IntN.{ℤ, pos}
 use lib.ListN.{length}
 use borrow.Author.Tests.{eqb-true, not-false}
-use Rattle.score.specs.declared.sets.Preparation.{Preparation}
-use Rattle.score.specs.Preparing.{Prepares, prepared}
+use Rattle.preparing.specs.declared.sets.Preparation.{Preparation}
+use Rattle.preparing.specs.Preparing.{Prepares, prepared}
 use Rattle.asking.specs.declared.way.Way.{Way}
 use Rattle.search.specs.declared.page.Page.{Page}
 use Rattle.search.specs.Page.{PlainPages, QuickPages, plainPage, quickPage}

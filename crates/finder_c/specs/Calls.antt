@@ -7,7 +7,7 @@ use Prim.Native.Nat.{ℕ}
 use lib.IntN.{ℤ, pos}
 use lib.ListN.{length}
 use Rattle.score.specs.Score.{columnAt}
-use Rattle.score.specs.Preparing.{prepared}
+use Rattle.preparing.specs.Preparing.{prepared}
 use Rattle.asking.specs.declared.bookmark.Bookmark.{Bookmark}
 use Rattle.search.specs.Page.{Leaf, QuickLeaf, plainPage, quickPage}
 use Rattle.finder_c.specs.Numbers.{wayOf, noCall, preparationNumber, pageNumber, pageNumbers}

@@ -6,8 +6,8 @@ use Prim.Native.Nat.{ℕ, _+_, _*_}
 use lib.Dec.{eqb, ltb}
 use lib.IntN.{ℤ, pos}
 use Rattle.score.specs.declared.refusals.Refusal.{Refusal}
-use Rattle.score.specs.declared.sets.Preparation.{Preparation}
-use Rattle.score.specs.declared.sets.Preparation.the-variants as preparation
+use Rattle.preparing.specs.declared.sets.Preparation.{Preparation}
+use Rattle.preparing.specs.declared.sets.Preparation.the-variants as preparation
 use Rattle.asking.specs.declared.way.Way.{Way}
 use Rattle.asking.specs.declared.way.Way.the-variants.{Exact, Octave}
 use Rattle.search.specs.declared.page.Turn.{Turn}

@@ -1,6 +1,6 @@
 // An answer in numbers: 0 where the call was accepted, and otherwise the refusal.
 
-use score::Preparation;
+use preparing::Preparation;
 use score::Refusal;
 use search::Page;
 use search::Turn;

@@ -2,8 +2,8 @@
 // note moves a word, so that its bits are the starts; words are kept from column to column in a ring of 32 places.
 
 use asking::Way;
+use preparing::classes_of;
 use score::Pitch;
-use score::classes_of;
 ghost use mathlib.Core.Path.{_≡_};
 ghost use Prim.Native.Nat.{_+_, _*_, _%_, _^_, _≤_, _<_};
 ghost use lib.ListN.{length, take, drop};

@@ -13,11 +13,11 @@ use Rattle.theory.specs.Pages.{hits, from}
 use Rattle.theory.proofs.Pages.{hits-le}
 use Rattle.theory.proofs.Members.{in-hits}
 use Rattle.theory.proofs.Bookmarks.{from-all}
-use Rattle.score.specs.declared.sets.Preparation.{Preparation}
-use Rattle.score.specs.declared.sets.Preparation.the-variants as Preparations
+use Rattle.preparing.specs.declared.sets.Preparation.{Preparation}
+use Rattle.preparing.specs.declared.sets.Preparation.the-variants as Preparations
 use Rattle.score.specs.Score.{columnsIn, scoreOf}
 use Rattle.score.specs.Sets.{sets as setsOf}
-use Rattle.score.specs.Preparing.{Filled, prepareRows, Prepares}
+use Rattle.preparing.specs.Preparing.{Filled, prepareRows, Prepares}
 use Rattle.score.proofs.Judged.{judge-clear}
 use Rattle.asking.proofs.Rows.{accepted-clear, row6-clear}
 use Rattle.score.proofs.Columns.{score-length, column-le}

@@ -21,9 +21,9 @@ use Rattle.theory.proofs.Masks.{put-same, put-other, one-shl}
 use Rattle.theory.proofs.Lists.{some-none}
 use Rattle.score.specs.declared.quantities.Pitch.{Pitch}
 use Rattle.score.specs.Score.{pitch, pitches}
-use Rattle.score.specs.Classes.{classSet}
-use Rattle.score.proofs.ClassSets.{present, present-lt, class-bit, class-lt}
-use Rattle.score.proofs.Turning.{turned-bit}
+use Rattle.preparing.specs.Classes.{classSet}
+use Rattle.preparing.proofs.ClassSets.{present, present-lt, class-bit, class-lt}
+use Rattle.preparing.proofs.Turning.{turned-bit}
 use Rattle.asking.specs.declared.way.Way.{Way}
 use Rattle.asking.specs.declared.way.Way.the-variants.{Exact, Octave}
 use Rattle.asking.specs.Way.{holds}

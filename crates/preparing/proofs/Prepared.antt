@@ -9,16 +9,16 @@ use Prim.Native.Nat.{ℕ, _+_, _-_, _≤_, _<_}
 use native.Mathlib.Omega.{arith}
 use lib.ListN.{length, getD}
 use Rattle.theory.specs.Bits.{bit}
 use Rattle.score.specs.declared.refusals.Refusal.{Refusal}
 use Rattle.score.specs.declared.quantities.Interval.{Interval}
-use Rattle.score.specs.declared.sets.Preparation.{Preparation}
-use Rattle.score.specs.declared.sets.Preparation.the-variants.{Prepared, Refused}
+use Rattle.preparing.specs.declared.sets.Preparation.{Preparation}
+use Rattle.preparing.specs.declared.sets.Preparation.the-variants.{Prepared, Refused}
 use Rattle.score.specs.Score.{columnAt, column, scoreOf}
 use Rattle.score.specs.Sets.{Apart, sets}
 use Rattle.score.specs.Refusals.{GivenBy, placeBy}
-use Rattle.score.specs.Preparing.{Filled, prepareRows, prepared}
+use Rattle.preparing.specs.Preparing.{Filled, prepareRows, prepared}
 use Rattle.score.proofs.IntervalSets.{sets-at, set-bit}
 use Rattle.score.proofs.Judged.{Clear, judge-either, judge-clear, judge-given, judge-clear-of, judge-shown}
 
 -- an accepted answer is no refusal, and a refusal tells itself
 abbrev isPrepared : Preparation → Bool

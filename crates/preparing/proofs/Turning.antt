@@ -10,12 +10,12 @@ use native.Mathlib.Omega.{arith}
 use lib.Bits.{bitOr, bitAnd, bitXor, and-mask, xor-add-and}
 use Rattle.theory.specs.Bits.{bit}
 use Rattle.theory.proofs.Bits.{bit-lt, bit-or, bit-shr, bit-shl, bit-shl-low, bit-mod, bit-high, bit-not, bit-ext}
 use Rattle.score.specs.Sets.{semitones, Apart, apart, intervalSet}
-use Rattle.score.specs.Classes.{classSet, SetOf}
-use Rattle.score.proofs.ClassSets.{present, class-lt, class-in, in-class}
+use Rattle.preparing.specs.Classes.{classSet, SetOf}
+use Rattle.preparing.proofs.ClassSets.{present, class-lt, class-in, in-class}
 use Rattle.score.proofs.IntervalSets.{apart-true, true-apart, set-number, set-lt}
 use Rattle.score.proofs.Intervals.{interval-from, interval-mod}
-use Rattle.score.proofs.Most.{most, most-nil, most-more, most-ge, most-one, most-lt}
+use Rattle.preparing.proofs.Most.{most, most-nil, most-more, most-ge, most-one, most-lt}
 
 -- ---- what is reached
 

@@ -1,11 +1,11 @@
 // The class sets of columns: a bit for each of the twelve tones that is there. `sets` finds the interval sets of them.
 
-use crate::quantities::Pitch;
+use score::Pitch;
 ghost use mathlib.Core.Path.{_≡_};
 ghost use Prim.Native.Nat.{_+_, _*_, _%_, _≤_};
 ghost use lib.ListN.{length};
 ghost use Rattle.score.specs.Score.{cut};
-ghost use Rattle.score.specs.Classes.{classSet, ClassBits, ClassSets};
+ghost use Rattle.preparing.specs.Classes.{classSet, ClassBits, ClassSets};
 
 // The class sets of all columns: the first column's is the answer, and the others are stored in order.
 pub fn gather(cells: &[u8], tracks: usize, others: &mut [u16]) -> u16

@@ -5,9 +5,9 @@ use mathlib.Core.Path.{refl}
 use Prim.Native.Nat.{_-_}
 use native.Mathlib.Omega.{arith}
 use lib.ListN.{length}
-use Rattle.score.proofs.Filling.{Gathering, gathering-start, first-room, gathering-room, gathering-more, gathering-end}
-use Rattle.score.proofs.classes.gather.Statement.{statement}
-use Rattle.score.proofs.classes.gather.Tie as tie
+use Rattle.preparing.proofs.Filling.{Gathering, gathering-start, first-room, gathering-room, gathering-more, gathering-end}
+use Rattle.preparing.proofs.classes.gather.Statement.{statement}
+use Rattle.preparing.proofs.classes.gather.Tie as tie
 
 abbrev Inv-loop : tie.InvT-loop
 Inv-loop cells tracks others₀ bits base₀ k₀ others base k = Gathering cells tracks (length others₀) others k base

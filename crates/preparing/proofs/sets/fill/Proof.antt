@@ -1,8 +1,8 @@
 -- `score::sets::fill` meets its contract: the class sets that are gathered are those of the score, so they turn to its sets.
 -- Assumes nothing.
 use borrow.Author.Needs.{needs}
-use Rattle.score.proofs.sets.fill.Statement.{statement}
-use Rattle.score.proofs.sets.fill.Tie as tie
+use Rattle.preparing.proofs.sets.fill.Statement.{statement}
+use Rattle.preparing.proofs.sets.fill.Tie as tie
 
 gather-requires : tie.Need-gather-requires
 gather-requires c κs = search needs

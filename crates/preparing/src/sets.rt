@@ -2,18 +2,18 @@
 // turning the later one, so that the time goes by the cells and not by their pairs. The class sets of all columns come
 // first, in the place of the sets: each of the two loops then does one thing to column after column.
 
-use crate::checks::bad_length;
-use crate::checks::check_score;
 use crate::classes::gather;
-use crate::refusals::Refusal;
-use crate::refusals::Verdict;
+use score::Refusal;
+use score::Verdict;
+use score::checks::bad_length;
+use score::checks::check_score;
 ghost use mathlib.Core.Path.{_≡_};
 ghost use Prim.Native.Nat.{_+_, _*_, _≤_};
 ghost use lib.ListN.{length};
 ghost use Rattle.score.specs.Score.{cut};
 ghost use Rattle.score.specs.Sets.{sets as setsOf};
-ghost use Rattle.score.specs.Classes.{SetOf, Turned};
-ghost use Rattle.score.specs.Preparing.{Prepares};
+ghost use Rattle.preparing.specs.Classes.{SetOf, Turned};
+ghost use Rattle.preparing.specs.Preparing.{Prepares};
 
 // The answer of a preparation.
 pub enum Preparation {

@@ -10,11 +10,11 @@ use native.Mathlib.Omega.{arith}
 use lib.ListN.{length, getD, take, drop, set, length-set, length-map}
 use lib.Seq.{ext-getD, getD-set-other}
 use Rattle.theory.proofs.Lists.{stored-more}
 use Rattle.score.specs.Score.{cut}
 use Rattle.score.specs.Sets.{sets}
-use Rattle.score.specs.Classes.{classSet, SetOf, ClassSets, Turned}
+use Rattle.preparing.specs.Classes.{classSet, SetOf, ClassSets, Turned}
 use Rattle.score.proofs.Columns.{cut-length, cut-at}
 use Rattle.score.proofs.IntervalSets.{sets-length, sets-at}
 
 -- an entry of the class sets
 class-at : (score : List (List ℕ)) (i : ℕ) → i < length score → getD (map classSet score) i 0 ≡ classSet (getD score i [])

@@ -18,9 +18,9 @@ use Rattle.theory.specs.Bits.{bit}
 use Rattle.theory.proofs.Bits.{bit-lt, bit-high, bit-number, number-lt, number-unique}
 use Rattle.theory.proofs.Lists.{some-in, in-some, stored-more}
 use Rattle.theory.proofs.Masks.{put-same, put-other, one-shl}
 use Rattle.score.specs.declared.quantities.Pitch.{Pitch}
 use Rattle.score.specs.Score.{pitches}
-use Rattle.score.specs.Classes.{classBit, ClassBits, hasClass, classSet}
+use Rattle.preparing.specs.Classes.{classBit, ClassBits, hasClass, classSet}
 
 -- the bit for a test: 1 where it is passed
 abbrev pub present : Bool → ℕ

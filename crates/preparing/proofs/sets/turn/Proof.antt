@@ -3,9 +3,9 @@
 use borrow.Author.Needs.{needs}
 use Prim.Native.Nat.{_-_}
 use lib.ListN.{length}
-use Rattle.score.proofs.Filling.{Turns, turns-start, turns-more, turns-end}
-use Rattle.score.proofs.sets.turn.Statement.{statement}
-use Rattle.score.proofs.sets.turn.Tie as tie
+use Rattle.preparing.proofs.Filling.{Turns, turns-start, turns-more, turns-end}
+use Rattle.preparing.proofs.sets.turn.Statement.{statement}
+use Rattle.preparing.proofs.sets.turn.Tie as tie
 
 abbrev Inv-loop : tie.InvT-loop
 Inv-loop first sets₀ earlier₀ k₀ sets earlier k = Turns first sets₀ sets k earlier

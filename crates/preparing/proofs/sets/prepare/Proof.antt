@@ -1,9 +1,9 @@
 -- `score::sets::prepare` meets its contract: each way out is a row of the call. Assumes nothing.
 use borrow.Author.Needs.{needs}
 use mathlib.Core.Path.{sym, _∙_}
-use Rattle.score.proofs.Preparing.{prepares-refused, prepares-long, prepares-room, prepares-filled}
-use Rattle.score.proofs.sets.prepare.Statement.{statement}
-use Rattle.score.proofs.sets.prepare.Tie as tie
+use Rattle.preparing.proofs.Preparing.{prepares-refused, prepares-long, prepares-room, prepares-filled}
+use Rattle.preparing.proofs.sets.prepare.Statement.{statement}
+use Rattle.preparing.proofs.sets.prepare.Tie as tie
 
 check-score-requires : tie.Need-check-score-requires
 check-score-requires c κs = search needs

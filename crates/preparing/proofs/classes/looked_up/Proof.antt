@@ -4,9 +4,9 @@ use borrow.Author.Needs.{needs}
 use native.Mathlib.Omega.{arith}
 use Prim.Native.Nat.{_-_}
 use lib.ListN.{length}
-use Rattle.score.proofs.ClassSets.{Gathered, gathered-start, gathered-look, gathered-end}
-use Rattle.score.proofs.classes.looked_up.Statement.{statement}
-use Rattle.score.proofs.classes.looked_up.Tie as tie
+use Rattle.preparing.proofs.ClassSets.{Gathered, gathered-start, gathered-look, gathered-end}
+use Rattle.preparing.proofs.classes.looked_up.Statement.{statement}
+use Rattle.preparing.proofs.classes.looked_up.Tie as tie
 
 abbrev Inv-loop : tie.InvT-loop
 Inv-loop column bits mask₀ i₀ mask i = Gathered column i mask

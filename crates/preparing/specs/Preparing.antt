@@ -3,11 +3,11 @@
 use mathlib.Core.Path.{_≡_}
 use mathlib.Core.List.{List, [], _∷_}
 use Prim.Native.Nat.{ℕ}
-use Rattle.score.specs.declared.sets.Preparation.{Preparation}
-use Rattle.score.specs.declared.sets.Preparation.the-variants.{Prepared, Refused}
+use Rattle.preparing.specs.declared.sets.Preparation.{Preparation}
+use Rattle.preparing.specs.declared.sets.Preparation.the-variants.{Prepared, Refused}
 use Rattle.score.specs.Score.{scoreOf}
 use Rattle.score.specs.Sets.{sets}
 use Rattle.score.specs.Refusals.{Row, judge, row1, row2, row3, row6}
 
 -- the answer, and the lent sets after the call
 pub record Filled : Type 0 where

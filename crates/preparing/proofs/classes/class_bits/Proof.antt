@@ -3,9 +3,9 @@
 use borrow.Author.Needs.{needs}
 use Prim.Native.Nat.{_-_}
 use native.Mathlib.Omega.{arith}
-use Rattle.score.proofs.ClassSets.{Tabled, tabled-start, tabled-more, tabled-end}
-use Rattle.score.proofs.classes.class_bits.Statement.{statement}
-use Rattle.score.proofs.classes.class_bits.Tie as tie
+use Rattle.preparing.proofs.ClassSets.{Tabled, tabled-start, tabled-more, tabled-end}
+use Rattle.preparing.proofs.classes.class_bits.Statement.{statement}
+use Rattle.preparing.proofs.classes.class_bits.Tie as tie
 
 abbrev Inv-loop : tie.InvT-loop
 Inv-loop bits₀ cell₀ bits cell = Tabled bits cell

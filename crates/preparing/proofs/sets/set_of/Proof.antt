@@ -7,9 +7,9 @@ use Prim.Native.Nat.{_-_}
 use native.Mathlib.Omega.{arith}
 use Rattle.theory.proofs.Bits.{bit-lt}
 use Rattle.theory.proofs.Masks.{shr-and-one}
-use Rattle.score.proofs.Turning.{Turning, turning-start, turning-skip, turning-take, turning-end}
-use Rattle.score.proofs.sets.set_of.Statement.{statement}
-use Rattle.score.proofs.sets.set_of.Tie as tie
+use Rattle.preparing.proofs.Turning.{Turning, turning-start, turning-skip, turning-take, turning-end}
+use Rattle.preparing.proofs.sets.set_of.Statement.{statement}
+use Rattle.preparing.proofs.sets.set_of.Tie as tie
 
 abbrev Inv-loop : tie.InvT-loop
 Inv-loop earlier later reached₀ k₀ reached k = Turning earlier later k reached

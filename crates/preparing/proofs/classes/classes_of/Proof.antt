@@ -5,9 +5,9 @@ use mathlib.Core.Logic.{⊎-elim}
 use Prim.Native.Nat.{_-_}
 use native.Mathlib.Omega.{arith}
 use lib.ListN.{length}
-use Rattle.score.proofs.ClassSets.{Gathered, gathered-start, gathered-rest, gathered-shl, gathered-end}
-use Rattle.score.proofs.classes.classes_of.Statement.{statement}
-use Rattle.score.proofs.classes.classes_of.Tie as tie
+use Rattle.preparing.proofs.ClassSets.{Gathered, gathered-start, gathered-rest, gathered-shl, gathered-end}
+use Rattle.preparing.proofs.classes.classes_of.Statement.{statement}
+use Rattle.preparing.proofs.classes.classes_of.Tie as tie
 
 abbrev Inv-loop : tie.InvT-loop
 Inv-loop column mask₀ i₀ mask i = Gathered column i mask

@@ -7,17 +7,17 @@ use Prim.Native.Nat.{ℕ, _+_, _-_, _*_, _≤_}
 use native.Mathlib.Omega.{arith}
 use lib.ListN.{length}
 use borrow.Author.Tests.{not-false, eqb-true}
 use Rattle.score.specs.declared.refusals.Refusal.{Refusal}
 use Rattle.score.specs.declared.refusals.Verdict.the-variants.{Accepted, Refused as Turned}
-use Rattle.score.specs.declared.sets.Preparation.{Preparation}
-use Rattle.score.specs.declared.sets.Preparation.the-variants.{Prepared, Refused}
+use Rattle.preparing.specs.declared.sets.Preparation.{Preparation}
+use Rattle.preparing.specs.declared.sets.Preparation.the-variants.{Prepared, Refused}
 use Rattle.score.specs.Score.{cut, columnsIn, scoreOf}
 use Rattle.score.specs.Sets.{sets}
 use Rattle.score.specs.Refusals.{Row, verdict, row1, row2, row3, row6}
-use Rattle.score.specs.Preparing.{Filled, prepared, Prepares}
+use Rattle.preparing.specs.Preparing.{Filled, prepared, Prepares}
 use Rattle.score.proofs.Columns.{columns-whole}
 use Rattle.score.proofs.Judging.{judge-refused, judge-accepted, judge-here, judge-next}
 use Rattle.score.proofs.Sound.{score-sound}
 
 module _ (cells : List ℕ) (h : ℕ) (lent : List ℕ) where
   abbrev rows : List Row

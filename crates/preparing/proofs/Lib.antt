@@ -1,0 +1,8 @@
+-- Laws of this crate's definitions, for every crate above: `Preparing`, `Prepared` (when a preparation is refused, and what it leaves),
+-- `ClassSets` and `Turning` (twelve classes as bits). Within this crate: how the sets are filled.
+pub mod Preparing
+pub mod Prepared
+mod Most
+pub mod ClassSets
+pub mod Turning
+mod Filling

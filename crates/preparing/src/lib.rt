@@ -1,0 +1,8 @@
+// The interval sets that are prepared of a score: `classes` says which tones a column has, and `sets` prepares.
+
+mod classes;
+pub mod sets;
+
+pub use classes::classes_of;
+pub use sets::Preparation;
+pub use sets::prepare;
