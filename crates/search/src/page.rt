@@ -153,6 +153,7 @@ fn turn_quick(
 {
     let column = bookmark.column;
     let code = code_of(way, bookmark.shift);
+    let mut ring = [0u64; 96];
     let w = walk_candidates(
         cells,
         tracks,
@@ -164,6 +165,7 @@ fn turn_quick(
         table,
         columns,
         shifts,
+        &mut ring,
     );
     turned(way, columns_in(cells, tracks), w, columns, shifts)
 }

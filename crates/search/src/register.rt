@@ -1,4 +1,4 @@
-// The filter register: one entry of the sets more at each column, and whether a candidate is marked.
+// The filter register: one entry of the sets more at each column, whether a candidate is marked, and the way to the next.
 
 ghost use mathlib.Core.Path.{_≡_};
 ghost use Prim.Native.Nat.{ℕ, _+_, _≤_, _<_};
@@ -6,7 +6,13 @@ ghost use lib.Dec.{eqb};
 ghost use lib.ListN.{length, getD};
 ghost use Rattle.theory.specs.Bits.{bit};
 ghost use Rattle.theory.specs.Register as Register;
-ghost use Rattle.search.specs.Scan.{entryWord};
+ghost use Rattle.search.specs.Scan.{entryWord, Seeks};
+
+// Where a register that was run along the sets stopped, and what it was then.
+pub struct Sought {
+    pub register: u32,
+    pub at: usize,
+}
 
 // One word more: the register is doubled with its top bit lost, then or-ed with the word.
 pub fn step(register: u32, word: u32) -> u32
@@ -50,4 +56,24 @@ pub fn marks(register: u32, top: u32) -> bool
     ensures { λ r. ⌜ r ≡ eqb (bit register top) 0 ⌝ }
 {
     (register >> top) & 1 == 0
+}
+
+// Takes entries, from one on, until one marks a candidate. `at` is that entry, or the number of entries where none does.
+pub fn seek(register: u32, sets: &[u16], table: &[u32], from: usize, top: u32) -> Sought
+    requires { ⌜ from ≤ length (now sets) ⌝ }
+    requires { ⌜ length (now table) ≡ 4096 ⌝ }
+    requires { ⌜ ((k : ℕ) → getD (now sets) k 0 < 4096) ⌝ }
+    requires { ⌜ top < 32 ⌝ }
+    ensures { λ r. ⌜ Seeks (now (table .entry)) (now (sets .entry)) top register from (r .register) (r .at) ⌝ }
+{
+    let mut word = register;
+    let mut at = from;
+    while at < sets.len() {
+        word = taken(word, sets, table, at);
+        if marks(word, top) {
+            return Sought { register: word, at };
+        }
+        at += 1;
+    }
+    Sought { register: word, at }
 }

@@ -1,8 +1,7 @@
 // The walk along the starts: each column's starts are tried in order, and hits are written behind those found.
 
 use crate::alive::try_all;
-use crate::register::marks;
-use crate::register::taken;
+use crate::register::seek;
 use crate::register::warmed;
 use crate::signs::shift_of;
 use crate::signs::span_of;
@@ -13,8 +12,6 @@ use score::Column;
 use score::Pitch;
 use score::columns_in;
 ghost use mathlib.Core.Path.{_≡_};
-ghost use mathlib.Core.Bool.{cond};
-ghost use mathlib.Core.List.{[]};
 ghost use Prim.Native.Nat.{_+_, _*_, _≤_, _<_};
 ghost use lib.ListN.{length};
 ghost use Rattle.theory.specs.Pages.{from};
@@ -22,8 +19,8 @@ ghost use Rattle.score.specs.Score.{columnsIn, scoreOf};
 ghost use Rattle.asking.specs.Way.{span, shiftOf};
 ghost use Rattle.search.specs.Starts.{key, starts};
 ghost use Rattle.search.specs.Page.{quickStarts};
-ghost use Rattle.search.specs.Walk.{Ready, Fits, Keeps, columnStarts, Tries, Lent, Walks};
 ghost use Rattle.search.specs.Alive.{Cached};
+ghost use Rattle.search.specs.Walk.{Ready, Fits, Keeps, columnStarts, Tries, Lent, Walks};
 
 // How far a walk has come: the pairs found, and the looks.
 pub struct Walked {
@@ -89,30 +86,6 @@ pub fn try_column(
     Walked { found: at, looks }
 }
 
-// Tries the starts of a column that is kept; of one that is not, none.
-fn try_kept(
-    kept: bool,
-    cells: &[u8],
-    h: usize,
-    theme: &[u8],
-    way: Way,
-    column: Column,
-    x: u16,
-    found: usize,
-    columns: &mut [u16],
-    shifts: &mut [i16],
-) -> Walked
-    requires { ⌜ Ready (now cells) h (now theme) ⌝ }
-    requires { ⌜ Fits (columnsIn (now cells) h) (length (now theme)) (column .0) ⌝ }
-    requires { ⌜ (x ≤ span way) × (found ≤ length (now columns)) × (length (now shifts) ≡ length (now columns)) ⌝ }
-    ensures { λ r. ⌜ Tries way (scoreOf (now (cells .entry)) h) (now (theme .entry)) (cond kept (columnStarts way (scoreOf (now (cells .entry)) h) (now (theme .entry)) (column .0) x) []) found (now (columns .entry)) (now (shifts .entry)) (r .found) (r .looks) (now (columns .exit)) (now (shifts .exit)) ⌝ }
-{
-    if !kept {
-        return Walked { found, looks: 0 };
-    }
-    try_column(cells, h, theme, way, column, x, found, columns, shifts)
-}
-
 // The walk along every start from a column and code on, until the page is full or none is left.
 pub fn walk_all(
     cells: &[u8],
@@ -160,7 +133,8 @@ pub fn walk_all(
     Walked { found, looks }
 }
 
-// The same walk along the starts of candidates only. The register begins anew at the first column.
+// The same walk along the starts of candidates only, from one to the next. The register begins anew at the first column. A
+// bookmark's shift counts in its own column only.
 pub fn walk_candidates(
     cells: &[u8],
     h: usize,
@@ -172,10 +146,12 @@ pub fn walk_candidates(
     table: &[u32],
     columns: &mut [u16],
     shifts: &mut [i16],
+    ring: &mut [u64],
 ) -> Walked
     requires { ⌜ Ready (now cells) h (now theme) ⌝ }
     requires { ⌜ Lent (columnsIn (now cells) h) (now sets) (now table) ⌝ }
     requires { ⌜ (1 ≤ first .0) × (first .0 ≤ columnsIn (now cells) h + 1) × (x ≤ span way) × (length (now shifts) ≡ length (now columns)) ⌝ }
+    requires { ⌜ Cached way (now cells) h (now ring) ⌝ }
     ensures { λ r. ⌜ Walks way (scoreOf (now (cells .entry)) h) (now (theme .entry)) (from key (first .0 * 256 + x) (quickStarts way (scoreOf (now (cells .entry)) h) (now (theme .entry)) (now (table .entry)) (now (sets .entry)))) (now (columns .entry)) (now (shifts .entry)) (r .found) (r .looks) (now (columns .exit)) (now (shifts .exit)) ⌝ }
 {
     let past = columns_in(cells, h) + 1;
@@ -190,19 +166,26 @@ pub fn walk_candidates(
     let mut found: usize = 0;
     let mut looks: u32 = 0;
     while j + m <= past {
-        register = taken(register, sets, table, j + m - 3);
-        let kept = marks(register, top as u32);
-        let t = try_kept(
-            kept,
+        let s = seek(register, sets, table, j + m - 3, top as u32);
+        register = s.register;
+        let next = s.at + 3 - m;
+        if past < next + m {
+            return Walked { found, looks };
+        }
+        if j < next {
+            code = 0;
+        }
+        let t = try_all(
             cells,
             h,
             theme,
             way,
-            Column(j as u16),
+            Column(next as u16),
             code,
             found,
             columns,
             shifts,
+            ring,
         );
         found = t.found;
         looks += t.looks;
@@ -210,7 +193,7 @@ pub fn walk_candidates(
             return Walked { found, looks };
         }
         code = 0;
-        j += 1;
+        j = next + 1;
     }
     Walked { found, looks }
 }

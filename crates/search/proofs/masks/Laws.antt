@@ -11,14 +11,13 @@ use native.Mathlib.Omega.{arith}
 use lib.Dec.{eqb, leb, ltb}
 use lib.Bits.{bitOr, bitAnd, or-lt, and-mask, mask-lt}
 use lib.Pow.{pow-pos, pow-lt}
-use lib.ListN.{length, getD, take, drop, set, length-set, drop-of-length-le}
+use lib.ListN.{length, getD, take, drop, set, replicate, length-set, length-replicate, getD-replicate, drop-of-length-le}
 use lib.Seq.{drop-cons, getD-set-same, getD-set-other}
-use borrow.Author.Tests.{le-leb, lt-leb, lt-ltb, le-ltb, ltb-false, eqb-true, eqb-false, eq-eqb, ne-eqb}
+use borrow.Author.Tests.{le-leb, lt-leb, lt-ltb, le-ltb, eqb-true, eqb-false, eq-eqb, ne-eqb}
 use Rattle.theory.specs.Bits.{bit}
 use Rattle.theory.specs.Lists.{some}
 use Rattle.theory.proofs.Bits.{bit-high, bit-mod, bit-or}
 use Rattle.theory.proofs.Masks.{put-same, put-other, one-shl}
-use Rattle.theory.proofs.Lists.{some-none}
 use Rattle.score.specs.declared.quantities.Pitch.{Pitch}
 use Rattle.score.specs.Score.{pitch, pitches}
 use Rattle.preparing.specs.Classes.{classSet}
@@ -256,10 +255,7 @@ module _ (way : Way) (cells : List ℕ) (h : ℕ) (ring : List ℕ) (c : Cached 
           let d : getD after t 0 ≡ getD ring t 0 = other t ne (λ f. omega (arith, f)) (λ f. omega (arith, f)) in
           rw (a, b, d) (c .right t m (omega (arith, q, a)))
 
--- none is kept
-pub cached-none : (way : Way) (cells : List ℕ) (h : ℕ) (ring : List ℕ) → length ring ≡ 96 → some (λ x. ltb 0 x) ring ≡ false → Cached way cells h ring
-cached-none way cells h ring l e =
-    record {
-      long = l;
-      right = λ s k q. absurd (omega (arith, q, ltb-false 0 (getD ring (64 + s) 0) (some-none (λ x. ltb 0 x) ring 0 e (64 + s) (omega (arith, l)))));
-    }
+-- a ring of zeros has no words
+pub cached-none : (way : Way) (cells : List ℕ) (h : ℕ) → Cached way cells h (replicate 96 0)
+cached-none way cells h =
+    record { long = length-replicate {A = ℕ} 96 0; right = λ s k q. absurd (omega (arith, getD-replicate {A = ℕ} 96 (64 + s) 0 0 (omega arith))) }

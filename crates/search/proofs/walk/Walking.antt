@@ -1,10 +1,10 @@
 -- What the loops that go from column to column keep: of the page over the starts kept from a place on, `out` was found and
--- written, and the starts kept from column j and code x on are left. One law a turn, for every choice of columns.
--- Assumes nothing.
+-- written, and the starts kept from column j and code x on are left. One law a turn, for every choice of columns, and one
+-- for columns that are passed over. Assumes nothing.
 use mathlib.Core.Path.{_≡_, refl, sym, ap, _∙_}
-use mathlib.Core.Bool.{Bool, cond}
+use mathlib.Core.Bool.{Bool, false, cond}
 use mathlib.Core.List.{List, [], _++_, map-append}
-use Prim.Native.Nat.{ℕ, _+_, _-_, _*_, _^_, _≤_, _<_, zero-le}
+use Prim.Native.Nat.{ℕ, zero, suc, _+_, _-_, _*_, _^_, _≤_, _<_, zero-le}
 use native.Mathlib.Nat.{le-refl}
 use native.Mathlib.Omega.{arith}
 use lib.IntN.{ℤ, pos}
@@ -23,6 +23,7 @@ use Rattle.search.specs.Starts.{Place, key, starts, hit, looks}
 use Rattle.search.specs.Page.{columnsOf, shiftsOf}
 use Rattle.search.specs.Walk.{Ready, Fits, columnStarts, Tries, Walks}
 use Rattle.search.proofs.LookBound.{most-lt, sum-looks-le}
+use Rattle.search.proofs.walk.Column.{tries-none}
 use Rattle.search.proofs.walk.Along.{keptFrom, kept-more, kept-end}
 
 pub record Walking (keep : ℕ → Bool) (way : Way) (cells : List ℕ) (h : ℕ) (theme : List ℕ) (j₀ x₀ : ℕ) (columns₀ : List ℕ) (shifts₀ : List ℤ)
@@ -141,3 +142,43 @@ module _ (keep : ℕ → Bool) (way : Way) (cells : List ℕ) (h : ℕ) (theme :
             forward = omega (arith, t .forward);
             low = zero-le;
           }
+
+-- ---- columns that are not kept are passed over
+
+-- the code from which a column is tried, d columns further on
+abbrev pub codeAfter : (d x : ℕ) → ℕ
+codeAfter zero x = x
+codeAfter (suc d) x = 0
+
+pub code-further : (j j′ x : ℕ) → j < j′ → 0 ≡ codeAfter (j′ - j) x
+code-further j j′ x h = let e : j′ - j ≡ suc (j′ - j - 1) = omega arith in rw e
+
+pub code-same : (j j′ x : ℕ) → j′ ≤ j → x ≡ codeAfter (j′ - j) x
+code-same j j′ x h = let e : j′ - j ≡ 0 = omega arith in rw e
+
+module _ (keep : ℕ → Bool) (way : Way) (cells : List ℕ) (h : ℕ) (theme : List ℕ) (j₀ x₀ : ℕ) (columns₀ : List ℕ) (shifts₀ : List ℤ)
+    (r : Ready cells h theme) (first : 1 ≤ j₀) (columns : List ℕ) (shifts : List ℤ) (found spent : ℕ) where
+  pass : (d j x : ℕ) → Walking keep way cells h theme j₀ x₀ columns₀ shifts₀ columns shifts j x found spent
+      → j + d + length theme ≤ columnsIn cells h + 2 → ((k : ℕ) → j ≤ k → k < j + d → keep k ≡ false)
+      → Walking keep way cells h theme j₀ x₀ columns₀ shifts₀ columns shifts (j + d) (codeAfter d x) found spent
+  pass zero j x t q none = let e : j + 0 ≡ j = omega arith in rw e t
+  pass (suc d) j x t q none =
+      let e : j + suc d ≡ j + 1 + d = omega arith in
+      let z : spent + 0 ≡ spent = omega arith in
+      let s : Walking keep way cells h theme j₀ x₀ columns₀ shifts₀ columns shifts (j + 1) 0 found (spent + 0) =
+      walk-turn keep way cells h theme j₀ x₀ columns₀ shifts₀ r first columns shifts j x found spent t (omega arith) found 0 columns shifts
+      (tries-none way (scoreOf cells h) theme (columnStarts way (scoreOf cells h) theme j x) {kept = keep j} found columns shifts (none j (le-refl j) (omega arith))) in
+      rw (e, ← (after-none d)) (pass d (j + 1) 0 (rw z at s) (omega arith) (λ k a b. none k (omega arith) (omega arith)))
+    where
+      after-none : (n : ℕ) → codeAfter n 0 ≡ 0
+      after-none zero = refl
+      after-none (suc n) = refl
+
+  pub walk-skip : (j x j′ : ℕ) → Walking keep way cells h theme j₀ x₀ columns₀ shifts₀ columns shifts j x found spent
+      → j ≤ j′ → j′ + length theme ≤ columnsIn cells h + 2 → ((k : ℕ) → j ≤ k → k < j′ → keep k ≡ false)
+      → Walking keep way cells h theme j₀ x₀ columns₀ shifts₀ columns shifts j′ (codeAfter (j′ - j) x) found spent
+  walk-skip j x j′ t a q none =
+      let e : j + (j′ - j) ≡ j′ = omega arith in
+      let s : Walking keep way cells h theme j₀ x₀ columns₀ shifts₀ columns shifts (j + (j′ - j)) (codeAfter (j′ - j) x) found spent =
+      pass (j′ - j) j x t (omega arith) (λ k b c. none k b (omega arith)) in
+      rw e at s

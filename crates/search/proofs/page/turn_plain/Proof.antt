@@ -1,7 +1,7 @@
 -- `search::page::turn_plain` meets its contract: the walk along every start begins at the bookmark, and its answer is
 -- read off the buffers. Assumes nothing.
 use borrow.Author.Needs.{needs}
-use mathlib.Core.Path.{_≡_, refl, sym, _∙_}
+use mathlib.Core.Path.{_≡_, sym, _∙_}
 use native.Mathlib.Omega.{arith}
 use Rattle.score.specs.Score.{scoreOf}
 use Rattle.score.proofs.Columns.{score-length}
@@ -23,7 +23,7 @@ walk-all-requires : tie.Need-walk-all-requires
 walk-all-requires c κs =
     let s = c .before .before .before .before .before .before .before .before .before in
     let k : c .before .before .before .code-of .result ≡ codeOf (s .args .way) (s .args .bookmark .shift) = c .before .before .before .code-of .ensures ∙ search needs in
-    (accepted-ready (s .pre .accepted), ((s .pre .marked .from-first, s .pre .marked .to-end, omega (arith, k, code-le (s .args .way) (s .args .bookmark .shift) (s .pre .marked .not-below) (s .pre .marked .not-above)), s .pre .same-room), cached-none _ _ _ _ refl refl))
+    (accepted-ready (s .pre .accepted), ((s .pre .marked .from-first, s .pre .marked .to-end, omega (arith, k, code-le (s .args .way) (s .args .bookmark .shift) (s .pre .marked .not-below) (s .pre .marked .not-above)), s .pre .same-room), cached-none (s .args .way) (s .args .cells .now) (s .args .tracks)))
 
 columns-in-requires : tie.Need-columns-in-requires
 columns-in-requires c κs = search needs

@@ -6,8 +6,9 @@ use native.Mathlib.Omega.{arith}
 use Rattle.score.specs.Score.{scoreOf}
 use Rattle.score.proofs.Columns.{score-length}
 use Rattle.asking.specs.Way.{codeOf}
-use Rattle.search.specs.Page.{quickStarts}
 use Rattle.asking.proofs.Shifts.{code-le}
+use Rattle.search.specs.Page.{quickStarts}
+use Rattle.search.proofs.masks.Laws.{cached-none}
 use Rattle.search.proofs.page.Laws.{accepted-ready, accepted-lent, walk-leaf}
 use Rattle.search.proofs.page.turn_quick.Statement.{statement}
 use Rattle.search.proofs.page.turn_quick.Tie as tie
@@ -15,12 +16,15 @@ use Rattle.search.proofs.page.turn_quick.Tie as tie
 code-of-requires : tie.Need-code-of-requires
 code-of-requires c κs = search needs
 
+slice-aggregate-walk-candidates : tie.Need-slice-aggregate-walk-candidates
+slice-aggregate-walk-candidates c = search needs
+
 walk-candidates-requires : tie.Need-walk-candidates-requires
 walk-candidates-requires c κs =
-    let a = c .before .before in
-    let s = c .before .before .before .before .before .before .before .before .before .before in
+    let a = c .before .before .before in
+    let s = c .before .before .before .before .before .before .before .before .before .before .before in
     let k : a .code-of .result ≡ codeOf (s .args .way) (s .args .bookmark .shift) = a .code-of .ensures ∙ search needs in
-    (accepted-ready (s .pre .plain .accepted), (accepted-lent (s .pre .with-sets) (s .pre .table-long), (s .pre .plain .marked .from-first, s .pre .plain .marked .to-end, omega (arith, k, code-le (s .args .way) (s .args .bookmark .shift) (s .pre .plain .marked .not-below) (s .pre .plain .marked .not-above)), s .pre .plain .same-room)))
+    (accepted-ready (s .pre .plain .accepted), (accepted-lent (s .pre .with-sets) (s .pre .table-long), ((s .pre .plain .marked .from-first, s .pre .plain .marked .to-end, omega (arith, k, code-le (s .args .way) (s .args .bookmark .shift) (s .pre .plain .marked .not-below) (s .pre .plain .marked .not-above)), s .pre .plain .same-room), cached-none (s .args .way) (s .args .cells .now) (s .args .tracks))))
 
 columns-in-requires : tie.Need-columns-in-requires
 columns-in-requires c κs = search needs
@@ -36,9 +40,10 @@ same-length-2 c = search needs
 
 returns : tie.Need-returns
 returns c =
-    let s = c .before .before .before .before .before .before .before .before .before .before .before .before .before .before .before .before .before .before in
-    let k : c .before .before .before .before .before .before .before .before .before .before .code-of .result ≡ codeOf (s .args .way) (s .args .bookmark .shift) = c .before .before .before .before .before .before .before .before .before .before .code-of .ensures ∙ search needs in
-    walk-leaf _ _ _ _ _ _ _ _ _ _ (c .before .before .before .before .before .before .before .walk-candidates .ensures) (s .pre .plain .room) (s .pre .plain .same-room) (quickStarts (s .args .way) (scoreOf (s .args .cells .now) (s .args .tracks)) (s .args .theme .now) (s .args .table .now) (s .args .sets .now)) (s .args .bookmark) _ _
+    let s = c .before .before .before .before .before .before .before .before .before .before .before .before .before .before .before .before .before .before .before .before in
+    let a = c .before .before .before .before .before .before .before .before .before .before .before .before in
+    let k : a .code-of .result ≡ codeOf (s .args .way) (s .args .bookmark .shift) = a .code-of .ensures ∙ search needs in
+    walk-leaf _ _ _ _ _ _ _ _ _ _ (c .before .before .before .before .before .before .before .before .walk-candidates .ensures) (s .pre .plain .room) (s .pre .plain .same-room) (quickStarts (s .args .way) (scoreOf (s .args .cells .now) (s .args .tracks)) (s .args .theme .now) (s .args .table .now) (s .args .sets .now)) (s .args .bookmark) _ _
     (rw k) (c .before .before .before .columns-in .ensures ∙ sym (score-length (s .args .cells .now) (s .args .tracks))) (c .turned .ensures)
 
 pub turn-quick-spec : {M : Type 1} → statement M
@@ -46,6 +51,7 @@ turn-quick-spec =
     tie.close
     (tie.spec
     code-of-requires
+    slice-aggregate-walk-candidates
     walk-candidates-requires
     columns-in-requires
     turned-requires
