@@ -1,7 +1,7 @@
 -- The walk along the starts, for the contracts of inner functions: what is asked of them, the next code of a column, what
 -- trying a column writes, what a whole walk writes. No public call promises any of this by itself. Assumes nothing.
 use mathlib.Core.Path.{_≡_}
-use mathlib.Core.Bool.{Bool, cond}
+use mathlib.Core.Bool.{Bool, true, false, cond}
 use mathlib.Core.List.{List, map}
 use Prim.Native.Nat.{ℕ, _+_, _-_, _*_, _%_, _≤_, _<_}
 use lib.Dec.{leb, ltb}
@@ -19,9 +19,9 @@ use Rattle.search.specs.declared.page.Turn.{Turn}
 use Rattle.search.specs.declared.page.Page.the-variants.{Turned}
 use Rattle.asking.specs.Way.{lowest, highest, span, holds}
 use Rattle.search.specs.Definition.{note}
-use Rattle.search.specs.Starts.{Place, place, codes, hit, looks}
+use Rattle.search.specs.Starts.{Place, place, codes, starts, hit, looks}
 use Rattle.asking.specs.Bookmarks.{afterPair, finishedBookmark}
-use Rattle.search.specs.Page.{Leaf, columnsOf, shiftsOf}
+use Rattle.search.specs.Page.{Leaf, columnsOf, shiftsOf, quickStarts}
 
 -- an accepted score and theme, as far as a walk rests on it
 pub record Ready (cells : List ℕ) (h : ℕ) (theme : List ℕ) : Type 0 where
@@ -38,6 +38,16 @@ pub record Lent (n : ℕ) (sets table : List ℕ) : Type 0 where
   pub sets-long : length sets ≡ n - 1
   pub sets-small : (k : ℕ) → getD sets k 0 < 4096
   pub table-long : length table ≡ 4096
+
+-- which a walk along every column does not need
+abbrev pub LentFor : (every : Bool) (n : ℕ) (sets table : List ℕ) → Type 0
+LentFor true n sets table = Unit {0}
+LentFor false n sets table = Lent n sets table
+
+-- the entries that a register takes before it decides column j
+abbrev pub BeginsAt : (every : Bool) (sets table : List ℕ) (m j : ℕ) → Type 0
+BeginsAt true sets table m j = Unit {0}
+BeginsAt false sets table m j = (j - 1 + (m - 2) ≤ length sets) × (length table ≡ 4096) × ((k : ℕ) → getD sets k 0 < 4096)
 
 -- a shift that a bookmark may have: one of the way's, or one above its highest
 pub record ShiftIn (way : Way) (shift : ℤ) : Type 0 where
@@ -92,6 +102,11 @@ pub record Walks (way : Way) (score : List (List ℕ)) (theme : List ℕ) (walke
   pub costs : spent ≡ pageLooks (hit way score theme) (looks way score theme) (length columns) walked
   pub in-columns : columns′ ≡ over columns (columnsOf (pageHits (hit way score theme) (length columns) walked))
   pub in-shifts : shifts′ ≡ over shifts (shiftsOf way (pageHits (hit way score theme) (length columns) walked))
+
+-- the starts that a walk reaches
+abbrev pub reached : (every : Bool) → Way → (score : List (List ℕ)) (theme table sets : List ℕ) → List Place
+reached true way score theme table sets = starts way score theme
+reached false way score theme table sets = quickStarts way score theme table sets
 
 -- the answer of a page, read off the buffers: a full one goes on after its last pair
 abbrev pub readTurn : Way → (n found spent : ℕ) (columns : List ℕ) (shifts : List ℤ) → Turn

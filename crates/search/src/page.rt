@@ -3,8 +3,7 @@
 use crate::signs::code_of;
 use crate::table::fill_table;
 use crate::walk::Walked;
-use crate::walk::walk_all;
-use crate::walk::walk_candidates;
+use crate::walk::walk;
 use asking::Bookmark;
 use asking::Pair;
 use asking::Way;
@@ -121,14 +120,19 @@ fn turn_plain(
 {
     let column = bookmark.column;
     let code = code_of(way, bookmark.shift);
+    let none = [0u16; 1];
+    let blank = [0u32; 1];
     let mut ring = [0u64; 96];
-    let w = walk_all(
+    let w = walk(
+        true,
         cells,
         tracks,
         theme,
         way,
         column,
         code,
+        &none,
+        &blank,
         columns,
         shifts,
         &mut ring,
@@ -154,7 +158,8 @@ fn turn_quick(
     let column = bookmark.column;
     let code = code_of(way, bookmark.shift);
     let mut ring = [0u64; 96];
-    let w = walk_candidates(
+    let w = walk(
+        false,
         cells,
         tracks,
         theme,

@@ -17,10 +17,10 @@ ghost use lib.ListN.{length};
 ghost use Rattle.theory.specs.Pages.{from};
 ghost use Rattle.score.specs.Score.{columnsIn, scoreOf};
 ghost use Rattle.asking.specs.Way.{span, shiftOf};
-ghost use Rattle.search.specs.Starts.{key, starts};
-ghost use Rattle.search.specs.Page.{quickStarts};
+ghost use Rattle.search.specs.Starts.{key};
 ghost use Rattle.search.specs.Alive.{Cached};
-ghost use Rattle.search.specs.Walk.{Ready, Fits, Keeps, columnStarts, Tries, Lent, Walks};
+ghost use Rattle.search.specs.Scan.{Filters, Comes};
+ghost use Rattle.search.specs.Walk.{Ready, Fits, Keeps, columnStarts, Tries, LentFor, BeginsAt, reached, Walks};
 
 // How far a walk has come: the pairs found, and the looks.
 pub struct Walked {
@@ -86,56 +86,55 @@ pub fn try_column(
     Walked { found: at, looks }
 }
 
-// The walk along every start from a column and code on, until the page is full or none is left.
-pub fn walk_all(
-    cells: &[u8],
-    h: usize,
-    theme: &[u8],
-    way: Way,
-    first: Column,
-    x: u16,
-    columns: &mut [u16],
-    shifts: &mut [i16],
-    ring: &mut [u64],
-) -> Walked
-    requires { ⌜ Ready (now cells) h (now theme) ⌝ }
-    requires { ⌜ (1 ≤ first .0) × (first .0 ≤ columnsIn (now cells) h + 1) × (x ≤ span way) × (length (now shifts) ≡ length (now columns)) ⌝ }
-    requires { ⌜ Cached way (now cells) h (now ring) ⌝ }
-    ensures { λ r. ⌜ Walks way (scoreOf (now (cells .entry)) h) (now (theme .entry)) (from key (first .0 * 256 + x) (starts way (scoreOf (now (cells .entry)) h) (now (theme .entry)))) (now (columns .entry)) (now (shifts .entry)) (r .found) (r .looks) (now (columns .exit)) (now (shifts .exit)) ⌝ }
-{
-    let past = columns_in(cells, h) + 1;
-    let m = theme.len();
-    let mut j = first.0 as usize;
-    let mut code = x;
-    let mut found: usize = 0;
-    let mut looks: u32 = 0;
-    while j + m <= past {
-        let t = try_all(
-            cells,
-            h,
-            theme,
-            way,
-            Column(j as u16),
-            code,
-            found,
-            columns,
-            shifts,
-            ring,
-        );
-        found = t.found;
-        looks += t.looks;
-        if found == columns.len() {
-            return Walked { found, looks };
-        }
-        code = 0;
-        j += 1;
-    }
-    Walked { found, looks }
+// Where a walk goes on: the register, and the column.
+pub struct Next {
+    pub register: u32,
+    pub column: usize,
 }
 
-// The same walk along the starts of candidates only, from one to the next. The register begins anew at the first column. A
-// bookmark's shift counts in its own column only.
-pub fn walk_candidates(
+// The register of a walk along candidates that begins at column j; of one along every column, none is needed.
+fn begun(every: bool, sets: &[u16], table: &[u32], m: usize, j: usize) -> u32
+    requires { ⌜ (2 ≤ m) × (m ≤ 32) × (1 ≤ j) × (j ≤ 2048) ⌝ }
+    requires { ⌜ BeginsAt every (now sets) (now table) m j ⌝ }
+    ensures { λ r. ⌜ Filters every (now (table .entry)) (now (sets .entry)) m j r j ⌝ }
+{
+    if every {
+        return 0;
+    }
+    warmed(sets, table, j - 1, m - 2)
+}
+
+// The first column from j on that is kept, or the one past the last that a theme of m notes has room in.
+fn next_column(
+    every: bool,
+    register: u32,
+    sets: &[u16],
+    table: &[u32],
+    n: usize,
+    m: usize,
+    j: usize,
+) -> Next
+    requires { ⌜ (2 ≤ m) × (m ≤ 32) × (1 ≤ j) × (j + m ≤ n + 1) × (n ≤ 2048) ⌝ }
+    requires { ⌜ LentFor every n (now sets) (now table) ⌝ }
+    ensures { λ r. ⌜ Comes every (now (table .entry)) (now (sets .entry)) n m j register (r .register) (r .column) ⌝ }
+{
+    if every {
+        return Next {
+            register,
+            column: j,
+        };
+    }
+    let s = seek(register, sets, table, j + m - 3, (m - 2) as u32);
+    Next {
+        register: s.register,
+        column: s.at + 3 - m,
+    }
+}
+
+// The walk along the starts of every column, or of candidates only, from a column and code on, until the page is full or none
+// is left. The register begins anew at the first column.
+pub fn walk(
+    every: bool,
     cells: &[u8],
     h: usize,
     theme: &[u8],
@@ -149,27 +148,26 @@ pub fn walk_candidates(
     ring: &mut [u64],
 ) -> Walked
     requires { ⌜ Ready (now cells) h (now theme) ⌝ }
-    requires { ⌜ Lent (columnsIn (now cells) h) (now sets) (now table) ⌝ }
+    requires { ⌜ LentFor every (columnsIn (now cells) h) (now sets) (now table) ⌝ }
     requires { ⌜ (1 ≤ first .0) × (first .0 ≤ columnsIn (now cells) h + 1) × (x ≤ span way) × (length (now shifts) ≡ length (now columns)) ⌝ }
     requires { ⌜ Cached way (now cells) h (now ring) ⌝ }
-    ensures { λ r. ⌜ Walks way (scoreOf (now (cells .entry)) h) (now (theme .entry)) (from key (first .0 * 256 + x) (quickStarts way (scoreOf (now (cells .entry)) h) (now (theme .entry)) (now (table .entry)) (now (sets .entry)))) (now (columns .entry)) (now (shifts .entry)) (r .found) (r .looks) (now (columns .exit)) (now (shifts .exit)) ⌝ }
+    ensures { λ r. ⌜ Walks way (scoreOf (now (cells .entry)) h) (now (theme .entry)) (from key (first .0 * 256 + x) (reached every way (scoreOf (now (cells .entry)) h) (now (theme .entry)) (now (table .entry)) (now (sets .entry)))) (now (columns .entry)) (now (shifts .entry)) (r .found) (r .looks) (now (columns .exit)) (now (shifts .exit)) ⌝ }
 {
-    let past = columns_in(cells, h) + 1;
+    let n = columns_in(cells, h);
     let m = theme.len();
     let mut j = first.0 as usize;
-    if past < j + m {
-        return Walked { found: 0, looks: 0 };
-    }
-    let top = m - 2;
-    let mut register = warmed(sets, table, j - 1, top);
     let mut code = x;
     let mut found: usize = 0;
     let mut looks: u32 = 0;
-    while j + m <= past {
-        let s = seek(register, sets, table, j + m - 3, top as u32);
-        register = s.register;
-        let next = s.at + 3 - m;
-        if past < next + m {
+    if n + 1 < j + m {
+        return Walked { found, looks };
+    }
+    let mut register = begun(every, sets, table, m, j);
+    while j + m <= n + 1 {
+        let to = next_column(every, register, sets, table, n, m, j);
+        let next = to.column;
+        register = to.register;
+        if n + 1 < next + m {
             return Walked { found, looks };
         }
         if j < next {

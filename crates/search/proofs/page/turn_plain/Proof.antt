@@ -16,14 +16,20 @@ use Rattle.search.proofs.page.turn_plain.Tie as tie
 code-of-requires : tie.Need-code-of-requires
 code-of-requires c κs = search needs
 
-slice-aggregate-walk-all : tie.Need-slice-aggregate-walk-all
-slice-aggregate-walk-all c = search needs
+slice-aggregate-walk : tie.Need-slice-aggregate-walk
+slice-aggregate-walk c = search needs
 
-walk-all-requires : tie.Need-walk-all-requires
-walk-all-requires c κs =
-    let s = c .before .before .before .before .before .before .before .before .before in
-    let k : c .before .before .before .code-of .result ≡ codeOf (s .args .way) (s .args .bookmark .shift) = c .before .before .before .code-of .ensures ∙ search needs in
-    (accepted-ready (s .pre .accepted), ((s .pre .marked .from-first, s .pre .marked .to-end, omega (arith, k, code-le (s .args .way) (s .args .bookmark .shift) (s .pre .marked .not-below) (s .pre .marked .not-above)), s .pre .same-room), cached-none (s .args .way) (s .args .cells .now) (s .args .tracks)))
+slice-aggregate-walk-2 : tie.Need-slice-aggregate-walk-2
+slice-aggregate-walk-2 c = search needs
+
+slice-aggregate-walk-3 : tie.Need-slice-aggregate-walk-3
+slice-aggregate-walk-3 c = search needs
+
+walk-requires : tie.Need-walk-requires
+walk-requires c κs =
+    let s = c .before .before .before .before .before .before .before .before .before .before .before in
+    let k : c .before .before .before .before .before .code-of .result ≡ codeOf (s .args .way) (s .args .bookmark .shift) = c .before .before .before .before .before .code-of .ensures ∙ search needs in
+    (accepted-ready (s .pre .accepted), (tt, ((s .pre .marked .from-first, s .pre .marked .to-end, omega (arith, k, code-le (s .args .way) (s .args .bookmark .shift) (s .pre .marked .not-below) (s .pre .marked .not-above)), s .pre .same-room), cached-none (s .args .way) (s .args .cells .now) (s .args .tracks))))
 
 columns-in-requires : tie.Need-columns-in-requires
 columns-in-requires c κs = search needs
@@ -39,9 +45,9 @@ same-length-2 c = search needs
 
 returns : tie.Need-returns
 returns c =
-    let s = c .before .before .before .before .before .before .before .before .before .before .before .before .before .before .before .before .before .before in
-    let k : c .before .before .before .before .before .before .before .before .before .before .before .before .code-of .result ≡ codeOf (s .args .way) (s .args .bookmark .shift) = c .before .before .before .before .before .before .before .before .before .before .before .before .code-of .ensures ∙ search needs in
-    walk-leaf _ _ _ _ _ _ _ _ _ _ (c .before .before .before .before .before .before .before .before .walk-all .ensures) (s .pre .room) (s .pre .same-room) (starts (s .args .way) (scoreOf (s .args .cells .now) (s .args .tracks)) (s .args .theme .now)) (s .args .bookmark) _ _
+    let s = c .before .before .before .before .before .before .before .before .before .before .before .before .before .before .before .before .before .before .before .before in
+    let k : c .before .before .before .before .before .before .before .before .before .before .before .before .before .before .code-of .result ≡ codeOf (s .args .way) (s .args .bookmark .shift) = c .before .before .before .before .before .before .before .before .before .before .before .before .before .before .code-of .ensures ∙ search needs in
+    walk-leaf _ _ _ _ _ _ _ _ _ _ (c .before .before .before .before .before .before .before .before .walk .ensures) (s .pre .room) (s .pre .same-room) (starts (s .args .way) (scoreOf (s .args .cells .now) (s .args .tracks)) (s .args .theme .now)) (s .args .bookmark) _ _
     (rw k) (c .before .before .before .columns-in .ensures ∙ sym (score-length (s .args .cells .now) (s .args .tracks))) (c .turned .ensures)
 
 pub turn-plain-spec : {M : Type 1} → statement M
@@ -49,8 +55,10 @@ turn-plain-spec =
     tie.close
     (tie.spec
     code-of-requires
-    slice-aggregate-walk-all
-    walk-all-requires
+    slice-aggregate-walk
+    slice-aggregate-walk-2
+    slice-aggregate-walk-3
+    walk-requires
     columns-in-requires
     turned-requires
     same-length

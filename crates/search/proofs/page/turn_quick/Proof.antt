@@ -16,14 +16,13 @@ use Rattle.search.proofs.page.turn_quick.Tie as tie
 code-of-requires : tie.Need-code-of-requires
 code-of-requires c κs = search needs
 
-slice-aggregate-walk-candidates : tie.Need-slice-aggregate-walk-candidates
-slice-aggregate-walk-candidates c = search needs
+slice-aggregate-walk : tie.Need-slice-aggregate-walk
+slice-aggregate-walk c = search needs
 
-walk-candidates-requires : tie.Need-walk-candidates-requires
-walk-candidates-requires c κs =
-    let a = c .before .before .before in
+walk-requires : tie.Need-walk-requires
+walk-requires c κs =
     let s = c .before .before .before .before .before .before .before .before .before .before .before in
-    let k : a .code-of .result ≡ codeOf (s .args .way) (s .args .bookmark .shift) = a .code-of .ensures ∙ search needs in
+    let k : c .before .before .before .code-of .result ≡ codeOf (s .args .way) (s .args .bookmark .shift) = c .before .before .before .code-of .ensures ∙ search needs in
     (accepted-ready (s .pre .plain .accepted), (accepted-lent (s .pre .with-sets) (s .pre .table-long), ((s .pre .plain .marked .from-first, s .pre .plain .marked .to-end, omega (arith, k, code-le (s .args .way) (s .args .bookmark .shift) (s .pre .plain .marked .not-below) (s .pre .plain .marked .not-above)), s .pre .plain .same-room), cached-none (s .args .way) (s .args .cells .now) (s .args .tracks))))
 
 columns-in-requires : tie.Need-columns-in-requires
@@ -41,9 +40,8 @@ same-length-2 c = search needs
 returns : tie.Need-returns
 returns c =
     let s = c .before .before .before .before .before .before .before .before .before .before .before .before .before .before .before .before .before .before .before .before in
-    let a = c .before .before .before .before .before .before .before .before .before .before .before .before in
-    let k : a .code-of .result ≡ codeOf (s .args .way) (s .args .bookmark .shift) = a .code-of .ensures ∙ search needs in
-    walk-leaf _ _ _ _ _ _ _ _ _ _ (c .before .before .before .before .before .before .before .before .walk-candidates .ensures) (s .pre .plain .room) (s .pre .plain .same-room) (quickStarts (s .args .way) (scoreOf (s .args .cells .now) (s .args .tracks)) (s .args .theme .now) (s .args .table .now) (s .args .sets .now)) (s .args .bookmark) _ _
+    let k : c .before .before .before .before .before .before .before .before .before .before .before .before .code-of .result ≡ codeOf (s .args .way) (s .args .bookmark .shift) = c .before .before .before .before .before .before .before .before .before .before .before .before .code-of .ensures ∙ search needs in
+    walk-leaf _ _ _ _ _ _ _ _ _ _ (c .before .before .before .before .before .before .before .before .walk .ensures) (s .pre .plain .room) (s .pre .plain .same-room) (quickStarts (s .args .way) (scoreOf (s .args .cells .now) (s .args .tracks)) (s .args .theme .now) (s .args .table .now) (s .args .sets .now)) (s .args .bookmark) _ _
     (rw k) (c .before .before .before .columns-in .ensures ∙ sym (score-length (s .args .cells .now) (s .args .tracks))) (c .turned .ensures)
 
 pub turn-quick-spec : {M : Type 1} → statement M
@@ -51,8 +49,8 @@ turn-quick-spec =
     tie.close
     (tie.spec
     code-of-requires
-    slice-aggregate-walk-candidates
-    walk-candidates-requires
+    slice-aggregate-walk
+    walk-requires
     columns-in-requires
     turned-requires
     same-length
