@@ -31,6 +31,15 @@ abbrev pub Small : Way → (low high : ℕ) → Type 0
 Small Exact low high = (low < 2 ^ 64) × (high < 2 ^ 64)
 Small Octave low high = (low < 2 ^ 12) × (high ≡ 0)
 
+-- every start there may be
+abbrev pub allLow : Way → ℕ
+allLow Exact = 2 ^ 64 - 1
+allLow Octave = 2 ^ 12 - 1
+
+abbrev pub allHigh : Way → ℕ
+allHigh Exact = 2 ^ 64 - 1
+allHigh Octave = 0
+
 -- the code that the lowest bit stands for
 abbrev pub lowCode : Way → (first : Pitch) → ℕ
 lowCode Exact first = 127 - first .0

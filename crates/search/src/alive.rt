@@ -1,6 +1,7 @@
 // All starts of a column at once: a word has a bit for each that is alive, and each note that follows leaves those at which
 // the next column holds it.
 
+use crate::masks::Word;
 use crate::masks::held_at;
 use crate::signs::shift_of;
 use crate::walk::Walked;
@@ -16,7 +17,7 @@ ghost use Rattle.theory.specs.Marks.{marks};
 ghost use Rattle.score.specs.Score.{columnsIn, scoreOf};
 ghost use Rattle.asking.specs.Way.{span};
 ghost use Rattle.search.specs.Walk.{Ready, Fits, columnStarts, Tries};
-ghost use Rattle.search.specs.Alive.{lowCode, codesOf, Cached, Followed, Puts};
+ghost use Rattle.search.specs.Alive.{width, allLow, allHigh, lowCode, codesOf, Cached, Followed, Puts};
 
 // The starts of a column that are hits, and the looks of all its starts.
 pub struct Alive {
@@ -25,7 +26,31 @@ pub struct Alive {
     pub looks: u32,
 }
 
-// Follows all starts of the column note by note, until none is alive or the theme ends.
+// Every start there may be.
+fn all_starts(way: Way) -> Word
+    ensures { λ r. ⌜ (r .low ≡ allLow way) × (r .high ≡ allHigh way) ⌝ }
+{
+    match way {
+        Way::Exact => Word {
+            low: 0xffff_ffff_ffff_ffff,
+            high: 0xffff_ffff_ffff_ffff,
+        },
+        Way::Octave => Word { low: 4095, high: 0 },
+    }
+}
+
+// How many they are.
+fn width_of(way: Way) -> u32
+    ensures { λ r. ⌜ r ≡ width way ⌝ }
+{
+    match way {
+        Way::Exact => 128,
+        Way::Octave => 12,
+    }
+}
+
+// Follows all starts of the column note by note, until none is alive or the theme ends. The first note is treated as the
+// others are, and what it costs is taken off at the end: a start is not looked for.
 fn follow(cells: &[u8], h: usize, theme: &[u8], way: Way, column: Column, ring: &mut [u64]) -> Alive
     requires { ⌜ Ready (now cells) h (now theme) ⌝ }
     requires { ⌜ Fits (columnsIn (now cells) h) (length (now theme)) (column .0) ⌝ }
@@ -34,13 +59,15 @@ fn follow(cells: &[u8], h: usize, theme: &[u8], way: Way, column: Column, ring: 
 {
     let j = column.0 as usize;
     let first = Pitch(theme[0]);
-    let starts = held_at(cells, h, way, j - 1, first, first, ring);
-    let mut low = starts.low;
-    let mut high = starts.high;
+    let spare = width_of(way);
+    let all = all_starts(way);
+    let mut low = all.low;
+    let mut high = all.high;
     let mut looks: u32 = 0;
-    let mut k: usize = 1;
+    let mut k: usize = 0;
     while k < theme.len() {
         if (low | high) == 0 {
+            looks -= spare;
             return Alive { low, high, looks };
         }
         looks += u64::count_ones(low) + u64::count_ones(high);
@@ -49,6 +76,7 @@ fn follow(cells: &[u8], h: usize, theme: &[u8], way: Way, column: Column, ring: 
         high = high & held.high;
         k += 1;
     }
+    looks -= spare;
     Alive { low, high, looks }
 }
 
