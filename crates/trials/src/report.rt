@@ -1,0 +1,207 @@
+// What is written: cases, answers, and how much was tried.
+
+use crate::away::Ask;
+use crate::away::PREPARE;
+use crate::away::QUICK;
+use crate::calls::Got;
+use crate::totals::byte;
+use crate::totals::count;
+use crate::totals::distance;
+use crate::totals::set;
+use crate::totals::shift;
+use crate::totals::size;
+use crate::totals::size16;
+use libc::STDOUT_FILENO;
+
+// The counts, by their places.
+pub const SCORES: usize = 0;
+
+pub const THEMES: usize = 1;
+
+pub const PAGES: usize = 2;
+
+pub const PAIRS: usize = 3;
+
+pub const REFUSALS: usize = 4;
+
+pub const DIFFERED: usize = 5;
+
+pub fn say(text: &[u8]) {
+    io::write_all(STDOUT_FILENO, text);
+}
+
+pub fn line() {
+    say(b"\n");
+}
+
+// A number with a space before it.
+pub fn number(x: usize) {
+    say(b" ");
+    io::print_decimal(STDOUT_FILENO, x as u64);
+}
+
+// A shift with its sign.
+fn signed(c: i16) {
+    if c < 0 {
+        say(b"-");
+    }
+    io::print_decimal(STDOUT_FILENO, distance(c));
+}
+
+// A place, as (column, shift).
+fn pair(column: usize, c: i16) {
+    say(b" (");
+    io::print_decimal(STDOUT_FILENO, column as u64);
+    say(b", ");
+    signed(c);
+    say(b")");
+}
+
+fn bytes(s: &[u8], many: usize) {
+    for i in 0..many {
+        number(size(byte(s, i)));
+    }
+}
+
+fn sets(s: &[u16], many: usize) {
+    for i in 0..many {
+        number(set(s, i));
+    }
+}
+
+fn pairs(columns: &[u16], shifts: &[i16], many: usize) {
+    for i in 0..many {
+        pair(set(columns, i), shift(shifts, i));
+    }
+}
+
+fn way(octave: bool) {
+    if octave {
+        say(b" octave");
+    } else {
+        say(b" exact");
+    }
+}
+
+fn call_name(call: u8) {
+    if call == PREPARE {
+        say(b" prepare");
+        return;
+    }
+    if call == QUICK {
+        say(b" quick");
+        return;
+    }
+    say(b" plain");
+}
+
+// A case, whole: the score, the theme and the way.
+fn case(cells: &[u8], theme: &[u8], a: Ask) {
+    say(b" tracks");
+    number(a.h);
+    say(b" cells");
+    bytes(cells, a.cells);
+    say(b" theme");
+    bytes(theme, a.notes);
+    way(a.octave);
+}
+
+// A worked case and its sets, a line each.
+pub fn worked_case(cells: &[u8], theme: &[u8], s: &[u16], a: Ask) {
+    say(b"case:");
+    case(cells, theme, a);
+    line();
+    say(b"  sets");
+    sets(s, a.sets);
+    line();
+}
+
+// Where a page begins, and its room.
+fn opening(a: Ask, call: u8) {
+    call_name(call);
+    say(b" from");
+    pair(size16(a.column), a.shift);
+    say(b" room");
+    number(a.columns);
+}
+
+// A page's answer.
+pub fn page(columns: &[u16], shifts: &[i16], a: Ask, call: u8, got: Got) {
+    say(b" ");
+    opening(a, call);
+    say(b":");
+    pairs(columns, shifts, got.written);
+    if got.finished {
+        say(b" finished,");
+    } else {
+        say(b" more,");
+    }
+    say(b" next");
+    pair(size16(got.column), got.shift);
+    say(b" looks");
+    tried(got.looks as u64);
+    line();
+}
+
+// What differs, by its number.
+fn fault_name(fault: u8) {
+    match fault {
+        1 => say(b"the refusal"),
+        2 => say(b"a pair"),
+        3 => say(b"how many were written"),
+        4 => say(b"the next bookmark"),
+        5 => say(b"whether it is finished"),
+        6 => say(b"the looks"),
+        7 => say(b"an untouched place"),
+        8 => say(b"the sets"),
+        9 => say(b"the theme's table"),
+        10 => say(b"how many pages there are"),
+        _ => say(b"quick beside plain"),
+    }
+}
+
+// A case that differs, with the sizes of what is lent and the library's answer.
+pub fn differs(cells: &[u8], theme: &[u8], s: &[u16], a: Ask, call: u8, fault: u8, got: Got) {
+    say(b"DIFFERS in ");
+    fault_name(fault);
+    say(b":");
+    case(cells, theme, a);
+    say(b" sets");
+    sets(s, a.sets);
+    say(b" lent");
+    number(a.sets);
+    number(a.table);
+    number(a.columns);
+    number(a.shifts);
+    opening(a, call);
+    say(b": answered");
+    number(size(got.number));
+    number(got.place);
+    number(got.written);
+    pair(size16(got.column), got.shift);
+    line();
+}
+
+// A count by its name.
+fn tried(x: u64) {
+    say(b" ");
+    io::print_decimal(STDOUT_FILENO, x);
+}
+
+// How much was tried, and how many differed.
+pub fn totals(tally: &[u64]) {
+    say(b"tried: scores");
+    tried(count(tally, SCORES));
+    say(b" themes");
+    tried(count(tally, THEMES));
+    say(b" pages");
+    tried(count(tally, PAGES));
+    say(b" pairs");
+    tried(count(tally, PAIRS));
+    say(b" refusals");
+    tried(count(tally, REFUSALS));
+    line();
+    say(b"differed");
+    tried(count(tally, DIFFERED));
+    line();
+}

@@ -1,0 +1,186 @@
+// The requirement's worked cases, written out page after page.
+
+use crate::away::Ask;
+use crate::away::BOTH;
+use crate::away::PLAIN;
+use crate::away::QUICK;
+use crate::away::columns_of;
+use crate::lists::list;
+use crate::lists::prepared;
+use crate::report::worked_case;
+use crate::second::lowest;
+use crate::totals::less_one;
+use crate::totals::put_byte;
+use crate::totals::size;
+
+// The scores: K first, then those of one track.
+const SCORES: [[u8; 10]; 6] = [
+    [60, 67, 62, 69, 64, 255, 65, 72, 255, 67],
+    [0, 0, 0, 0, 0, 0, 0, 0, 0, 0],
+    [127, 127, 0, 0, 0, 0, 0, 0, 0, 0],
+    [120, 0, 0, 0, 0, 0, 0, 0, 0, 0],
+    [60, 255, 62, 0, 0, 0, 0, 0, 0, 0],
+    [60, 0, 0, 0, 0, 0, 0, 0, 0, 0],
+];
+
+// A row for each case: score, tracks, cells, notes, 1 for octave, room; then up to three notes.
+const ROWS: usize = 14;
+
+const CASES: [[u8; 9]; 14] = [
+    [0, 2, 10, 3, 0, 4, 60, 62, 64],
+    [0, 2, 10, 2, 0, 4, 67, 62, 0],
+    [0, 2, 10, 2, 0, 2, 67, 62, 0],
+    [0, 2, 10, 2, 0, 3, 67, 62, 0],
+    [0, 2, 10, 3, 0, 4, 60, 67, 69],
+    [0, 2, 10, 3, 1, 4, 60, 67, 69],
+    [0, 2, 10, 3, 1, 4, 60, 69, 71],
+    [1, 1, 2, 2, 0, 4, 127, 127, 0],
+    [2, 1, 2, 2, 0, 4, 0, 0, 0],
+    [3, 1, 2, 2, 0, 4, 0, 12, 0],
+    [3, 1, 2, 2, 1, 4, 0, 12, 0],
+    [4, 1, 3, 2, 0, 4, 60, 62, 0],
+    [4, 1, 3, 2, 1, 4, 60, 62, 0],
+    [5, 1, 1, 2, 0, 4, 60, 62, 0],
+];
+
+// A cell of a score.
+fn cell(score: usize, i: usize) -> u8 {
+    if score < 6 {
+        if i < 10 {
+            return SCORES[score][i];
+        }
+    }
+    255
+}
+
+// A number of a case's row.
+fn item(k: usize, i: usize) -> u8 {
+    if k < ROWS {
+        if i < 9 {
+            return CASES[k][i];
+        }
+    }
+    0
+}
+
+// What a case asks, from its first bookmark.
+pub fn case_ask(k: usize) -> Ask {
+    let h = size(item(k, 1));
+    let cells = size(item(k, 2));
+    let room = size(item(k, 5));
+    let octave = item(k, 4) == 1;
+    let shift = lowest(octave);
+    Ask {
+        h,
+        cells,
+        notes: size(item(k, 3)),
+        sets: less_one(columns_of(cells, h)),
+        table: 4096,
+        columns: room,
+        shifts: room,
+        octave,
+        column: 1,
+        shift,
+    }
+}
+
+// Puts a case's score and theme into the lent buffers.
+pub fn load(cells: &mut [u8], theme: &mut [u8], k: usize) {
+    for i in 0..10 {
+        put_byte(cells, i, cell(size(item(k, 0)), i));
+    }
+    put_byte(theme, 0, item(k, 6));
+    put_byte(theme, 1, item(k, 7));
+    put_byte(theme, 2, item(k, 8));
+}
+
+// The lists of one case: plain and quick, written out, and beside one another.
+fn shown(
+    cells: &[u8],
+    theme: &[u8],
+    sets: &[u16],
+    table: &mut [u32],
+    columns: &mut [u16],
+    shifts: &mut [i16],
+    tally: &mut [u64],
+    a: Ask,
+) {
+    list(
+        cells,
+        theme,
+        sets,
+        table,
+        columns,
+        shifts,
+        tally,
+        a,
+        PLAIN,
+        true,
+        true,
+    );
+    list(
+        cells,
+        theme,
+        sets,
+        table,
+        columns,
+        shifts,
+        tally,
+        a,
+        QUICK,
+        true,
+        true,
+    );
+    list(
+        cells,
+        theme,
+        sets,
+        table,
+        columns,
+        shifts,
+        tally,
+        a,
+        BOTH,
+        true,
+        false,
+    );
+}
+
+fn one(
+    cells: &[u8],
+    theme: &[u8],
+    sets: &mut [u16],
+    table: &mut [u32],
+    columns: &mut [u16],
+    shifts: &mut [i16],
+    tally: &mut [u64],
+    a: Ask,
+) {
+    prepared(cells, theme, sets, tally, a);
+    worked_case(cells, theme, sets, a);
+    shown(cells, theme, sets, table, columns, shifts, tally, a);
+}
+
+pub fn worked(
+    cells: &mut [u8],
+    theme: &mut [u8],
+    sets: &mut [u16],
+    table: &mut [u32],
+    columns: &mut [u16],
+    shifts: &mut [i16],
+    tally: &mut [u64],
+) {
+    for k in 0..ROWS {
+        load(cells, theme, k);
+        one(
+            cells,
+            theme,
+            sets,
+            table,
+            columns,
+            shifts,
+            tally,
+            case_ask(k),
+        );
+    }
+}
