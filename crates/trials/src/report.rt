@@ -4,6 +4,10 @@ use crate::away::Ask;
 use crate::away::PREPARE;
 use crate::away::QUICK;
 use crate::calls::Got;
+use crate::changes::Change;
+use crate::changes::SHIFT;
+use crate::changes::end_shift;
+use crate::changes::placed;
 use crate::totals::byte;
 use crate::totals::count;
 use crate::totals::distance;
@@ -179,6 +183,80 @@ pub fn differs(cells: &[u8], theme: &[u8], s: &[u16], a: Ask, call: u8, fault: u
     number(got.place);
     number(got.written);
     pair(size16(got.column), got.shift);
+    line();
+}
+
+// What a call answered, where it is to be said: its refusal and the place, or that it was accepted.
+pub fn answered(call: u8, got: Got, loud: bool) {
+    if !loud {
+        return;
+    }
+    call_name(call);
+    if got.number == 0 {
+        say(b" accepted");
+        return;
+    }
+    number(size(got.number));
+    say(b" at");
+    number(got.place);
+}
+
+// What is changed.
+fn what_name(what: u16) {
+    match what {
+        1 => say(b" tracks"),
+        2 => say(b" columns"),
+        3 => say(b" cells"),
+        4 => say(b" cell"),
+        5 => say(b" notes"),
+        6 => say(b" note"),
+        7 => say(b" sets"),
+        8 => say(b" set"),
+        9 => say(b" table"),
+        10 => say(b" room"),
+        11 => say(b" room of columns"),
+        12 => say(b" room of shifts"),
+        13 => say(b" bookmark column"),
+        _ => say(b" bookmark shift"),
+    }
+}
+
+// A change to an accepted call.
+pub fn change_name(octave: bool, c: Change) {
+    say(b"end:");
+    way(octave);
+    what_name(c.what);
+    if c.what == SHIFT {
+        say(b" ");
+        signed(end_shift(c.value));
+    } else {
+        number(size16(c.value));
+    }
+    if placed(c.what, 1) {
+        say(b" at");
+        number(c.place);
+    }
+    say(b":");
+}
+
+// Two refusals that are due, the lower one 0 where there is one alone.
+pub fn faults_name(octave: bool, low: usize, high: usize) {
+    say(b"due:");
+    way(octave);
+    if 0 < low {
+        number(low);
+        say(b" and");
+    }
+    number(high);
+    say(b":");
+}
+
+// A call that gave another number than the lower of two that were due.
+pub fn other_number(low: usize, high: usize, call: u8, given: u8) {
+    say(b"DIFFERS in the number:");
+    faults_name(false, low, high);
+    call_name(call);
+    number(size(given));
     line();
 }
 
