@@ -14,6 +14,15 @@ pub struct Change {
     pub value: u16,
 }
 
+// No change.
+pub fn none() -> Change {
+    Change {
+        what: 0,
+        place: 0,
+        value: 0,
+    }
+}
+
 // What can be changed. Tracks: with three columns. Columns: with their sets.
 pub const TRACKS: u16 = 1;
 

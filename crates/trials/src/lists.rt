@@ -12,7 +12,6 @@ use crate::compare::PAGES as PAGES_FAULT;
 use crate::compare::Seen;
 use crate::compare::turn_both;
 use crate::compare::turn_plain;
-use crate::compare::turn_prepare;
 use crate::compare::turn_quick;
 use crate::report::DIFFERED;
 use crate::report::PAGES;
@@ -74,12 +73,6 @@ fn page_noted(tally: &mut [u64], call: u8, written: usize) {
     let calls = calls_in(call);
     add(tally, PAGES, calls as u64);
     add(tally, PAIRS, product(written, calls) as u64);
-}
-
-// Prepares the sets of a score, and compares them.
-pub fn prepared(cells: &[u8], theme: &[u8], sets: &mut [u16], tally: &mut [u64], a: Ask) -> bool {
-    let s = turn_prepare(cells, theme, sets, a);
-    noted(cells, theme, sets, tally, a, s)
 }
 
 // How many pages so many pairs need.

@@ -3,6 +3,7 @@ mod away;
 mod calls;
 mod changes;
 mod compare;
+mod jobs;
 mod lists;
 mod marks;
 mod random;
@@ -13,11 +14,16 @@ mod totals;
 mod worked;
 mod worlds;
 
-use random::random;
-use refused::refused;
+use jobs::Job;
+use jobs::attempt;
+use random::random_job;
+use refused::due_job;
+use refused::end_job;
 use report::totals;
-use worked::worked;
-use worlds::worlds;
+use worked::worked_job;
+use worlds::world_job;
+
+const JOBS: usize = 344058;
 
 fn main() {
     let mut cells = [0u8; 34000];
@@ -47,35 +53,25 @@ fn run(
     shifts: &mut [i16],
     tally: &mut [u64],
 ) {
-    cases(cells, theme, sets, table, columns, shifts, tally);
-    searches(cells, theme, sets, table, columns, shifts, tally);
+    for k in 0..JOBS {
+        attempt(cells, theme, sets, table, columns, shifts, tally, job(k));
+    }
     totals(tally);
 }
 
-// The worked cases, and what is turned away.
-fn cases(
-    cells: &mut [u8],
-    theme: &mut [u8],
-    sets: &mut [u16],
-    table: &mut [u32],
-    columns: &mut [u16],
-    shifts: &mut [i16],
-    tally: &mut [u64],
-) {
-    worked(cells, theme, sets, table, columns, shifts, tally);
-    refused(cells, theme, sets, table, columns, shifts, tally);
-}
-
-// The small world, and pseudo-random scores.
-fn searches(
-    cells: &mut [u8],
-    theme: &mut [u8],
-    sets: &mut [u16],
-    table: &mut [u32],
-    columns: &mut [u16],
-    shifts: &mut [i16],
-    tally: &mut [u64],
-) {
-    worlds(cells, theme, sets, table, columns, shifts, tally);
-    random(cells, theme, sets, table, columns, shifts, tally);
+// The worked cases, the ends of the ranges, the refusals that are due, the small world, and pseudo-random scores.
+fn job(k: usize) -> Job {
+    if k < 42 {
+        return worked_job(k);
+    }
+    if k < 1122 {
+        return end_job(k - 42);
+    }
+    if k < 7062 {
+        return due_job(k - 1122);
+    }
+    if k < 332058 {
+        return world_job(k - 7062);
+    }
+    random_job(k - 332058)
 }

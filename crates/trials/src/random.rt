@@ -2,15 +2,14 @@
 
 use crate::away::Ask;
 use crate::away::BOTH;
+use crate::away::PREPARE;
 use crate::away::QUICK;
 use crate::away::columns_of;
+use crate::changes::none;
+use crate::jobs::Job;
+use crate::jobs::QUIET;
+use crate::jobs::RANDOM;
 use crate::lists::at;
-use crate::lists::list;
-use crate::lists::noted;
-use crate::lists::prepared;
-use crate::lists::turned;
-use crate::report::THEMES;
-use crate::totals::add;
 use crate::totals::byte;
 use crate::totals::more;
 use crate::totals::place;
@@ -19,9 +18,6 @@ use crate::totals::put_byte;
 use crate::totals::shift_at;
 use crate::worlds::ask_of;
 use crate::worlds::room_of;
-
-// How many rounds there are.
-const ROUNDS: usize = 1500;
 
 // The next state of the generator.
 fn step(x: u64) -> u64 {
@@ -109,7 +105,8 @@ fn octave_of(k: usize) -> u8 {
 }
 
 // A score of a kind.
-fn fill(cells: &mut [u8], many: usize, round: usize, kind: usize) {
+pub fn fill(cells: &mut [u8], many: usize, round: usize) {
+    let kind = draw(round, 4, 6);
     let mut x = step(round as u64);
     for i in 0..many {
         x = step(x);
@@ -170,10 +167,11 @@ fn octave_off(p: u8, k: usize) -> u8 {
     }
 }
 
-// A theme of m notes about column j.
-fn fill_theme(cells: &[u8], theme: &mut [u8], h: usize, j: usize, m: usize, round: usize) {
-    for i in 0..m {
-        put_byte(theme, i, note_of(cells, h, j, m, round, i));
+// A round's theme, about a column of its score.
+pub fn fill_theme(cells: &[u8], theme: &mut [u8], a: Ask, round: usize) {
+    let j = column_in(a, round);
+    for i in 0..a.notes {
+        put_byte(theme, i, note_of(cells, a.h, j, a.notes, round, i));
     }
 }
 
@@ -224,50 +222,6 @@ fn asked(round: usize, octave: bool) -> Ask {
     shape(round, octave)
 }
 
-// One list each way.
-fn lists_of(
-    cells: &[u8],
-    theme: &[u8],
-    sets: &[u16],
-    table: &mut [u32],
-    columns: &mut [u16],
-    shifts: &mut [i16],
-    tally: &mut [u64],
-    round: usize,
-    call: u8,
-) {
-    let a = asked(round, false);
-    let b = asked(round, true);
-    let deep = round % 8 == 0;
-    add(tally, THEMES, 2);
-    list(
-        cells,
-        theme,
-        sets,
-        table,
-        columns,
-        shifts,
-        tally,
-        a,
-        call,
-        deep,
-        false,
-    );
-    list(
-        cells,
-        theme,
-        sets,
-        table,
-        columns,
-        shifts,
-        tally,
-        b,
-        call,
-        deep,
-        false,
-    );
-}
-
 // A column of the score.
 fn column_in(a: Ask, round: usize) -> usize {
     more(draw(round, 8, columns_of(a.cells, a.h) as u64), 1)
@@ -289,143 +243,63 @@ fn shifts_of(octave: bool) -> u64 {
     if octave { 13 } else { 256 }
 }
 
-// A page from another bookmark.
-fn page_aside(
-    cells: &[u8],
-    theme: &[u8],
-    sets: &[u16],
-    table: &mut [u32],
-    columns: &mut [u16],
-    shifts: &mut [i16],
-    tally: &mut [u64],
-    round: usize,
-    octave: bool,
-) {
-    let a = aside(asked(round, octave), round);
-    let s = turned(cells, theme, sets, table, columns, shifts, a, BOTH, false);
-    noted(cells, theme, sets, tally, a, s);
-}
+// Each round: the sets of another score and of this one; lists by the other's sets, lists by its own, and a page from another
+// bookmark, both ways.
 
-// Another score's sets, then the score and a theme.
-fn arranged(cells: &mut [u8], theme: &mut [u8], sets: &mut [u16], tally: &mut [u64], round: usize) {
-    let a = asked(round, false);
-    fill(cells, a.cells, more(round, 30000), draw(round, 7, 6));
-    prepared(cells, theme, sets, tally, a);
-    fill(cells, a.cells, round, draw(round, 4, 6));
-    fill_theme(cells, theme, a.h, column_in(a, round), a.notes, round);
-}
-
-// The lists of a score by the sets of another one.
-fn foreign(
-    cells: &mut [u8],
-    theme: &mut [u8],
-    sets: &mut [u16],
-    table: &mut [u32],
-    columns: &mut [u16],
-    shifts: &mut [i16],
-    tally: &mut [u64],
-    round: usize,
-) {
-    arranged(cells, theme, sets, tally, round);
-    lists_of(
-        cells,
-        theme,
-        sets,
-        table,
-        columns,
-        shifts,
-        tally,
-        round,
-        QUICK,
-    );
-}
-
-// The lists by its own sets, and a page each way from another bookmark.
-fn own(
-    cells: &[u8],
-    theme: &[u8],
-    sets: &[u16],
-    table: &mut [u32],
-    columns: &mut [u16],
-    shifts: &mut [i16],
-    tally: &mut [u64],
-    round: usize,
-) {
-    lists_of(
-        cells,
-        theme,
-        sets,
-        table,
-        columns,
-        shifts,
-        tally,
-        round,
-        BOTH,
-    );
-    page_aside(
-        cells,
-        theme,
-        sets,
-        table,
-        columns,
-        shifts,
-        tally,
-        round,
-        false,
-    );
-    page_aside(
-        cells,
-        theme,
-        sets,
-        table,
-        columns,
-        shifts,
-        tally,
-        round,
-        true,
-    );
-}
-
-// Its own sets first.
-fn owned(
-    cells: &[u8],
-    theme: &[u8],
-    sets: &mut [u16],
-    table: &mut [u32],
-    columns: &mut [u16],
-    shifts: &mut [i16],
-    tally: &mut [u64],
-    round: usize,
-) {
-    prepared(cells, theme, sets, tally, asked(round, false));
-    own(cells, theme, sets, table, columns, shifts, tally, round);
-}
-
-// A score by the sets of another one, and by its own.
-fn round_of(
-    cells: &mut [u8],
-    theme: &mut [u8],
-    sets: &mut [u16],
-    table: &mut [u32],
-    columns: &mut [u16],
-    shifts: &mut [i16],
-    tally: &mut [u64],
-    round: usize,
-) {
-    foreign(cells, theme, sets, table, columns, shifts, tally, round);
-    owned(cells, theme, sets, table, columns, shifts, tally, round);
-}
-
-pub fn random(
-    cells: &mut [u8],
-    theme: &mut [u8],
-    sets: &mut [u16],
-    table: &mut [u32],
-    columns: &mut [u16],
-    shifts: &mut [i16],
-    tally: &mut [u64],
-) {
-    for k in 0..ROUNDS {
-        round_of(cells, theme, sets, table, columns, shifts, tally, k);
+pub fn random_job(k: usize) -> Job {
+    let round = k / 8;
+    let what = k % 8;
+    let a = aside_at(asked(round, what % 2 == 1), round, what);
+    let c = none();
+    Job {
+        source: RANDOM,
+        sets_of: sets_at(round, what),
+        score: score_at(round, what),
+        theme: round,
+        a,
+        c,
+        d: c,
+        call: call_at(what),
+        whole: whole_at(what),
+        deep: round % 8 == 0,
+        loud: false,
+        head: QUIET,
+        low: 0,
+        high: 0,
     }
+}
+
+// Another score of the shape of a round's.
+fn other(round: usize) -> usize {
+    more(round, 30000)
+}
+
+fn sets_at(round: usize, what: usize) -> usize {
+    match what {
+        0 | 2 | 3 => other(round),
+        _ => round,
+    }
+}
+
+fn score_at(round: usize, what: usize) -> usize {
+    if what == 0 { other(round) } else { round }
+}
+
+fn call_at(what: usize) -> u8 {
+    match what {
+        0 | 1 => PREPARE,
+        2 | 3 => QUICK,
+        _ => BOTH,
+    }
+}
+
+fn whole_at(what: usize) -> bool {
+    match what {
+        2 | 3 | 4 | 5 => true,
+        _ => false,
+    }
+}
+
+fn aside_at(a: Ask, round: usize, what: usize) -> Ask {
+    if what < 6 { a } else { aside(a, round) }
 }

@@ -1,34 +1,25 @@
-// What is turned away: both ends of every range, each refusal alone, and each two together.
+// What is turned away: both ends of every range, each refusal alone, and each two together. Every job here is one call, of the
+// three in turn, on changes to an accepted one.
 
 use crate::away::Ask;
 use crate::away::PREPARE;
 use crate::away::QUICK;
-use crate::calls::ask_prepare;
 use crate::changes::Change;
-use crate::changes::change_bytes;
-use crate::changes::change_sets;
 use crate::changes::changed;
+use crate::changes::none;
 use crate::changes::place_of;
 use crate::changes::placed;
-use crate::compare::Seen;
-use crate::compare::turn_prepare;
+use crate::jobs::DUE;
+use crate::jobs::END;
+use crate::jobs::Job;
+use crate::jobs::QUIET;
+use crate::jobs::WORKED;
 use crate::lists::at;
-use crate::lists::noted;
-use crate::lists::turned;
-use crate::report::DIFFERED;
-use crate::report::answered;
-use crate::report::change_name;
-use crate::report::faults_name;
-use crate::report::line;
-use crate::report::other_number;
 use crate::second::lowest;
-use crate::totals::add;
 use crate::totals::more;
 use crate::totals::product;
-use crate::totals::size;
 use crate::totals::size16;
 use crate::worked::case_ask;
-use crate::worked::load;
 
 // The ends of the ranges: what is changed, and four numbers that it gets. A shift goes by its own number.
 const ENDS: [[u16; 5]; 15] = [
@@ -91,15 +82,6 @@ fn end(k: usize, p: u8) -> Change {
     }
 }
 
-// No change.
-fn none() -> Change {
-    Change {
-        what: 0,
-        place: 0,
-        value: 0,
-    }
-}
-
 // The fault of a refusal, 0 for none, by its variant.
 fn fault(number: usize, variant: usize) -> Change {
     if number == 0 {
@@ -118,137 +100,6 @@ fn accepted(octave: bool) -> Ask {
     let mut a = case_ask(0);
     a.octave = octave;
     at(a, 1, lowest(octave))
-}
-
-// Its score and theme, with two changes.
-fn put_bytes(cells: &mut [u8], theme: &mut [u8], c: Change, d: Change) {
-    load(cells, theme, 0);
-    change_bytes(cells, theme, c);
-    change_bytes(cells, theme, d);
-}
-
-// The score's own sets, as far as there are any, with two changes.
-fn put_sets(cells: &[u8], sets: &mut [u16], a: Ask, c: Change, d: Change) {
-    ask_prepare(cells, sets, a);
-    change_sets(sets, c);
-    change_sets(sets, d);
-}
-
-// The accepted call with two changes.
-fn arranged(
-    cells: &mut [u8],
-    theme: &mut [u8],
-    sets: &mut [u16],
-    octave: bool,
-    c: Change,
-    d: Change,
-) -> Ask {
-    let a = changed(changed(accepted(octave), c), d);
-    put_bytes(cells, theme, c, d);
-    put_sets(cells, sets, a, c, d);
-    a
-}
-
-// One call, compared with the second finder.
-fn called(
-    cells: &[u8],
-    theme: &[u8],
-    sets: &mut [u16],
-    table: &mut [u32],
-    columns: &mut [u16],
-    shifts: &mut [i16],
-    a: Ask,
-    call: u8,
-) -> Seen {
-    if call == PREPARE {
-        return turn_prepare(cells, theme, sets, a);
-    }
-    turned(cells, theme, sets, table, columns, shifts, a, call, true)
-}
-
-// The same, counted; loud: its answer is written out.
-fn counted(
-    cells: &[u8],
-    theme: &[u8],
-    sets: &mut [u16],
-    table: &mut [u32],
-    columns: &mut [u16],
-    shifts: &mut [i16],
-    tally: &mut [u64],
-    a: Ask,
-    call: u8,
-    loud: bool,
-) -> u8 {
-    let s = called(cells, theme, sets, table, columns, shifts, a, call);
-    noted(cells, theme, sets, tally, a, s);
-    let got = s.got;
-    answered(call, got, loud);
-    got.number
-}
-
-// One call after two changes.
-fn trial(
-    cells: &mut [u8],
-    theme: &mut [u8],
-    sets: &mut [u16],
-    table: &mut [u32],
-    columns: &mut [u16],
-    shifts: &mut [i16],
-    tally: &mut [u64],
-    octave: bool,
-    c: Change,
-    d: Change,
-    call: u8,
-    loud: bool,
-) -> u8 {
-    let a = arranged(cells, theme, sets, octave, c, d);
-    counted(
-        cells,
-        theme,
-        sets,
-        table,
-        columns,
-        shifts,
-        tally,
-        a,
-        call,
-        loud,
-    )
-}
-
-// The three calls after two changes. Where the refusals of the two are said, the lower one that a call gives is due.
-fn trials(
-    cells: &mut [u8],
-    theme: &mut [u8],
-    sets: &mut [u16],
-    table: &mut [u32],
-    columns: &mut [u16],
-    shifts: &mut [i16],
-    tally: &mut [u64],
-    octave: bool,
-    c: Change,
-    d: Change,
-    low: usize,
-    high: usize,
-    loud: bool,
-) {
-    for call in 0..3 {
-        let number = trial(
-            cells,
-            theme,
-            sets,
-            table,
-            columns,
-            shifts,
-            tally,
-            octave,
-            c,
-            d,
-            call,
-            loud,
-        );
-        due_noted(tally, call, low, high, number);
-    }
 }
 
 // Whether a call gives a refusal: preparation 1, 2, 3, 6; plain 1 to 5, 9, 10; quick 1 to 10. Of 0 none does.
@@ -272,7 +123,7 @@ fn gives(call: u8, number: usize) -> bool {
 }
 
 // The lower of two faults that the call gives, 0 where it gives neither.
-fn due(call: u8, low: usize, high: usize) -> usize {
+pub fn due(call: u8, low: usize, high: usize) -> usize {
     if gives(call, low) {
         return low;
     }
@@ -282,195 +133,76 @@ fn due(call: u8, low: usize, high: usize) -> usize {
     0
 }
 
-fn due_noted(tally: &mut [u64], call: u8, low: usize, high: usize, number: u8) {
-    if high == 0 {
-        return;
-    }
-    if due(call, low, high) != size(number) {
-        add(tally, DIFFERED, 1);
-        other_number(low, high, call, number);
-    }
-}
-
-// One end of a range, at one of its places.
-fn end_trial(
-    cells: &mut [u8],
-    theme: &mut [u8],
-    sets: &mut [u16],
-    table: &mut [u32],
-    columns: &mut [u16],
-    shifts: &mut [i16],
-    tally: &mut [u64],
-    octave: bool,
-    c: Change,
-    p: u8,
-) {
-    if !placed(c.what, p) {
-        return;
-    }
-    change_name(octave, c);
-    trials(
-        cells,
-        theme,
-        sets,
-        table,
-        columns,
-        shifts,
-        tally,
-        octave,
+// A call on the accepted one after two changes.
+fn refused_job(octave: bool, c: Change, d: Change, call: u8) -> Job {
+    let a = changed(changed(accepted(octave), c), d);
+    Job {
+        source: WORKED,
+        sets_of: 0,
+        score: 0,
+        theme: 0,
+        a,
         c,
-        none(),
-        0,
-        0,
-        true,
-    );
-    line();
-}
-
-// Both ends of every range, a line each.
-fn ends(
-    cells: &mut [u8],
-    theme: &mut [u8],
-    sets: &mut [u16],
-    table: &mut [u32],
-    columns: &mut [u16],
-    shifts: &mut [i16],
-    tally: &mut [u64],
-    octave: bool,
-    p: u8,
-) {
-    for k in 0..60 {
-        end_trial(
-            cells,
-            theme,
-            sets,
-            table,
-            columns,
-            shifts,
-            tally,
-            octave,
-            end(k, p),
-            p,
-        );
+        d,
+        call,
+        whole: false,
+        deep: true,
+        loud: true,
+        head: QUIET,
+        low: 0,
+        high: 0,
     }
 }
 
-// Two refusals, each by each of its faults; the first faults of both are written out.
-fn variants(
-    cells: &mut [u8],
-    theme: &mut [u8],
-    sets: &mut [u16],
-    table: &mut [u32],
-    columns: &mut [u16],
-    shifts: &mut [i16],
-    tally: &mut [u64],
-    octave: bool,
-    low: usize,
-    high: usize,
-) {
-    for k in 0..9 {
-        trials(
-            cells,
-            theme,
-            sets,
-            table,
-            columns,
-            shifts,
-            tally,
-            octave,
-            fault(low, k / 3),
-            fault(high, k % 3),
-            low,
-            high,
-            k == 0,
-        );
-    }
+// A head is written before the first of the three calls.
+fn head_at(call: u8, head: u8) -> u8 {
+    if call == PREPARE { head } else { QUIET }
 }
 
-// The same, where the lower is below the higher; 0 is none, so that each stands alone too.
-fn two(
-    cells: &mut [u8],
-    theme: &mut [u8],
-    sets: &mut [u16],
-    table: &mut [u32],
-    columns: &mut [u16],
-    shifts: &mut [i16],
-    tally: &mut [u64],
-    octave: bool,
-    low: usize,
-    high: usize,
-) {
-    if high <= low {
-        return;
+fn call_at(k: usize) -> u8 {
+    (k % 3) as u8
+}
+
+// Both ends of every range, at each place, both ways.
+
+pub fn end_job(k: usize) -> Job {
+    let p = (k / 180 % 3) as u8;
+    let c = end(k % 180 / 3, p);
+    let call = call_at(k);
+    let mut j = refused_job(540 <= k, c, none(), call);
+    j.head = head_at(call, END);
+    if !placed(c.what, p) {
+        j.source = 0;
     }
-    faults_name(octave, low, high);
-    variants(
-        cells,
-        theme,
-        sets,
-        table,
-        columns,
-        shifts,
-        tally,
+    j
+}
+
+// Each refusal alone and each two together, each by each of its faults, both ways; the first faults are written out.
+
+pub fn due_job(k: usize) -> Job {
+    let pair = k % 2970 / 27;
+    let variant = k % 27 / 3;
+    let call = call_at(k);
+    let mut j = due_of(2970 <= k, pair / 11, pair % 11, variant, call);
+    j.loud = variant == 0;
+    if variant == 0 {
+        j.head = head_at(call, DUE);
+    }
+    j
+}
+
+// The lower below the higher; 0 is none, so that each stands alone too.
+fn due_of(octave: bool, low: usize, high: usize, variant: usize, call: u8) -> Job {
+    let mut j = refused_job(
         octave,
-        low,
-        high,
+        fault(low, variant / 3),
+        fault(high, variant % 3),
+        call,
     );
-    line();
-}
-
-// Each refusal alone, and each two together.
-fn pairs(
-    cells: &mut [u8],
-    theme: &mut [u8],
-    sets: &mut [u16],
-    table: &mut [u32],
-    columns: &mut [u16],
-    shifts: &mut [i16],
-    tally: &mut [u64],
-    octave: bool,
-) {
-    for k in 0..110 {
-        two(
-            cells,
-            theme,
-            sets,
-            table,
-            columns,
-            shifts,
-            tally,
-            octave,
-            k / 11,
-            k % 11,
-        );
+    j.low = low;
+    j.high = high;
+    if high <= low {
+        j.source = 0;
     }
-}
-
-fn refused_in(
-    cells: &mut [u8],
-    theme: &mut [u8],
-    sets: &mut [u16],
-    table: &mut [u32],
-    columns: &mut [u16],
-    shifts: &mut [i16],
-    tally: &mut [u64],
-    octave: bool,
-) {
-    for p in 0..3 {
-        ends(cells, theme, sets, table, columns, shifts, tally, octave, p);
-    }
-    pairs(cells, theme, sets, table, columns, shifts, tally, octave);
-}
-
-pub fn refused(
-    cells: &mut [u8],
-    theme: &mut [u8],
-    sets: &mut [u16],
-    table: &mut [u32],
-    columns: &mut [u16],
-    shifts: &mut [i16],
-    tally: &mut [u64],
-) {
-    refused_in(cells, theme, sets, table, columns, shifts, tally, false);
-    refused_in(cells, theme, sets, table, columns, shifts, tally, true);
+    j
 }

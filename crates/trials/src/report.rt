@@ -8,6 +8,10 @@ use crate::changes::Change;
 use crate::changes::SHIFT;
 use crate::changes::end_shift;
 use crate::changes::placed;
+use crate::jobs::CASE;
+use crate::jobs::DUE;
+use crate::jobs::END;
+use crate::jobs::Job;
 use crate::totals::byte;
 use crate::totals::count;
 use crate::totals::distance;
@@ -34,7 +38,7 @@ pub fn say(text: &[u8]) {
     io::write_all(STDOUT_FILENO, text);
 }
 
-pub fn line() {
+fn line() {
     say(b"\n");
 }
 
@@ -111,7 +115,7 @@ fn case(cells: &[u8], theme: &[u8], a: Ask) {
 }
 
 // A worked case and its sets, a line each.
-pub fn worked_case(cells: &[u8], theme: &[u8], s: &[u16], a: Ask) {
+fn worked_case(cells: &[u8], theme: &[u8], s: &[u16], a: Ask) {
     say(b"case:");
     case(cells, theme, a);
     line();
@@ -222,7 +226,7 @@ fn what_name(what: u16) {
 }
 
 // A change to an accepted call.
-pub fn change_name(octave: bool, c: Change) {
+fn change_name(octave: bool, c: Change) {
     say(b"end:");
     way(octave);
     what_name(c.what);
@@ -240,7 +244,7 @@ pub fn change_name(octave: bool, c: Change) {
 }
 
 // Two refusals that are due, the lower one 0 where there is one alone.
-pub fn faults_name(octave: bool, low: usize, high: usize) {
+fn faults_name(octave: bool, low: usize, high: usize) {
     say(b"due:");
     way(octave);
     if 0 < low {
@@ -249,6 +253,36 @@ pub fn faults_name(octave: bool, low: usize, high: usize) {
     }
     number(high);
     say(b":");
+}
+
+// What stands before a job's answers.
+pub fn head(cells: &[u8], theme: &[u8], s: &[u16], j: Job) {
+    let a = j.a;
+    if j.head == CASE {
+        worked_case(cells, theme, s, a);
+        return;
+    }
+    if j.head == END {
+        let c = j.c;
+        change_name(a.octave, c);
+        return;
+    }
+    if j.head == DUE {
+        faults_name(a.octave, j.low, j.high);
+    }
+}
+
+// The end of the line that holds the answers of three calls.
+pub fn tail(j: Job) {
+    if j.whole {
+        return;
+    }
+    if !j.loud {
+        return;
+    }
+    if j.call == QUICK {
+        line();
+    }
 }
 
 // A call that gave another number than the lower of two that were due.

@@ -5,11 +5,14 @@ use crate::away::BOTH;
 use crate::away::PLAIN;
 use crate::away::QUICK;
 use crate::away::columns_of;
-use crate::lists::list;
-use crate::lists::prepared;
-use crate::report::worked_case;
+use crate::changes::none;
+use crate::jobs::CASE;
+use crate::jobs::Job;
+use crate::jobs::QUIET;
+use crate::jobs::WORKED;
 use crate::second::lowest;
 use crate::totals::less_one;
+use crate::totals::more;
 use crate::totals::put_byte;
 use crate::totals::size;
 
@@ -84,103 +87,51 @@ pub fn case_ask(k: usize) -> Ask {
     }
 }
 
-// Puts a case's score and theme into the lent buffers.
-pub fn load(cells: &mut [u8], theme: &mut [u8], k: usize) {
+// Puts a case's score into the lent buffer.
+pub fn load(cells: &mut [u8], k: usize) {
     for i in 0..10 {
         put_byte(cells, i, cell(size(item(k, 0)), i));
     }
-    put_byte(theme, 0, item(k, 6));
-    put_byte(theme, 1, item(k, 7));
-    put_byte(theme, 2, item(k, 8));
 }
 
-// The lists of one case: plain and quick, written out, and beside one another.
-fn shown(
-    cells: &[u8],
-    theme: &[u8],
-    sets: &[u16],
-    table: &mut [u32],
-    columns: &mut [u16],
-    shifts: &mut [i16],
-    tally: &mut [u64],
-    a: Ask,
-) {
-    list(
-        cells,
-        theme,
-        sets,
-        table,
-        columns,
-        shifts,
-        tally,
-        a,
-        PLAIN,
-        true,
-        true,
-    );
-    list(
-        cells,
-        theme,
-        sets,
-        table,
-        columns,
-        shifts,
-        tally,
-        a,
-        QUICK,
-        true,
-        true,
-    );
-    list(
-        cells,
-        theme,
-        sets,
-        table,
-        columns,
-        shifts,
-        tally,
-        a,
-        BOTH,
-        true,
-        false,
-    );
-}
-
-fn one(
-    cells: &[u8],
-    theme: &[u8],
-    sets: &mut [u16],
-    table: &mut [u32],
-    columns: &mut [u16],
-    shifts: &mut [i16],
-    tally: &mut [u64],
-    a: Ask,
-) {
-    prepared(cells, theme, sets, tally, a);
-    worked_case(cells, theme, sets, a);
-    shown(cells, theme, sets, table, columns, shifts, tally, a);
-}
-
-pub fn worked(
-    cells: &mut [u8],
-    theme: &mut [u8],
-    sets: &mut [u16],
-    table: &mut [u32],
-    columns: &mut [u16],
-    shifts: &mut [i16],
-    tally: &mut [u64],
-) {
-    for k in 0..ROWS {
-        load(cells, theme, k);
-        one(
-            cells,
-            theme,
-            sets,
-            table,
-            columns,
-            shifts,
-            tally,
-            case_ask(k),
-        );
+pub fn load_theme(theme: &mut [u8], k: usize) {
+    for i in 0..3 {
+        put_byte(theme, i, item(k, more(i, 6)));
     }
+}
+
+// Each case three times: plain and quick, written out, and the two beside one another.
+
+pub fn worked_job(k: usize) -> Job {
+    let a = case_ask(k / 3);
+    let c = none();
+    let call = call_of(k % 3);
+    Job {
+        source: WORKED,
+        sets_of: k / 3,
+        score: k / 3,
+        theme: k / 3,
+        a,
+        c,
+        d: c,
+        call,
+        whole: true,
+        deep: true,
+        loud: call != BOTH,
+        head: head_of(call),
+        low: 0,
+        high: 0,
+    }
+}
+
+fn call_of(k: usize) -> u8 {
+    match k {
+        0 => PLAIN,
+        1 => QUICK,
+        _ => BOTH,
+    }
+}
+
+fn head_of(call: u8) -> u8 {
+    if call == PLAIN { CASE } else { QUIET }
 }

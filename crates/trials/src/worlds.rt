@@ -3,11 +3,12 @@
 
 use crate::away::Ask;
 use crate::away::BOTH;
-use crate::lists::list;
-use crate::lists::prepared;
-use crate::report::THEMES;
+use crate::away::PREPARE;
+use crate::changes::none;
+use crate::jobs::Job;
+use crate::jobs::QUIET;
+use crate::jobs::WORLD;
 use crate::second::lowest;
-use crate::totals::add;
 use crate::totals::less_one;
 use crate::totals::more;
 use crate::totals::product;
@@ -24,7 +25,7 @@ fn world_cell(k: usize) -> u8 {
 }
 
 // So many bytes by the digits of x in a base.
-fn spell(s: &mut [u8], many: usize, x: usize, base: usize) {
+pub fn spell(s: &mut [u8], many: usize, x: usize, base: usize) {
     if base == 0 {
         return;
     }
@@ -33,15 +34,6 @@ fn spell(s: &mut [u8], many: usize, x: usize, base: usize) {
         put_byte(s, i, world_cell(rest % base));
         rest = rest / base;
     }
-}
-
-// How many numbers have so many digits of base 4.
-fn numbers(digits: usize) -> usize {
-    let mut x: usize = 1;
-    for i in 0..digits {
-        x = product(x, 4);
-    }
-    x
 }
 
 // The rooms that pages are tried at.
@@ -77,122 +69,68 @@ fn notes_of(y: usize) -> usize {
     if y < 9 { 2 } else { 3 }
 }
 
-// One theme of the 36, one way; deep: with the whole table.
-fn theme_in(
-    cells: &[u8],
-    theme: &mut [u8],
-    sets: &[u16],
-    table: &mut [u32],
-    columns: &mut [u16],
-    shifts: &mut [i16],
-    tally: &mut [u64],
-    a: Ask,
-    y: usize,
-    deep: bool,
-) {
-    spell(theme, 3, y, 3);
-    add(tally, THEMES, 1);
-    list(
-        cells,
-        theme,
-        sets,
-        table,
-        columns,
-        shifts,
-        tally,
-        a,
-        BOTH,
-        deep,
-        false,
+// Of the 4,452 scores the first 84 have one track, the others two; the first of each have one column, then two, then three.
+fn tracks_of(w: usize) -> usize {
+    if w < 84 { 1 } else { 2 }
+}
+
+fn columns_in(w: usize) -> usize {
+    match w {
+        0..=3 | 84..=99 => 1,
+        4..=19 | 100..=355 => 2,
+        _ => 3,
+    }
+}
+
+// The number of a score among those of its shape.
+fn number_of(w: usize) -> usize {
+    match w {
+        0..=3 => w,
+        4..=19 => w - 4,
+        20..=83 => w - 20,
+        84..=99 => w - 84,
+        100..=355 => w - 100,
+        _ => rest_of(w, 356),
+    }
+}
+
+fn rest_of(w: usize, n: usize) -> usize {
+    if n <= w { w - n } else { 0 }
+}
+
+// For each score its sets, and 36 themes both ways.
+
+pub fn world_job(k: usize) -> Job {
+    let w = k / 73;
+    let y = k % 73;
+    let x = number_of(w);
+    let a = ask_of(
+        tracks_of(w),
+        columns_in(w),
+        notes_of(y / 2),
+        y % 2 == 1,
+        room_of(more(x, y)),
     );
-}
-
-// All themes, both ways, in one score.
-fn themes(
-    cells: &[u8],
-    theme: &mut [u8],
-    sets: &[u16],
-    table: &mut [u32],
-    columns: &mut [u16],
-    shifts: &mut [i16],
-    tally: &mut [u64],
-    h: usize,
-    n: usize,
-    x: usize,
-) {
-    for y in 0..72 {
-        let a = ask_of(h, n, notes_of(y / 2), y % 2 == 1, room_of(more(x, y)));
-        theme_in(
-            cells,
-            theme,
-            sets,
-            table,
-            columns,
-            shifts,
-            tally,
-            a,
-            y / 2,
-            x == 0,
-        );
+    let c = none();
+    Job {
+        source: WORLD,
+        sets_of: x,
+        score: x,
+        theme: y / 2,
+        a,
+        c,
+        d: c,
+        call: call_of(y),
+        whole: y < 72,
+        deep: x == 0,
+        loud: false,
+        head: QUIET,
+        low: 0,
+        high: 0,
     }
 }
 
-// One score of a shape: its sets, then all themes.
-fn score_in(
-    cells: &mut [u8],
-    theme: &mut [u8],
-    sets: &mut [u16],
-    table: &mut [u32],
-    columns: &mut [u16],
-    shifts: &mut [i16],
-    tally: &mut [u64],
-    a: Ask,
-    n: usize,
-    x: usize,
-) {
-    spell(cells, a.cells, x, 4);
-    prepared(cells, theme, sets, tally, a);
-    themes(cells, theme, sets, table, columns, shifts, tally, a.h, n, x);
-}
-
-// All scores of one shape.
-fn scores(
-    cells: &mut [u8],
-    theme: &mut [u8],
-    sets: &mut [u16],
-    table: &mut [u32],
-    columns: &mut [u16],
-    shifts: &mut [i16],
-    tally: &mut [u64],
-    h: usize,
-    n: usize,
-) {
-    let a = ask_of(h, n, 2, false, 1);
-    for x in 0..numbers(product(h, n)) {
-        score_in(cells, theme, sets, table, columns, shifts, tally, a, n, x);
-    }
-}
-
-pub fn worlds(
-    cells: &mut [u8],
-    theme: &mut [u8],
-    sets: &mut [u16],
-    table: &mut [u32],
-    columns: &mut [u16],
-    shifts: &mut [i16],
-    tally: &mut [u64],
-) {
-    for k in 0..6 {
-        scores(
-            cells,
-            theme,
-            sets,
-            table,
-            columns,
-            shifts,
-            tally,
-            more(k / 3, 1),
-            more(k % 3, 1),
-        );
-    }
+// The sets are tried last.
+fn call_of(y: usize) -> u8 {
+    if y < 72 { BOTH } else { PREPARE }
 }

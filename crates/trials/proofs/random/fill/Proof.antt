@@ -12,6 +12,9 @@ Inv-loop cells₀ many round kind x₀ i₀ cells x i = length cells ≡ length 
 abbrev μ-loop : tie.MeasureT-loop
 μ-loop cells₀ many round kind x₀ i₀ cells x i = many - i
 
+draw-requires : tie.Need-draw-requires Inv-loop μ-loop
+draw-requires c κs = search needs
+
 step-requires : tie.Need-step-requires Inv-loop μ-loop
 step-requires c κs = search needs
 
@@ -48,6 +51,7 @@ fill-spec =
     (tie.spec
     Inv-loop
     μ-loop
+    draw-requires
     step-requires
     loop-holds
     step-requires-2

@@ -7,10 +7,13 @@ use Rattle.trials.proofs.random.fill_theme.Statement.{statement}
 use Rattle.trials.proofs.random.fill_theme.Tie as tie
 
 abbrev Inv-loop : tie.InvT-loop
-Inv-loop cells theme₀ h j m round i₀ theme i = length theme ≡ length theme₀
+Inv-loop cells theme₀ a round j i₀ i-end theme i = length theme ≡ length theme₀
 
 abbrev μ-loop : tie.MeasureT-loop
-μ-loop cells theme₀ h j m round i₀ theme i = m - i
+μ-loop cells theme₀ a round j i₀ i-end theme i = i-end - i
+
+column-in-requires : tie.Need-column-in-requires Inv-loop μ-loop
+column-in-requires c κs = search needs
 
 loop-holds : tie.Need-loop-holds Inv-loop μ-loop
 loop-holds c = search needs
@@ -42,6 +45,7 @@ fill-theme-spec =
     (tie.spec
     Inv-loop
     μ-loop
+    column-in-requires
     loop-holds
     note-of-requires
     put-byte-requires

@@ -7,10 +7,10 @@ use Rattle.trials.proofs.worked.load.Statement.{statement}
 use Rattle.trials.proofs.worked.load.Tie as tie
 
 abbrev Inv-loop : tie.InvT-loop
-Inv-loop cells₀ theme k i₀ cells i = length cells ≡ length cells₀
+Inv-loop cells₀ k i₀ cells i = length cells ≡ length cells₀
 
 abbrev μ-loop : tie.MeasureT-loop
-μ-loop cells₀ theme k i₀ cells i = 10 - i
+μ-loop cells₀ k i₀ cells i = 10 - i
 
 loop-holds : tie.Need-loop-holds Inv-loop μ-loop
 loop-holds c = search needs
@@ -36,29 +36,8 @@ loop-less c = search needs
 loop-again : tie.Need-loop-again Inv-loop μ-loop
 loop-again c = search needs
 
-item-requires-2 : tie.Need-item-requires-2 Inv-loop μ-loop
-item-requires-2 c κs = search needs
-
-put-byte-requires-2 : tie.Need-put-byte-requires-2 Inv-loop μ-loop
-put-byte-requires-2 c κs = search needs
-
-item-requires-3 : tie.Need-item-requires-3 Inv-loop μ-loop
-item-requires-3 c κs = search needs
-
-put-byte-requires-3 : tie.Need-put-byte-requires-3 Inv-loop μ-loop
-put-byte-requires-3 c κs = search needs
-
-item-requires-4 : tie.Need-item-requires-4 Inv-loop μ-loop
-item-requires-4 c κs = search needs
-
-put-byte-requires-4 : tie.Need-put-byte-requires-4 Inv-loop μ-loop
-put-byte-requires-4 c κs = search needs
-
 same-length : tie.Need-same-length Inv-loop μ-loop
 same-length c = search needs
-
-same-length-2 : tie.Need-same-length-2 Inv-loop μ-loop
-same-length-2 c = search needs
 
 returns : tie.Need-returns Inv-loop μ-loop
 returns c = search needs
@@ -77,12 +56,5 @@ load-spec =
     add-i
     loop-less
     loop-again
-    item-requires-2
-    put-byte-requires-2
-    item-requires-3
-    put-byte-requires-3
-    item-requires-4
-    put-byte-requires-4
     same-length
-    same-length-2
     returns)

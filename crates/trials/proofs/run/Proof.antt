@@ -1,22 +1,25 @@
--- `trials::refused::pairs` meets its contract: it is safe, and the measure is what is left of its range. Assumes nothing.
+-- `trials::run` meets its contract: it is safe, and the measure is what is left of its range. Assumes nothing.
 use Prim.Native.Nat.{_-_}
 use borrow.Author.Needs.{needs}
 use lib.ListN.{length}
 use mathlib.Core.Path.{_≡_}
-use Rattle.trials.proofs.refused.pairs.Statement.{statement}
-use Rattle.trials.proofs.refused.pairs.Tie as tie
+use Rattle.trials.proofs.run.Statement.{statement}
+use Rattle.trials.proofs.run.Tie as tie
 
 abbrev Inv-loop : tie.InvT-loop
-Inv-loop cells₀ theme₀ sets₀ table₀ columns₀ shifts₀ tally₀ octave k₀ cells theme sets table columns shifts tally k = (length cells ≡ length cells₀) × (length theme ≡ length theme₀) × (length sets ≡ length sets₀) × (length table ≡ length table₀) × (length columns ≡ length columns₀) × (length shifts ≡ length shifts₀) × (length tally ≡ length tally₀)
+Inv-loop cells₀ theme₀ sets₀ table₀ columns₀ shifts₀ tally₀ k₀ cells theme sets table columns shifts tally k = (length cells ≡ length cells₀) × (length theme ≡ length theme₀) × (length sets ≡ length sets₀) × (length table ≡ length table₀) × (length columns ≡ length columns₀) × (length shifts ≡ length shifts₀) × (length tally ≡ length tally₀)
 
 abbrev μ-loop : tie.MeasureT-loop
-μ-loop cells₀ theme₀ sets₀ table₀ columns₀ shifts₀ tally₀ octave k₀ cells theme sets table columns shifts tally k = 110 - k
+μ-loop cells₀ theme₀ sets₀ table₀ columns₀ shifts₀ tally₀ k₀ cells theme sets table columns shifts tally k = 344058 - k
 
 loop-holds : tie.Need-loop-holds Inv-loop μ-loop
 loop-holds c = search needs
 
-two-requires : tie.Need-two-requires Inv-loop μ-loop
-two-requires c κs = search needs
+job-requires : tie.Need-job-requires Inv-loop μ-loop
+job-requires c κs = search needs
+
+attempt-requires : tie.Need-attempt-requires Inv-loop μ-loop
+attempt-requires c κs = search needs
 
 add-k : tie.Need-add-k Inv-loop μ-loop
 add-k c = search needs
@@ -26,6 +29,9 @@ loop-less c = search needs
 
 loop-again : tie.Need-loop-again Inv-loop μ-loop
 loop-again c = search needs
+
+totals-requires : tie.Need-totals-requires Inv-loop μ-loop
+totals-requires c κs = search needs
 
 same-length : tie.Need-same-length Inv-loop μ-loop
 same-length c = search needs
@@ -51,17 +57,19 @@ same-length-7 c = search needs
 returns : tie.Need-returns Inv-loop μ-loop
 returns c = search needs
 
-pub pairs-spec : {M : Type 1} → statement M
-pairs-spec =
+pub run-spec : {M : Type 1} → statement M
+run-spec =
     tie.close
     (tie.spec
     Inv-loop
     μ-loop
     loop-holds
-    two-requires
+    job-requires
+    attempt-requires
     add-k
     loop-less
     loop-again
+    totals-requires
     same-length
     same-length-2
     same-length-3
