@@ -1,6 +1,5 @@
 // The library's public calls, each on the part of the lent buffers that is asked for, with the answer as plain numbers.
 
-use crate::away::Ask;
 use score::Column;
 use score::Preparation;
 use score::prepare;
@@ -9,6 +8,7 @@ use search::Page;
 use search::Way;
 use search::plain_page;
 use search::quick_page;
+use second::away::Ask;
 
 // An answer: the refusal's number and place, or 0 and the page.
 pub struct Got {
@@ -21,7 +21,8 @@ pub struct Got {
     pub looks: u32,
 }
 
-fn refused(number: u8, place: usize) -> Got {
+// A refusal, or 0 and no page.
+pub fn refused(number: u8, place: usize) -> Got {
     Got {
         number,
         place,

@@ -1,11 +1,11 @@
 // Changes to an accepted call, one number at a time: the sizes and numbers beside the buffers, or a place in one of them.
 
-use crate::away::Ask;
-use crate::totals::less_one;
-use crate::totals::product;
-use crate::totals::put_byte;
-use crate::totals::put_set;
-use crate::totals::size16;
+use second::away::Ask;
+use second::totals::less_one;
+use second::totals::product;
+use second::totals::put_byte;
+use second::totals::put_set;
+use second::totals::size16;
 
 // What is changed, at which place, and the number that it gets.
 pub struct Change {

@@ -1,12 +1,5 @@
 // A call of the library beside the second finder: what it answers, what it writes, and what it leaves untouched.
 
-use crate::away::Ask;
-use crate::away::BOTH;
-use crate::away::PLAIN;
-use crate::away::PREPARE;
-use crate::away::QUICK;
-use crate::away::columns_of;
-use crate::away::refusal;
 use crate::calls::Got;
 use crate::calls::ask_plain;
 use crate::calls::ask_prepare;
@@ -17,16 +10,23 @@ use crate::marks::mark_words;
 use crate::marks::sets_kept;
 use crate::marks::shifts_kept;
 use crate::marks::words_kept;
-use crate::second::Found;
-use crate::second::next_pair;
-use crate::second::sets_right;
-use crate::second::table_right;
-use crate::totals::more;
-use crate::totals::raised;
-use crate::totals::set;
-use crate::totals::shift;
-use crate::totals::size16;
-use crate::totals::size32;
+use second::away::Ask;
+use second::away::BOTH;
+use second::away::PLAIN;
+use second::away::PREPARE;
+use second::away::QUICK;
+use second::away::columns_of;
+use second::away::refusal;
+use second::finder::Found;
+use second::finder::next_pair;
+use second::finder::sets_right;
+use second::finder::table_right;
+use second::totals::more;
+use second::totals::raised;
+use second::totals::set;
+use second::totals::shift;
+use second::totals::size16;
+use second::totals::size32;
 
 // What was seen of a call: its answer, and what differs, 0 for nothing.
 pub struct Seen {

@@ -1,12 +1,11 @@
 // Jobs: a trial is a number, which says what score and theme are made, what is asked of them, and which call is tried. All that
 // needs the lent buffers is here; the families of jobs are functions of numbers.
 
-use crate::away::Ask;
-use crate::away::PREPARE;
 use crate::calls::ask_prepare;
 use crate::changes::Change;
 use crate::changes::change_bytes;
 use crate::changes::change_sets;
+use crate::compare::REFUSAL;
 use crate::compare::Seen;
 use crate::compare::turn_prepare;
 use crate::lists::list;
@@ -15,17 +14,17 @@ use crate::lists::turned;
 use crate::random::fill;
 use crate::random::fill_theme;
 use crate::refused::due;
-use crate::report::DIFFERED;
 use crate::report::THEMES;
 use crate::report::answered;
 use crate::report::head;
-use crate::report::other_number;
 use crate::report::tail;
-use crate::totals::add;
-use crate::totals::size;
 use crate::worked::load;
 use crate::worked::load_theme;
 use crate::worlds::spell;
+use second::away::Ask;
+use second::away::PREPARE;
+use second::totals::add;
+use second::totals::size;
 
 // Where a score and a theme come from.
 pub const WORKED: u8 = 1;
@@ -140,15 +139,16 @@ fn called(
     turned(cells, theme, sets, table, columns, shifts, a, call, deep)
 }
 
-// Counts another number than the one that is due.
-fn due_noted(tally: &mut [u64], j: Job, number: u8) {
+// What was seen, with another number than the one that is due as a fault.
+fn due_judged(j: Job, s: Seen) -> Seen {
     if j.high == 0 {
-        return;
+        return s;
     }
-    if due(j.call, j.low, j.high) != size(number) {
-        add(tally, DIFFERED, 1);
-        other_number(j.low, j.high, j.call, number);
+    let mut t = s;
+    if due(j.call, j.low, j.high) != size(t.got.number) {
+        t.fault = REFUSAL;
     }
+    t
 }
 
 // A call by itself.
@@ -174,10 +174,9 @@ fn once(
         j.call,
         j.deep,
     );
-    noted(cells, theme, sets, tally, a, s);
+    noted(cells, theme, sets, tally, a, due_judged(j, s));
     let got = s.got;
     answered(j.call, got, j.loud);
-    due_noted(tally, j, got.number);
 }
 
 // A whole list, or a call by itself.

@@ -1,12 +1,7 @@
 // Whole lists: the pages from the first bookmark to the last, each beside the second finder's.
 
-use crate::away::Ask;
-use crate::away::BOTH;
-use crate::away::PLAIN;
-use crate::away::PREPARE;
-use crate::away::QUICK;
-use crate::away::columns_of;
 use crate::calls::Got;
+use crate::calls::refused;
 use crate::compare::LOOKS;
 use crate::compare::PAGES as PAGES_FAULT;
 use crate::compare::Seen;
@@ -20,13 +15,19 @@ use crate::report::REFUSALS;
 use crate::report::SCORES;
 use crate::report::differs;
 use crate::report::page;
-use crate::second::lowest;
-use crate::second::most_looks;
-use crate::totals::add;
-use crate::totals::count;
-use crate::totals::more;
-use crate::totals::product;
-use crate::totals::size32;
+use second::away::Ask;
+use second::away::BOTH;
+use second::away::PLAIN;
+use second::away::PREPARE;
+use second::away::QUICK;
+use second::away::columns_of;
+use second::finder::lowest;
+use second::finder::most_looks;
+use second::totals::add;
+use second::totals::count;
+use second::totals::more;
+use second::totals::product;
+use second::totals::size32;
 
 // No list has so many pages.
 const MOST: usize = 70000;
@@ -223,5 +224,15 @@ pub fn list(
             r,
         );
     }
-    add(tally, DIFFERED, 1);
+    noted(cells, theme, sets, tally, a, endless(call));
+}
+
+// A list without an end.
+fn endless(call: u8) -> Seen {
+    let got = refused(0, 0);
+    Seen {
+        call,
+        fault: PAGES_FAULT,
+        got,
+    }
 }

@@ -1,5 +1,4 @@
 // Trials: the cases that are run and not proved, each beside a second finder.
-mod away;
 mod calls;
 mod changes;
 mod compare;
@@ -9,8 +8,6 @@ mod marks;
 mod random;
 mod refused;
 mod report;
-mod second;
-mod totals;
 mod worked;
 mod worlds;
 

@@ -1,13 +1,13 @@
 // Marks: what a lent buffer holds before a call, a number for each place, so that a place that should be untouched shows it.
 
-use crate::totals::put_set;
-use crate::totals::put_shift;
-use crate::totals::put_word;
-use crate::totals::set;
-use crate::totals::shift;
-use crate::totals::size16;
-use crate::totals::size32;
-use crate::totals::word;
+use second::totals::put_set;
+use second::totals::put_shift;
+use second::totals::put_word;
+use second::totals::set;
+use second::totals::shift;
+use second::totals::size16;
+use second::totals::size32;
+use second::totals::word;
 
 // No set, no column.
 fn set_mark(i: usize) -> u16 {

@@ -1,23 +1,23 @@
 // Pseudo-random scores of all shapes up to the limits, with themes cut from them, moved, and spoilt.
 
-use crate::away::Ask;
-use crate::away::BOTH;
-use crate::away::PREPARE;
-use crate::away::QUICK;
-use crate::away::columns_of;
 use crate::changes::none;
 use crate::jobs::Job;
 use crate::jobs::QUIET;
 use crate::jobs::RANDOM;
 use crate::lists::at;
-use crate::totals::byte;
-use crate::totals::more;
-use crate::totals::place;
-use crate::totals::product;
-use crate::totals::put_byte;
-use crate::totals::shift_at;
 use crate::worlds::ask_of;
 use crate::worlds::room_of;
+use second::away::Ask;
+use second::away::BOTH;
+use second::away::PREPARE;
+use second::away::QUICK;
+use second::away::columns_of;
+use second::totals::byte;
+use second::totals::more;
+use second::totals::place;
+use second::totals::product;
+use second::totals::put_byte;
+use second::totals::shift_at;
 
 // The next state of the generator.
 fn step(x: u64) -> u64 {

@@ -1,9 +1,6 @@
 // What is turned away: both ends of every range, each refusal alone, and each two together. Every job here is one call, of the
 // three in turn, on changes to an accepted one.
 
-use crate::away::Ask;
-use crate::away::PREPARE;
-use crate::away::QUICK;
 use crate::changes::Change;
 use crate::changes::changed;
 use crate::changes::none;
@@ -15,11 +12,14 @@ use crate::jobs::Job;
 use crate::jobs::QUIET;
 use crate::jobs::WORKED;
 use crate::lists::at;
-use crate::second::lowest;
-use crate::totals::more;
-use crate::totals::product;
-use crate::totals::size16;
 use crate::worked::case_ask;
+use second::away::Ask;
+use second::away::PREPARE;
+use second::away::QUICK;
+use second::finder::lowest;
+use second::totals::more;
+use second::totals::product;
+use second::totals::size16;
 
 // The ends of the ranges: what is changed, and four numbers that it gets. A shift goes by its own number.
 const ENDS: [[u16; 5]; 15] = [

@@ -1,8 +1,5 @@
 // What is written: cases, answers, and how much was tried.
 
-use crate::away::Ask;
-use crate::away::PREPARE;
-use crate::away::QUICK;
 use crate::calls::Got;
 use crate::changes::Change;
 use crate::changes::SHIFT;
@@ -12,14 +9,18 @@ use crate::jobs::CASE;
 use crate::jobs::DUE;
 use crate::jobs::END;
 use crate::jobs::Job;
-use crate::totals::byte;
-use crate::totals::count;
-use crate::totals::distance;
-use crate::totals::set;
-use crate::totals::shift;
-use crate::totals::size;
-use crate::totals::size16;
 use libc::STDOUT_FILENO;
+use second::away::Ask;
+use second::away::PREPARE;
+use second::away::QUICK;
+use second::totals::byte;
+use second::totals::count;
+use second::totals::distance;
+use second::totals::more;
+use second::totals::set;
+use second::totals::shift;
+use second::totals::size;
+use second::totals::size16;
 
 // The counts, by their places.
 pub const SCORES: usize = 0;
@@ -151,26 +152,37 @@ pub fn page(columns: &[u16], shifts: &[i16], a: Ask, call: u8, got: Got) {
     line();
 }
 
+// A letter.
+fn letter(b: u8) {
+    let one = [b];
+    say(&one);
+}
+
+// The k-th of some words that are parted by a space, from 0, with a space before it.
+fn word_of(words: &[u8], k: usize) {
+    letter(32);
+    let mut at: usize = 0;
+    for i in 0..words.len() {
+        let b = byte(words, i);
+        if b == 32 {
+            at = more(at, 1);
+        } else if at == k {
+            letter(b);
+        }
+    }
+}
+
 // What differs, by its number.
 fn fault_name(fault: u8) {
-    match fault {
-        1 => say(b"the refusal"),
-        2 => say(b"a pair"),
-        3 => say(b"how many were written"),
-        4 => say(b"the next bookmark"),
-        5 => say(b"whether it is finished"),
-        6 => say(b"the looks"),
-        7 => say(b"an untouched place"),
-        8 => say(b"the sets"),
-        9 => say(b"the theme's table"),
-        10 => say(b"how many pages there are"),
-        _ => say(b"quick beside plain"),
-    }
+    word_of(
+        b"- refusal pair written next finished looks untouched sets table pages quick-beside-plain ",
+        size(fault),
+    );
 }
 
 // A case that differs, with the sizes of what is lent and the library's answer.
 pub fn differs(cells: &[u8], theme: &[u8], s: &[u16], a: Ask, call: u8, fault: u8, got: Got) {
-    say(b"DIFFERS in ");
+    say(b"DIFFERS in");
     fault_name(fault);
     say(b":");
     case(cells, theme, a);
@@ -207,22 +219,10 @@ pub fn answered(call: u8, got: Got, loud: bool) {
 
 // What is changed.
 fn what_name(what: u16) {
-    match what {
-        1 => say(b" tracks"),
-        2 => say(b" columns"),
-        3 => say(b" cells"),
-        4 => say(b" cell"),
-        5 => say(b" notes"),
-        6 => say(b" note"),
-        7 => say(b" sets"),
-        8 => say(b" set"),
-        9 => say(b" table"),
-        10 => say(b" room"),
-        11 => say(b" room of columns"),
-        12 => say(b" room of shifts"),
-        13 => say(b" bookmark column"),
-        _ => say(b" bookmark shift"),
-    }
+    word_of(
+        b"- tracks columns cells cell notes note sets set table room room-of-columns room-of-shifts bookmark-column bookmark-shift ",
+        size16(what),
+    );
 }
 
 // A change to an accepted call.
@@ -283,15 +283,6 @@ pub fn tail(j: Job) {
     if j.call == QUICK {
         line();
     }
-}
-
-// A call that gave another number than the lower of two that were due.
-pub fn other_number(low: usize, high: usize, call: u8, given: u8) {
-    say(b"DIFFERS in the number:");
-    faults_name(false, low, high);
-    call_name(call);
-    number(size(given));
-    line();
 }
 
 // A count by its name.

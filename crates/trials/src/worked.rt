@@ -1,20 +1,20 @@
 // The requirement's worked cases, written out page after page.
 
-use crate::away::Ask;
-use crate::away::BOTH;
-use crate::away::PLAIN;
-use crate::away::QUICK;
-use crate::away::columns_of;
 use crate::changes::none;
 use crate::jobs::CASE;
 use crate::jobs::Job;
 use crate::jobs::QUIET;
 use crate::jobs::WORKED;
-use crate::second::lowest;
-use crate::totals::less_one;
-use crate::totals::more;
-use crate::totals::put_byte;
-use crate::totals::size;
+use second::away::Ask;
+use second::away::BOTH;
+use second::away::PLAIN;
+use second::away::QUICK;
+use second::away::columns_of;
+use second::finder::lowest;
+use second::totals::less_one;
+use second::totals::more;
+use second::totals::put_byte;
+use second::totals::size;
 
 // The scores: K first, then those of one track.
 const SCORES: [[u8; 10]; 6] = [

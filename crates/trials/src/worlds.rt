@@ -1,18 +1,18 @@
 // A small world, whole: every score of one and two tracks and up to three columns over the cells 0, 12, 127 and rest, with every
 // theme of two and three notes over those pitches, both ways.
 
-use crate::away::Ask;
-use crate::away::BOTH;
-use crate::away::PREPARE;
 use crate::changes::none;
 use crate::jobs::Job;
 use crate::jobs::QUIET;
 use crate::jobs::WORLD;
-use crate::second::lowest;
-use crate::totals::less_one;
-use crate::totals::more;
-use crate::totals::product;
-use crate::totals::put_byte;
+use second::away::Ask;
+use second::away::BOTH;
+use second::away::PREPARE;
+use second::finder::lowest;
+use second::totals::less_one;
+use second::totals::more;
+use second::totals::product;
+use second::totals::put_byte;
 
 // The cells; the first three are the pitches.
 fn world_cell(k: usize) -> u8 {

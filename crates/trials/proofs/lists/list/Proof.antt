@@ -45,8 +45,11 @@ loop-less c = search needs
 loop-again : tie.Need-loop-again Inv-loop μ-loop
 loop-again c = search needs
 
-add-requires : tie.Need-add-requires Inv-loop μ-loop
-add-requires c κs = search needs
+endless-requires : tie.Need-endless-requires Inv-loop μ-loop
+endless-requires c κs = search needs
+
+noted-requires : tie.Need-noted-requires Inv-loop μ-loop
+noted-requires c κs = search needs
 
 same-length-5 : tie.Need-same-length-5 Inv-loop μ-loop
 same-length-5 c = search needs
@@ -80,7 +83,8 @@ list-spec =
     add-p
     loop-less
     loop-again
-    add-requires
+    endless-requires
+    noted-requires
     same-length-5
     same-length-6
     same-length-7
