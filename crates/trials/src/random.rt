@@ -216,15 +216,26 @@ fn shape(round: usize, octave: bool) -> Ask {
 
 // What is asked in a round: of the largest scores first.
 fn asked(round: usize, octave: bool) -> Ask {
-    if round < 6 {
-        return large(round, octave);
+    if round < 12 {
+        return large(round % 6, octave);
     }
     shape(round, octave)
 }
 
-// A column of the score.
+// A column of the score, at which the theme has room where it has any.
 fn column_in(a: Ask, round: usize) -> usize {
-    more(draw(round, 8, columns_of(a.cells, a.h) as u64), 1)
+    more(
+        draw(round, 8, starts_in(columns_of(a.cells, a.h), a.notes)),
+        1,
+    )
+}
+
+fn starts_in(n: usize, m: usize) -> u64 {
+    if m <= n {
+        more(n - m, 1) as u64
+    } else {
+        n as u64
+    }
 }
 
 // Another bookmark, mostly no pair: any column up to one behind the last, and any shift up to one above the highest.
@@ -245,7 +256,6 @@ fn shifts_of(octave: bool) -> u64 {
 
 // Each round: the sets of another score and of this one; lists by the other's sets, lists by its own, and a page from another
 // bookmark, both ways.
-
 pub fn random_job(k: usize) -> Job {
     let round = k / 8;
     let what = k % 8;

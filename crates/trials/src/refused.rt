@@ -164,7 +164,6 @@ fn call_at(k: usize) -> u8 {
 }
 
 // Both ends of every range, at each place, both ways.
-
 pub fn end_job(k: usize) -> Job {
     let p = (k / 180 % 3) as u8;
     let c = end(k % 180 / 3, p);
@@ -178,7 +177,6 @@ pub fn end_job(k: usize) -> Job {
 }
 
 // Each refusal alone and each two together, each by each of its faults, both ways; the first faults are written out.
-
 pub fn due_job(k: usize) -> Job {
     let pair = k % 2970 / 27;
     let variant = k % 27 / 3;

@@ -101,7 +101,6 @@ pub fn load_theme(theme: &mut [u8], k: usize) {
 }
 
 // Each case three times: plain and quick, written out, and the two beside one another.
-
 pub fn worked_job(k: usize) -> Job {
     let a = case_ask(k / 3);
     let c = none();

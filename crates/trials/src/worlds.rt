@@ -99,7 +99,6 @@ fn rest_of(w: usize, n: usize) -> usize {
 }
 
 // For each score its sets, and 36 themes both ways.
-
 pub fn world_job(k: usize) -> Job {
     let w = k / 73;
     let y = k % 73;
