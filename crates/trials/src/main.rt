@@ -20,7 +20,18 @@ use report::totals;
 use worked::worked_job;
 use worlds::world_job;
 
-const JOBS: usize = 344058;
+// How many jobs of each family there are: 14 cases four times; 60 ends at three places, both ways, by three calls; 110 pairs of
+// refusals, both ways, by nine pairs of faults and three calls; 4,452 scores with 36 themes, both ways, and their sets; and 1,500
+// rounds of eight.
+const CASES: usize = 56;
+
+const ENDS: usize = 1080;
+
+const DUES: usize = 5940;
+
+const WORLDS: usize = 324996;
+
+const JOBS: usize = 344072;
 
 fn main() {
     let mut cells = [0u8; 34000];
@@ -58,17 +69,20 @@ fn run(
 
 // The worked cases, the ends of the ranges, the refusals that are due, the small world, and pseudo-random scores.
 fn job(k: usize) -> Job {
-    if k < 42 {
+    if k < CASES {
         return worked_job(k);
     }
-    if k < 1122 {
-        return end_job(k - 42);
+    let from_ends = k - CASES;
+    if from_ends < ENDS {
+        return end_job(from_ends);
     }
-    if k < 7062 {
-        return due_job(k - 1122);
+    let from_dues = from_ends - ENDS;
+    if from_dues < DUES {
+        return due_job(from_dues);
     }
-    if k < 332058 {
-        return world_job(k - 7062);
+    let from_worlds = from_dues - DUES;
+    if from_worlds < WORLDS {
+        return world_job(from_worlds);
     }
-    random_job(k - 332058)
+    random_job(from_worlds - WORLDS)
 }

@@ -11,7 +11,6 @@ use crate::jobs::END;
 use crate::jobs::Job;
 use libc::STDOUT_FILENO;
 use second::away::Ask;
-use second::away::PREPARE;
 use second::away::QUICK;
 use second::totals::byte;
 use second::totals::count;
@@ -93,15 +92,7 @@ fn way(octave: bool) {
 }
 
 fn call_name(call: u8) {
-    if call == PREPARE {
-        say(b" prepare");
-        return;
-    }
-    if call == QUICK {
-        say(b" quick");
-        return;
-    }
-    say(b" plain");
+    word_of(b"prepare plain quick both ", size(call));
 }
 
 // A case, whole: the score, the theme and the way.
@@ -182,7 +173,7 @@ fn fault_name(fault: u8) {
 
 // A case that differs, with the sizes of what is lent and the library's answer.
 pub fn differs(cells: &[u8], theme: &[u8], s: &[u16], a: Ask, call: u8, fault: u8, got: Got) {
-    say(b"DIFFERS in");
+    say(b"\nDIFFERS in");
     fault_name(fault);
     say(b":");
     case(cells, theme, a);

@@ -6,8 +6,8 @@ use crate::jobs::Job;
 use crate::jobs::QUIET;
 use crate::jobs::WORKED;
 use second::away::Ask;
-use second::away::BOTH;
 use second::away::PLAIN;
+use second::away::PREPARE;
 use second::away::QUICK;
 use second::away::columns_of;
 use second::finder::lowest;
@@ -100,34 +100,33 @@ pub fn load_theme(theme: &mut [u8], k: usize) {
     }
 }
 
-// Each case three times: plain and quick, written out, and the two beside one another.
+// Each case four times: its sets; plain and quick, written out; and the two beside one another.
 pub fn worked_job(k: usize) -> Job {
-    let a = case_ask(k / 3);
+    let a = case_ask(k / 4);
     let c = none();
-    let call = call_of(k % 3);
+    let call = (k % 4) as u8;
     Job {
         source: WORKED,
-        sets_of: k / 3,
-        score: k / 3,
-        theme: k / 3,
+        sets_of: k / 4,
+        score: k / 4,
+        theme: k / 4,
         a,
         c,
         d: c,
         call,
-        whole: true,
+        whole: call != PREPARE,
         deep: true,
-        loud: call != BOTH,
+        loud: loud_at(call),
         head: head_of(call),
         low: 0,
         high: 0,
     }
 }
 
-fn call_of(k: usize) -> u8 {
-    match k {
-        0 => PLAIN,
-        1 => QUICK,
-        _ => BOTH,
+fn loud_at(call: u8) -> bool {
+    match call {
+        PLAIN | QUICK => true,
+        _ => false,
     }
 }
 
