@@ -4,6 +4,7 @@ use crate::calls::Got;
 use crate::calls::refused;
 use crate::compare::LOOKS;
 use crate::compare::PAGES as PAGES_FAULT;
+use crate::compare::REFUSAL;
 use crate::compare::Seen;
 use crate::compare::turn_both;
 use crate::compare::turn_plain;
@@ -120,15 +121,19 @@ fn whole_fault(a: Ask, r: Reading) -> u8 {
     0
 }
 
-// What was seen of a page, and of the list where it is over.
+// What was seen of a page, and of the list where it is over. A list is asked for where nothing is turned away.
 fn judged(a: Ask, r: Reading, s: Seen) -> Seen {
     if s.fault != 0 {
         return s;
     }
     let got = s.got;
+    let mut fault = whole_fault(a, r);
+    if got.number != 0 {
+        fault = REFUSAL;
+    }
     Seen {
         call: s.call,
-        fault: whole_fault(a, r),
+        fault,
         got,
     }
 }
