@@ -2,6 +2,7 @@
 // three in turn, on changes to an accepted one.
 
 use crate::changes::Change;
+use crate::changes::SET;
 use crate::changes::changed;
 use crate::changes::none;
 use crate::changes::place_of;
@@ -163,12 +164,28 @@ fn call_at(k: usize) -> u8 {
     (k % 3) as u8
 }
 
+// Before a middle and a last place: the highest number that is right, at the first one.
+fn highest(what: u16, p: u8) -> Change {
+    if p == 0 {
+        return none();
+    }
+    let mut value: u16 = 127;
+    if what == SET {
+        value = 4095;
+    }
+    Change {
+        what,
+        place: 0,
+        value,
+    }
+}
+
 // Both ends of every range, at each place, both ways.
 pub fn end_job(k: usize) -> Job {
     let p = (k / 180 % 3) as u8;
     let c = end(k % 180 / 3, p);
     let call = call_at(k);
-    let mut j = refused_job(540 <= k, c, none(), call);
+    let mut j = refused_job(540 <= k, c, highest(c.what, p), call);
     j.head = head_at(call, END);
     if !placed(c.what, p) {
         j.source = 0;
@@ -176,12 +193,12 @@ pub fn end_job(k: usize) -> Job {
     j
 }
 
-// Each refusal alone and each two together, each by each of its faults, both ways; the first faults are written out.
+// Each refusal alone, twice, and each two together, each by each of its faults, both ways; the first faults are written out.
 pub fn due_job(k: usize) -> Job {
-    let pair = k % 2970 / 27;
+    let pair = k % 3267 / 27;
     let variant = k % 27 / 3;
     let call = call_at(k);
-    let mut j = due_of(2970 <= k, pair / 11, pair % 11, variant, call);
+    let mut j = due_of(3267 <= k, pair / 11, pair % 11, variant, call);
     j.loud = variant == 0;
     if variant == 0 {
         j.head = head_at(call, DUE);
@@ -189,7 +206,7 @@ pub fn due_job(k: usize) -> Job {
     j
 }
 
-// The lower below the higher; 0 is none, so that each stands alone too.
+// The lower is not above the higher; 0 is none, so that each stands alone too.
 fn due_of(octave: bool, low: usize, high: usize, variant: usize, call: u8) -> Job {
     let mut j = refused_job(
         octave,
@@ -199,7 +216,10 @@ fn due_of(octave: bool, low: usize, high: usize, variant: usize, call: u8) -> Jo
     );
     j.low = low;
     j.high = high;
-    if high <= low {
+    if high < low {
+        j.source = 0;
+    }
+    if high == 0 {
         j.source = 0;
     }
     j

@@ -10,7 +10,7 @@ abbrev Inv-loop : tie.InvT-loop
 Inv-loop cells₀ theme₀ sets₀ table₀ columns₀ shifts₀ tally₀ k₀ cells theme sets table columns shifts tally k = (length cells ≡ length cells₀) × (length theme ≡ length theme₀) × (length sets ≡ length sets₀) × (length table ≡ length table₀) × (length columns ≡ length columns₀) × (length shifts ≡ length shifts₀) × (length tally ≡ length tally₀)
 
 abbrev μ-loop : tie.MeasureT-loop
-μ-loop cells₀ theme₀ sets₀ table₀ columns₀ shifts₀ tally₀ k₀ cells theme sets table columns shifts tally k = 344072 - k
+μ-loop cells₀ theme₀ sets₀ table₀ columns₀ shifts₀ tally₀ k₀ cells theme sets table columns shifts tally k = 344666 - k
 
 loop-holds : tie.Need-loop-holds Inv-loop μ-loop
 loop-holds c = search needs
