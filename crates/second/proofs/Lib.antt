@@ -1,0 +1,2 @@
+-- What the leaves of `totals` need of signed numbers.
+mod Signs

@@ -1,0 +1,54 @@
+-- `second::finder::interval` meets its contract: it is safe, and the measure is what is left of its range. Assumes nothing.
+use Prim.Native.Nat.{_-_}
+use borrow.Author.Needs.{needs}
+use Rattle.second.proofs.finder.interval.Statement.{statement}
+use Rattle.second.proofs.finder.interval.Tie as tie
+
+abbrev Inv-loop : tie.InvT-loop
+Inv-loop x y d₀ d = Unit {0}
+
+abbrev μ-loop : tie.MeasureT-loop
+μ-loop x y d₀ d = 12 - d
+
+loop-holds : tie.Need-loop-holds Inv-loop μ-loop
+loop-holds c = search needs
+
+whole-requires : tie.Need-whole-requires Inv-loop μ-loop
+whole-requires c κs = search needs
+
+apart-requires : tie.Need-apart-requires Inv-loop μ-loop
+apart-requires c κs = search needs
+
+twelves-requires : tie.Need-twelves-requires Inv-loop μ-loop
+twelves-requires c κs = search needs
+
+returns : tie.Need-returns Inv-loop μ-loop
+returns c = search needs
+
+add-d : tie.Need-add-d Inv-loop μ-loop
+add-d c = search needs
+
+loop-less : tie.Need-loop-less Inv-loop μ-loop
+loop-less c = search needs
+
+loop-again : tie.Need-loop-again Inv-loop μ-loop
+loop-again c = search needs
+
+returns-2 : tie.Need-returns-2 Inv-loop μ-loop
+returns-2 c = search needs
+
+pub interval-spec : {M : Type 1} → statement M
+interval-spec =
+    tie.close
+    (tie.spec
+    Inv-loop
+    μ-loop
+    loop-holds
+    whole-requires
+    apart-requires
+    twelves-requires
+    returns
+    add-d
+    loop-less
+    loop-again
+    returns-2)

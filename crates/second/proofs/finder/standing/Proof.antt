@@ -1,0 +1,54 @@
+-- `second::finder::standing` meets its contract: it is safe, and the measure is what is left of its range. Assumes nothing.
+use Prim.Native.Nat.{_-_}
+use borrow.Author.Needs.{needs}
+use Rattle.second.proofs.finder.standing.Statement.{statement}
+use Rattle.second.proofs.finder.standing.Tie as tie
+
+abbrev Inv-loop : tie.InvT-loop
+Inv-loop cells h theme m octave j c i₀ i = Unit {0}
+
+abbrev μ-loop : tie.MeasureT-loop
+μ-loop cells h theme m octave j c i₀ i = m - i
+
+loop-holds : tie.Need-loop-holds Inv-loop μ-loop
+loop-holds c = search needs
+
+more-requires : tie.Need-more-requires Inv-loop μ-loop
+more-requires c κs = search needs
+
+byte-requires : tie.Need-byte-requires Inv-loop μ-loop
+byte-requires c κs = search needs
+
+holds-requires : tie.Need-holds-requires Inv-loop μ-loop
+holds-requires c κs = search needs
+
+returns : tie.Need-returns Inv-loop μ-loop
+returns c = search needs
+
+add-i : tie.Need-add-i Inv-loop μ-loop
+add-i c = search needs
+
+loop-less : tie.Need-loop-less Inv-loop μ-loop
+loop-less c = search needs
+
+loop-again : tie.Need-loop-again Inv-loop μ-loop
+loop-again c = search needs
+
+returns-2 : tie.Need-returns-2 Inv-loop μ-loop
+returns-2 c = search needs
+
+pub standing-spec : {M : Type 1} → statement M
+standing-spec =
+    tie.close
+    (tie.spec
+    Inv-loop
+    μ-loop
+    loop-holds
+    more-requires
+    byte-requires
+    holds-requires
+    returns
+    add-i
+    loop-less
+    loop-again
+    returns-2)

@@ -1,0 +1,135 @@
+// The requirement's worked cases, written out page after page.
+
+use crate::changes::none;
+use crate::jobs::CASE;
+use crate::jobs::Job;
+use crate::jobs::QUIET;
+use crate::jobs::WORKED;
+use second::away::Ask;
+use second::away::PLAIN;
+use second::away::PREPARE;
+use second::away::QUICK;
+use second::away::columns_of;
+use second::finder::lowest;
+use second::totals::less_one;
+use second::totals::more;
+use second::totals::put_byte;
+use second::totals::size;
+
+// The scores: K first, then those of one track.
+const SCORES: [[u8; 10]; 6] = [
+    [60, 67, 62, 69, 64, 255, 65, 72, 255, 67],
+    [0, 0, 0, 0, 0, 0, 0, 0, 0, 0],
+    [127, 127, 0, 0, 0, 0, 0, 0, 0, 0],
+    [120, 0, 0, 0, 0, 0, 0, 0, 0, 0],
+    [60, 255, 62, 0, 0, 0, 0, 0, 0, 0],
+    [60, 0, 0, 0, 0, 0, 0, 0, 0, 0],
+];
+
+// A row for each case: score, tracks, cells, notes, 1 for octave, room; then up to three notes.
+const ROWS: usize = 14;
+
+const CASES: [[u8; 9]; 14] = [
+    [0, 2, 10, 3, 0, 4, 60, 62, 64],
+    [0, 2, 10, 2, 0, 4, 67, 62, 0],
+    [0, 2, 10, 2, 0, 2, 67, 62, 0],
+    [0, 2, 10, 2, 0, 3, 67, 62, 0],
+    [0, 2, 10, 3, 0, 4, 60, 67, 69],
+    [0, 2, 10, 3, 1, 4, 60, 67, 69],
+    [0, 2, 10, 3, 1, 4, 60, 69, 71],
+    [1, 1, 2, 2, 0, 4, 127, 127, 0],
+    [2, 1, 2, 2, 0, 4, 0, 0, 0],
+    [3, 1, 2, 2, 0, 4, 0, 12, 0],
+    [3, 1, 2, 2, 1, 4, 0, 12, 0],
+    [4, 1, 3, 2, 0, 4, 60, 62, 0],
+    [4, 1, 3, 2, 1, 4, 60, 62, 0],
+    [5, 1, 1, 2, 0, 4, 60, 62, 0],
+];
+
+// A cell of a score.
+fn cell(score: usize, i: usize) -> u8 {
+    if score < 6 {
+        if i < 10 {
+            return SCORES[score][i];
+        }
+    }
+    255
+}
+
+// A number of a case's row.
+fn item(k: usize, i: usize) -> u8 {
+    if k < ROWS {
+        if i < 9 {
+            return CASES[k][i];
+        }
+    }
+    0
+}
+
+// What a case asks, from its first bookmark.
+pub fn case_ask(k: usize) -> Ask {
+    let h = size(item(k, 1));
+    let cells = size(item(k, 2));
+    let room = size(item(k, 5));
+    let octave = item(k, 4) == 1;
+    let shift = lowest(octave);
+    Ask {
+        h,
+        cells,
+        notes: size(item(k, 3)),
+        sets: less_one(columns_of(cells, h)),
+        table: 4096,
+        columns: room,
+        shifts: room,
+        octave,
+        column: 1,
+        shift,
+    }
+}
+
+// Puts a case's score into the lent buffer.
+pub fn load(cells: &mut [u8], k: usize) {
+    for i in 0..10 {
+        put_byte(cells, i, cell(size(item(k, 0)), i));
+    }
+}
+
+pub fn load_theme(theme: &mut [u8], k: usize) {
+    for i in 0..3 {
+        put_byte(theme, i, item(k, more(i, 6)));
+    }
+}
+
+// Each case four times: its sets; plain and quick, written out; and the two beside one another.
+pub fn worked_job(k: usize) -> Job {
+    let a = case_ask(k / 4);
+    let c = none();
+    let call = (k % 4) as u8;
+    Job {
+        source: WORKED,
+        sets_of: k / 4,
+        score: k / 4,
+        theme: k / 4,
+        a,
+        c,
+        d: c,
+        call,
+        whole: call != PREPARE,
+        deep: true,
+        loud: loud_at(call),
+        head: head_of(call),
+        low: 0,
+        high: 0,
+    }
+}
+
+fn loud_at(call: u8) -> bool {
+    match call {
+        PLAIN | QUICK => true,
+        _ => false,
+    }
+}
+
+fn head_of(call: u8) -> u8 {
+    if call == PLAIN { CASE } else { QUIET }
+}

@@ -1,0 +1,135 @@
+// A small world, whole: every score of one and two tracks and up to three columns over the cells 0, 12, 127 and rest, with every
+// theme of two and three notes over those pitches, both ways.
+
+use crate::changes::none;
+use crate::jobs::Job;
+use crate::jobs::QUIET;
+use crate::jobs::WORLD;
+use second::away::Ask;
+use second::away::BOTH;
+use second::away::PREPARE;
+use second::finder::lowest;
+use second::totals::less_one;
+use second::totals::more;
+use second::totals::product;
+use second::totals::put_byte;
+
+// The cells; the first three are the pitches.
+fn world_cell(k: usize) -> u8 {
+    match k {
+        0 => 0,
+        1 => 12,
+        2 => 127,
+        _ => 255,
+    }
+}
+
+// So many bytes by the digits of x in a base.
+pub fn spell(s: &mut [u8], many: usize, x: usize, base: usize) {
+    if base == 0 {
+        return;
+    }
+    let mut rest = x;
+    for i in 0..many {
+        put_byte(s, i, world_cell(rest % base));
+        rest = rest / base;
+    }
+}
+
+// The rooms that pages are tried at.
+pub fn room_of(k: usize) -> usize {
+    match k % 5 {
+        0 => 1,
+        1 => 2,
+        2 => 3,
+        3 => 7,
+        _ => 40,
+    }
+}
+
+// What is asked of a score from the first bookmark on.
+pub fn ask_of(h: usize, n: usize, m: usize, octave: bool, room: usize) -> Ask {
+    let shift = lowest(octave);
+    Ask {
+        h,
+        cells: product(n, h),
+        notes: m,
+        sets: less_one(n),
+        table: 4096,
+        columns: room,
+        shifts: room,
+        octave,
+        column: 1,
+        shift,
+    }
+}
+
+// How many notes theme y has: the first nine have two, the others three.
+fn notes_of(y: usize) -> usize {
+    if y < 9 { 2 } else { 3 }
+}
+
+// Of the 4,452 scores the first 84 have one track, the others two; the first of each have one column, then two, then three.
+fn tracks_of(w: usize) -> usize {
+    if w < 84 { 1 } else { 2 }
+}
+
+fn columns_in(w: usize) -> usize {
+    match w {
+        0..=3 | 84..=99 => 1,
+        4..=19 | 100..=355 => 2,
+        _ => 3,
+    }
+}
+
+// The number of a score among those of its shape.
+fn number_of(w: usize) -> usize {
+    match w {
+        0..=3 => w,
+        4..=19 => w - 4,
+        20..=83 => w - 20,
+        84..=99 => w - 84,
+        100..=355 => w - 100,
+        _ => rest_of(w, 356),
+    }
+}
+
+fn rest_of(w: usize, n: usize) -> usize {
+    if n <= w { w - n } else { 0 }
+}
+
+// For each score its sets, and 36 themes both ways.
+pub fn world_job(k: usize) -> Job {
+    let w = k / 73;
+    let y = k % 73;
+    let x = number_of(w);
+    let a = ask_of(
+        tracks_of(w),
+        columns_in(w),
+        notes_of(y / 2),
+        y % 2 == 1,
+        room_of(more(x, y)),
+    );
+    let c = none();
+    Job {
+        source: WORLD,
+        sets_of: x,
+        score: x,
+        theme: y / 2,
+        a,
+        c,
+        d: c,
+        call: call_of(y),
+        whole: y < 72,
+        deep: x == 0,
+        loud: false,
+        head: QUIET,
+        low: 0,
+        high: 0,
+    }
+}
+
+// The sets are tried last.
+fn call_of(y: usize) -> u8 {
+    if y < 72 { BOTH } else { PREPARE }
+}
