@@ -3,7 +3,7 @@
 use mathlib.Core.Path.{_≡_, refl, sym, subst}
 use mathlib.Core.Bool.{Bool, true, false, not, _||_, true≢false}
 use mathlib.Core.Logic.{_↔_}
-use mathlib.Core.List.{List, [], _∷_}
+use mathlib.Core.List.{List, [], _∷_, _++_}
 use Prim.Native.Nat.{ℕ, zero, suc, _+_, _-_, _%_, _≤_}
 use native.Mathlib.Omega.{arith}
 use lib.Dec.{eqb, ltb, T}
@@ -16,9 +16,9 @@ use Rattle.score.specs.Refusals.{Row, row1, row2, row3, row6, row7}
 use Rattle.asking.specs.declared.way.Way.{Way}
 use Rattle.asking.specs.declared.bookmark.Bookmark.{Bookmark}
 use Rattle.asking.specs.Way.{lowest, highest}
-use Rattle.asking.specs.Refusals.{row4, row5, row8, row9, row10}
-use Rattle.asking.specs.Asking.{Accepted, AcceptedSets, InRange}
-use Rattle.score.proofs.Judged.{Clear}
+use Rattle.asking.specs.Refusals.{row4, row5, row8, row9, row10, plainRows, quickRows}
+use Rattle.asking.specs.Asking.{Accepted, AcceptedSets, InRange, PlainAsks, QuickAsks}
+use Rattle.score.proofs.Judged.{Clear, clear-append, clear-split}
 
 -- ---- tests that fail
 
@@ -137,4 +137,34 @@ module _ (way : Way) (n : ℕ) (b : Bookmark) (columns : List ℕ) (shifts : Lis
   page-clear = (
     λ a. (row9-clear columns shifts .1 (a .0, a .1), (row10-clear way n b .1 (a .2), tt)),
     λ c. let r = row9-clear columns shifts .0 (c .0) in (r .0, r .1, row10-clear way n b .0 (c .1 .0)),
+  )
+
+-- ---- a call is asked right exactly where none of its rows applies
+
+module _ (cells : List ℕ) (h : ℕ) (theme : List ℕ) (way : Way) (b : Bookmark) (columns : List ℕ) (shifts : List ℤ) where
+  pub plain-clear : PlainAsks cells h theme way b columns shifts ↔ Clear (plainRows cells h theme way b columns shifts)
+  plain-clear = (
+    λ a. clear-append (scoreRows cells h theme) (pageRows way (columnsIn cells h) b columns shifts) (accepted-clear cells h theme .0 (a .accepted))
+        (page-clear way (columnsIn cells h) b columns shifts .0 (a .room, a .same-room, a .marked)),
+    λ c. let d = clear-split (scoreRows cells h theme) (pageRows way (columnsIn cells h) b columns shifts) c in
+        let p = page-clear way (columnsIn cells h) b columns shifts .1 (d .1) in
+        record { accepted = accepted-clear cells h theme .1 (d .0); room = p .0; same-room = p .1; marked = p .2 },
+  )
+
+module _ (cells : List ℕ) (h : ℕ) (theme : List ℕ) (way : Way) (b : Bookmark) (sets table columns : List ℕ) (shifts : List ℤ) where
+  pub quick-clear : QuickAsks cells h theme way b sets table columns shifts ↔ Clear (quickRows cells h theme way b sets table columns shifts)
+  quick-clear = (
+    λ a. clear-append (scoreRows cells h theme) (setsRows cells h sets table ++ pageRows way (columnsIn cells h) b columns shifts)
+        (accepted-clear cells h theme .0 (a .plain .accepted))
+        (clear-append (setsRows cells h sets table) (pageRows way (columnsIn cells h) b columns shifts) (sets-clear cells h sets table .0 (a .with-sets, a .table-long))
+        (page-clear way (columnsIn cells h) b columns shifts .0 (a .plain .room, a .plain .same-room, a .plain .marked))),
+    λ c. let d = clear-split (scoreRows cells h theme) (setsRows cells h sets table ++ pageRows way (columnsIn cells h) b columns shifts) c in
+        let e = clear-split (setsRows cells h sets table) (pageRows way (columnsIn cells h) b columns shifts) (d .1) in
+        let s = sets-clear cells h sets table .1 (e .0) in
+        let p = page-clear way (columnsIn cells h) b columns shifts .1 (e .1) in
+        record {
+          plain = record { accepted = accepted-clear cells h theme .1 (d .0); room = p .0; same-room = p .1; marked = p .2 };
+          with-sets = s .0;
+          table-long = s .1;
+        },
   )

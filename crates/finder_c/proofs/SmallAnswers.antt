@@ -20,11 +20,12 @@ use Rattle.preparing.specs.Preparing.{Filled, prepared}
 use Rattle.score.proofs.Columns.{columns-whole}
 use Rattle.asking.specs.declared.way.Way.{Way}
 use Rattle.asking.specs.declared.bookmark.Bookmark.{Bookmark}
-use Rattle.search.specs.Starts.{Place, key, starts, looked, hit, looks}
+use Rattle.walking.specs.Starts.{Place, key, starts, looked, hit, looks}
 use Rattle.asking.specs.Bookmarks.{keyOf}
 use Rattle.asking.specs.Refusals.{row4, row5, row8, row9, row10, badNote}
-use Rattle.search.specs.Candidates.{themeTable}
-use Rattle.search.specs.Page.{Leaf, QuickLeaf, leaf, plainPage, quickPage, quickStarts}
+use Rattle.filter.specs.Table.{themeTable}
+use Rattle.search.specs.Page.{Leaf, QuickLeaf, leaf, plainPage, quickPage}
+use Rattle.walking.specs.Candidates.{quickStarts}
 use Rattle.asking.specs.Refusals.{plainRows, quickRows}
 use Rattle.asking.proofs.Rows.{row1-clear, row2-clear, row4-clear, row6-clear, pageRows}
 use Rattle.search.proofs.PlainCall.{plainRefused, plainLeaf}

@@ -7,9 +7,10 @@ use Rattle.theory.specs.Register.{step, register}
 use Rattle.score.specs.Sets.{apart, intervalSet}
 use Rattle.asking.specs.declared.way.Way.the-variants.{Exact}
 use Rattle.asking.specs.Way.{holds}
-use Rattle.search.specs.Starts.{hit, looks}
-use Rattle.search.specs.Candidates.{word, themeTable, candidate}
-use Rattle.search.specs.Page.{quickStarts}
+use Rattle.walking.specs.Starts.{hit, looks}
+use Rattle.filter.specs.Table.{word, themeTable}
+use Rattle.walking.specs.Candidates.{candidate}
+use Rattle.walking.specs.Candidates.{quickStarts}
 use Rattle.telling.specs.Text.{digits}
 use Rattle.listing.specs.Reading.{moreDigits, number, cell, fields, chordLine, themeLine}
 use Rattle.listing.specs.Request.{Request, chords, meaning, fieldsText, textOf}

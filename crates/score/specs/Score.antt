@@ -1,5 +1,5 @@
 -- A score: a run of cells, column after column, h cells a column, one per track. A cell 0 to 127 is a pitch, 255 a rest.
--- The definition that matters is `pitches`, what a pitch of a column is. Assumes nothing.
+-- The definitions that matter are `pitches`, what a pitch of a column is, and `note`, what a note of a theme is. Assumes nothing.
 use mathlib.Core.Bool.{cond}
 use mathlib.Core.List.{List, [], _∷_}
 use Prim.Native.Nat.{ℕ, zero, suc, _-_, _/_}
@@ -41,3 +41,7 @@ onward score j = drop (j .0 - 1) score
 abbrev pub pitches : (column : List ℕ) → List Pitch
 pitches [] = []
 pitches (cell ∷ cells) = cond (leb cell 127) (pitch cell ∷ pitches cells) (pitches cells)
+
+-- a theme is a run of pitches: its i-th note, from 1
+abbrev pub note : (theme : List ℕ) → ℕ → Pitch
+note theme i = pitch (getD theme (i - 1) 0)

@@ -13,12 +13,12 @@ use borrow.Author.Tests.{le-leb, lt-leb, leb-true, leb-false, ltb-true, ltb-fals
 use Rattle.asking.specs.declared.way.Way.{Way}
 use Rattle.asking.specs.declared.bookmark.Bookmark.{Bookmark}
 use Rattle.asking.specs.Way.{shiftOf, codeOf}
-use Rattle.search.specs.Starts.{Place, key}
+use Rattle.walking.specs.Starts.{Place, key}
 use Rattle.search.specs.Pairs.{pairAt}
 use Rattle.asking.specs.Bookmarks.{keyOf}
 use Rattle.search.specs.OnePage.{atOrAfter}
 use Rattle.asking.specs.Asking.{InRange}
-use Rattle.search.proofs.Order.{span-lt}
+use Rattle.walking.proofs.Order.{span-lt}
 use Rattle.asking.proofs.Shifts.{shift-code, shift-rises, code-le}
 use Rattle.search.proofs.Turning.{Found}
 

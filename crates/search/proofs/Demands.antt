@@ -32,15 +32,18 @@ use Rattle.score.proofs.Columns.{score-length, column-le}
 use Rattle.asking.specs.declared.way.Way.{Way}
 use Rattle.asking.specs.declared.bookmark.Pair.{Pair}
 use Rattle.asking.specs.declared.bookmark.Bookmark.{Bookmark}
-use Rattle.search.specs.Starts.{Place, starts, hit, looks}
+use Rattle.walking.specs.Starts.{Place, starts, hit, looks}
 use Rattle.search.specs.Pairs.{pairAt, pairs}
-use Rattle.search.specs.Candidates.{themeTable, candidate}
+use Rattle.filter.specs.Table.{themeTable}
+use Rattle.walking.specs.Candidates.{candidate}
 use Rattle.asking.specs.Bookmarks.{firstBookmark, keyOf}
-use Rattle.search.specs.Page.{spent, plainPage, quickPage, quickStarts}
+use Rattle.walking.specs.Found.{spent}
+use Rattle.search.specs.Page.{plainPage, quickPage}
+use Rattle.walking.specs.Candidates.{quickStarts}
 use Rattle.asking.specs.Asking.{Accepted, AcceptedSets, InRange, PlainAsks}
 use Rattle.search.specs.OnePage.{PageOf}
 use Rattle.search.specs.Demands.{allLooks, candidateLooks, mostLooks, candidatePairs, Lists}
-use Rattle.search.proofs.LookBound.{most-lt, sum-looks-le, sum-looks-none, page-looks-within, reached-page-within}
+use Rattle.walking.proofs.LookBound.{most-lt, sum-looks-le, sum-looks-none, page-looks-within, reached-page-within}
 use Rattle.search.proofs.Readings.{search-lists}
 use Rattle.search.proofs.Searches.{plainSearch, plain-calls, quickSearch, quick-calls}
 use Rattle.search.proofs.OnePages.{call-page}

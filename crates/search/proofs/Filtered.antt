@@ -25,13 +25,15 @@ use Rattle.asking.specs.declared.way.Way.{Way}
 use Rattle.asking.specs.declared.way.Way.the-variants.{Exact, Octave}
 use Rattle.asking.specs.declared.bookmark.Pair.{Pair}
 use Rattle.asking.specs.Way.{holds}
-use Rattle.search.specs.Definition.{note, Stands}
-use Rattle.search.specs.Starts.{Place, starts, hit}
-use Rattle.search.specs.Candidates.{themeInterval, themeTable, candidate}
-use Rattle.search.proofs.Order.{in-starts}
+use Rattle.score.specs.Score.{note}
+use Rattle.search.specs.Definition.{Stands}
+use Rattle.walking.specs.Starts.{Place, starts, hit}
+use Rattle.filter.specs.Table.{themeInterval, themeTable}
+use Rattle.walking.specs.Candidates.{candidate}
+use Rattle.walking.proofs.Order.{in-starts}
 use Rattle.search.proofs.Notes.{Each, hit-each}
 use Rattle.search.proofs.Listed.{placeOf, stands-each}
-use Rattle.search.proofs.Words.{word-in, table-at}
+use Rattle.filter.proofs.Words.{word-in, table-at}
 
 -- ---- any table and any lent sets
 

@@ -1,14 +1,10 @@
--- Laws of this crate's definitions. Places: `Order` (the starts, which they are and that they rise), `Notes` (all notes),
--- `LookBound`. The list: `Listed`. Candidates: `Words` (the theme table), `Filtered`. The worked cases: `Worked`. Calls: `Answers`,
+-- Laws of this crate's definitions. Places: `Notes` (all notes). The list: `Listed`. Candidates: `Filtered`. The worked cases: `Worked`. Calls: `Answers`,
 -- `PlainCall`, `QuickCall`. Pages: `Turning` (bookmarks, and what is read back), `Paging` (one page), `Readings` (page after page),
 -- `Searches` (plain and quick), `Quicker` (quick and plain compared), `AtOrAfter` and `OnePages` (a page, said of pairs).
 -- What all this comes to: `Demands`.
-pub mod Order
 pub mod Notes
-pub mod LookBound
 pub mod Listed
 pub mod Once
-pub mod Words
 pub mod Filtered
 pub mod Worked
 pub mod Answers

@@ -18,10 +18,11 @@ use Rattle.score.specs.Score.{pitch, columnAt, onward}
 use Rattle.asking.specs.declared.way.Way.{Way}
 use Rattle.asking.specs.declared.bookmark.Pair.{Pair}
 use Rattle.asking.specs.Way.{lowest, codeOf}
-use Rattle.search.specs.Definition.{note, Stands}
-use Rattle.search.specs.Starts.{Place, place, key, starts, hit}
+use Rattle.score.specs.Score.{note}
+use Rattle.search.specs.Definition.{Stands}
+use Rattle.walking.specs.Starts.{Place, place, key, starts, hit}
 use Rattle.search.specs.Pairs.{pairAt, pairs, Before, Ordered, none, one, more}
-use Rattle.search.proofs.Order.{span-lt, Start, in-starts, starts-in, starts-rising}
+use Rattle.walking.proofs.Order.{span-lt, Start, in-starts, starts-in, starts-rising}
 use Rattle.asking.proofs.Shifts.{code-shift, shift-rises, shift-above, shift-below, shift-code, code-lt}
 use Rattle.asking.proofs.Holding.{holds-true, true-holds}
 use Rattle.search.proofs.Notes.{Each, hit-each, each-hit}

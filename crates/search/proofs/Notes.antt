@@ -11,8 +11,8 @@ use lib.Seq.{getD-drop}
 use Rattle.score.specs.Score.{pitch, columnAt, onward}
 use Rattle.asking.specs.declared.way.Way.{Way}
 use Rattle.asking.specs.Way.{holds}
-use Rattle.search.specs.Definition.{note}
-use Rattle.search.specs.Starts.{Place, follows, hit}
+use Rattle.score.specs.Score.{note}
+use Rattle.walking.specs.Starts.{Place, follows, hit}
 
 next-column : (columns : List (List ℕ)) (i : ℕ) → getD (drop 1 columns) i [] ≡ getD columns (suc i) []
 next-column [] i = refl

@@ -18,7 +18,7 @@ use Rattle.score.specs.Score.{columnAt}
 use Rattle.asking.specs.declared.bookmark.Pair.{Pair}
 use Rattle.asking.specs.declared.bookmark.Bookmark.{Bookmark}
 use Rattle.asking.specs.Way.{lowest, shiftOf}
-use Rattle.search.specs.Starts.{Place, place, key}
+use Rattle.walking.specs.Starts.{Place, place, key}
 use Rattle.search.specs.Pairs.{pairAt}
 use Rattle.asking.specs.Bookmarks.{keyOf}
 use Rattle.search.specs.Page.{Leaf}

@@ -19,10 +19,11 @@ use Rattle.asking.specs.declared.bookmark.Bookmark.{Bookmark}
 use Rattle.search.specs.declared.page.Turn.{Turn}
 use Rattle.search.specs.declared.page.Page.{Page}
 use Rattle.search.specs.declared.page.Page.the-variants.{Turned, Refused}
-use Rattle.search.specs.Starts.{Place, place, key, hit, looks}
+use Rattle.walking.specs.Starts.{Place, place, key, hit, looks}
 use Rattle.search.specs.Pairs.{pairAt}
 use Rattle.asking.specs.Bookmarks.{afterPair, finishedBookmark, keyOf}
-use Rattle.search.specs.Page.{Leaf, columnsOf, shiftsOf, turn, leaf}
+use Rattle.search.specs.Page.{Leaf, turn, leaf}
+use Rattle.walking.specs.Found.{columnsOf, shiftsOf}
 use Rattle.search.specs.Reading.{readPairs, Turns}
 use Rattle.asking.specs.Asking.{InRange}
 use Rattle.search.proofs.Turning.{Found, key-next, after-range, finished-range, read-back}

@@ -17,12 +17,12 @@ use Rattle.asking.specs.declared.bookmark.Bookmark.{Bookmark}
 use Rattle.search.specs.declared.page.Turn.{Turn}
 use Rattle.search.specs.declared.page.Page.{Page}
 use Rattle.search.specs.declared.page.Page.the-variants.{Turned, Refused}
-use Rattle.search.specs.Starts.{starts}
+use Rattle.walking.specs.Starts.{starts}
 use Rattle.search.specs.Page.{Leaf, leaf, plainPage, PlainPages}
 use Rattle.asking.specs.Asking.{PlainAsks}
 use Rattle.asking.specs.Refusals.{plainRows}
-use Rattle.score.proofs.Judged.{Clear, clear-append, clear-split, judge-clear}
-use Rattle.asking.proofs.Rows.{scoreRows, pageRows, accepted-clear, page-clear}
+use Rattle.score.proofs.Judged.{judge-clear}
+use Rattle.asking.proofs.Rows.{plain-clear}
 use Rattle.search.proofs.Answers.{answer-turned, answer-refused, answer-kept}
 
 module _ (cells : List ℕ) (h : ℕ) (theme : List ℕ) (way : Way) (b : Bookmark) (columns : List ℕ) (shifts : List ℤ) where
@@ -32,25 +32,16 @@ module _ (cells : List ℕ) (h : ℕ) (theme : List ℕ) (way : Way) (b : Bookma
   abbrev pub plainLeaf : Leaf
   plainLeaf = leaf way (scoreOf cells h) theme (starts way (scoreOf cells h) theme) b columns shifts
 
-  pub plain-clear : PlainAsks cells h theme way b columns shifts ↔ Clear (plainRows cells h theme way b columns shifts)
-  plain-clear = (
-    λ a. clear-append (scoreRows cells h theme) (pageRows way (columnsIn cells h) b columns shifts) (accepted-clear cells h theme .0 (a .accepted))
-        (page-clear way (columnsIn cells h) b columns shifts .0 (a .room, a .same-room, a .marked)),
-    λ c. let d = clear-split (scoreRows cells h theme) (pageRows way (columnsIn cells h) b columns shifts) c in
-        let p = page-clear way (columnsIn cells h) b columns shifts .1 (d .1) in
-        record { accepted = accepted-clear cells h theme .1 (d .0); room = p .0; same-room = p .1; marked = p .2 },
-  )
-
   -- it then turns a page, and only then
   pub plain-leaf : PlainAsks cells h theme way b columns shifts → plainPage cells h theme way b columns shifts ≡ plainLeaf
   unfolding plainPage
-  plain-leaf a = judge-clear plainRefused plainLeaf (plainRows cells h theme way b columns shifts) (plain-clear .0 a)
+  plain-leaf a = judge-clear plainRefused plainLeaf (plainRows cells h theme way b columns shifts) (plain-clear cells h theme way b columns shifts .0 a)
 
   pub plain-turned : ((t : Turn) × (plainPage cells h theme way b columns shifts .answer ≡ Turned t)) ↔ PlainAsks cells h theme way b columns shifts
   unfolding plainPage
   plain-turned =
       let e = answer-turned (λ (l : Leaf). l .answer) plainRefused (λ r. refl) plainLeaf _ refl (plainRows cells h theme way b columns shifts) in
-      (λ t. plain-clear .1 (e .0 t), λ a. e .1 (plain-clear .0 a))
+      (λ t. plain-clear cells h theme way b columns shifts .1 (e .0 t), λ a. e .1 (plain-clear cells h theme way b columns shifts .0 a))
 
   -- otherwise it gives exactly the first refusal that applies
   pub plain-refused : (k p : ℕ) → (plainPage cells h theme way b columns shifts .answer ≡ Refused (record { number = k; place = p }))

@@ -14,12 +14,13 @@ use Rattle.asking.specs.declared.bookmark.Bookmark.{Bookmark}
 use Rattle.search.specs.declared.page.Turn.{Turn}
 use Rattle.search.specs.declared.page.Page.{Page}
 use Rattle.search.specs.declared.page.Page.the-variants.{Turned, Refused}
-use Rattle.search.specs.Candidates.{themeTable}
-use Rattle.search.specs.Page.{QuickLeaf, leaf, quickPage, quickStarts, QuickPages}
+use Rattle.filter.specs.Table.{themeTable}
+use Rattle.search.specs.Page.{QuickLeaf, leaf, quickPage, QuickPages}
+use Rattle.walking.specs.Candidates.{quickStarts}
 use Rattle.asking.specs.Asking.{QuickAsks}
 use Rattle.asking.specs.Refusals.{quickRows}
-use Rattle.score.proofs.Judged.{Clear, clear-append, clear-split, judge-clear}
-use Rattle.asking.proofs.Rows.{scoreRows, setsRows, pageRows, accepted-clear, sets-clear, page-clear}
+use Rattle.score.proofs.Judged.{judge-clear}
+use Rattle.asking.proofs.Rows.{quick-clear}
 use Rattle.search.proofs.Answers.{answer-turned, answer-refused, answer-kept}
 
 module _ (cells : List ℕ) (h : ℕ) (theme : List ℕ) (way : Way) (b : Bookmark) (sets table columns : List ℕ) (shifts : List ℤ) where
@@ -33,26 +34,9 @@ module _ (cells : List ℕ) (h : ℕ) (theme : List ℕ) (way : Way) (b : Bookma
         table = themeTable theme;
       }
 
-  pub quick-clear : QuickAsks cells h theme way b sets table columns shifts ↔ Clear (quickRows cells h theme way b sets table columns shifts)
-  quick-clear = (
-    λ a. clear-append (scoreRows cells h theme) (setsRows cells h sets table ++ pageRows way (columnsIn cells h) b columns shifts)
-        (accepted-clear cells h theme .0 (a .plain .accepted))
-        (clear-append (setsRows cells h sets table) (pageRows way (columnsIn cells h) b columns shifts) (sets-clear cells h sets table .0 (a .with-sets, a .table-long))
-        (page-clear way (columnsIn cells h) b columns shifts .0 (a .plain .room, a .plain .same-room, a .plain .marked))),
-    λ c. let d = clear-split (scoreRows cells h theme) (setsRows cells h sets table ++ pageRows way (columnsIn cells h) b columns shifts) c in
-        let e = clear-split (setsRows cells h sets table) (pageRows way (columnsIn cells h) b columns shifts) (d .1) in
-        let s = sets-clear cells h sets table .1 (e .0) in
-        let p = page-clear way (columnsIn cells h) b columns shifts .1 (e .1) in
-        record {
-          plain = record { accepted = accepted-clear cells h theme .1 (d .0); room = p .0; same-room = p .1; marked = p .2 };
-          with-sets = s .0;
-          table-long = s .1;
-        },
-  )
-
   pub quick-leaf : QuickAsks cells h theme way b sets table columns shifts → quickPage cells h theme way b sets table columns shifts ≡ quickLeaf
   unfolding quickPage
-  quick-leaf a = judge-clear quickRefused quickLeaf (quickRows cells h theme way b sets table columns shifts) (quick-clear .0 a)
+  quick-leaf a = judge-clear quickRefused quickLeaf (quickRows cells h theme way b sets table columns shifts) (quick-clear cells h theme way b sets table columns shifts .0 a)
 
   -- it leaves the theme's table
   pub quick-fills : QuickAsks cells h theme way b sets table columns shifts → quickPage cells h theme way b sets table columns shifts .table ≡ themeTable theme
@@ -62,7 +46,7 @@ module _ (cells : List ℕ) (h : ℕ) (theme : List ℕ) (way : Way) (b : Bookma
   unfolding quickPage
   quick-turned =
       let e = answer-turned (λ (l : QuickLeaf). l .leaf .answer) quickRefused (λ r. refl) quickLeaf _ refl (quickRows cells h theme way b sets table columns shifts) in
-      (λ t. quick-clear .1 (e .0 t), λ a. e .1 (quick-clear .0 a))
+      (λ t. quick-clear cells h theme way b sets table columns shifts .1 (e .0 t), λ a. e .1 (quick-clear cells h theme way b sets table columns shifts .0 a))
 
   pub quick-refused : (k p : ℕ) → (quickPage cells h theme way b sets table columns shifts .leaf .answer ≡ Refused (record { number = k; place = p }))
       ↔ (GivenBy (quickRows cells h theme way b sets table columns shifts) k × (p ≡ placeBy (quickRows cells h theme way b sets table columns shifts) k))

@@ -24,15 +24,18 @@ use Rattle.score.proofs.IntervalSets.{sets-length, sets-lt}
 use Rattle.asking.specs.declared.way.Way.{Way}
 use Rattle.asking.specs.declared.bookmark.Pair.{Pair}
 use Rattle.asking.specs.declared.bookmark.Bookmark.{Bookmark}
-use Rattle.search.specs.Starts.{Place, place, key, starts, hit, looks}
+use Rattle.walking.specs.Starts.{Place, place, key, starts, hit, looks}
 use Rattle.search.specs.Pairs.{pairAt, pairs}
-use Rattle.search.specs.Candidates.{themeTable, candidate}
+use Rattle.filter.specs.Table.{themeTable}
+use Rattle.walking.specs.Candidates.{candidate}
 use Rattle.asking.specs.Bookmarks.{afterPair, finishedBookmark, keyOf}
 use Rattle.asking.specs.Refusals.{badNote}
-use Rattle.search.specs.Page.{Leaf, QuickLeaf, columnsOf, shiftsOf, found, leaf, plainPage, quickPage, quickStarts}
+use Rattle.search.specs.Page.{Leaf, QuickLeaf, leaf, plainPage, quickPage}
+use Rattle.walking.specs.Found.{columnsOf, shiftsOf, found}
+use Rattle.walking.specs.Candidates.{quickStarts}
 use Rattle.asking.specs.Asking.{Accepted, AcceptedSets}
 use Rattle.search.specs.Demands.{turned, refused, SamePage, candidatePairs}
-use Rattle.search.proofs.Order.{starts-rising}
+use Rattle.walking.proofs.Order.{starts-rising}
 use Rattle.search.proofs.Filtered.{hit-candidate}
 use Rattle.score.proofs.Judged.{clear-append, judge-skip, judge-both}
 use Rattle.asking.proofs.Rows.{scoreRows, setsRows, pageRows, accepted-clear, sets-clear}

@@ -19,7 +19,7 @@ use Rattle.theory.proofs.Readings.{Reading as Walk, last as walk-last, more as 
 use Rattle.asking.specs.declared.bookmark.Pair.{Pair}
 use Rattle.asking.specs.declared.bookmark.Bookmark.{Bookmark}
 use Rattle.search.specs.declared.page.Turn.{Turn}
-use Rattle.search.specs.Starts.{Place, key}
+use Rattle.walking.specs.Starts.{Place, key}
 use Rattle.search.specs.Pairs.{pairAt}
 use Rattle.asking.specs.Bookmarks.{firstBookmark}
 use Rattle.search.specs.Page.{Leaf}

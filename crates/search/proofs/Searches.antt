@@ -12,11 +12,13 @@ use Rattle.score.specs.Score.{scoreOf}
 use Rattle.score.proofs.Columns.{score-length}
 use Rattle.asking.specs.declared.way.Way.{Way}
 use Rattle.asking.specs.declared.bookmark.Bookmark.{Bookmark}
-use Rattle.search.specs.Starts.{Place, key, starts}
-use Rattle.search.specs.Candidates.{themeTable, candidate}
-use Rattle.search.specs.Page.{QuickLeaf, plainPage, quickPage, quickStarts}
+use Rattle.walking.specs.Starts.{Place, key, starts}
+use Rattle.filter.specs.Table.{themeTable}
+use Rattle.walking.specs.Candidates.{candidate}
+use Rattle.search.specs.Page.{QuickLeaf, plainPage, quickPage}
+use Rattle.walking.specs.Candidates.{quickStarts}
 use Rattle.asking.specs.Asking.{Accepted, AcceptedSets, InRange, PlainAsks}
-use Rattle.search.proofs.Order.{starts-rising, in-starts}
+use Rattle.walking.proofs.Order.{starts-rising, in-starts}
 use Rattle.search.proofs.PlainCall.{plain-leaf}
 use Rattle.search.proofs.QuickCall.{quick-leaf}
 use Rattle.search.proofs.Turning.{Found}

@@ -24,17 +24,21 @@ use Rattle.search.specs.declared.page.Turn.{Turn}
 use Rattle.search.specs.declared.page.Page.{Page}
 use Rattle.search.specs.declared.page.Page.the-variants.{Turned, Refused}
 use Rattle.asking.specs.Way.{Holds, HoldsExact, HoldsOctave, span}
-use Rattle.search.specs.Definition.{Stands, note}
-use Rattle.search.specs.Starts.{Place, key, starts, hit, looks}
+use Rattle.search.specs.Definition.{Stands}
+use Rattle.score.specs.Score.{note}
+use Rattle.walking.specs.Starts.{Place, key, starts, hit, looks}
 use Rattle.search.specs.Pairs.{pairAt, pairs}
-use Rattle.search.specs.Candidates.{themeTable, candidate}
+use Rattle.filter.specs.Table.{themeTable}
+use Rattle.walking.specs.Candidates.{candidate}
 use Rattle.asking.specs.Bookmarks.{keyOf}
-use Rattle.search.specs.Page.{Leaf, QuickLeaf, plainPage, quickPage, quickStarts, spent}
+use Rattle.search.specs.Page.{Leaf, QuickLeaf, plainPage, quickPage}
+use Rattle.walking.specs.Candidates.{quickStarts}
+use Rattle.walking.specs.Found.{spent}
 use Rattle.search.specs.Reading.{readPairs}
 use Rattle.asking.specs.Asking.{Accepted, AcceptedSets, InRange, PlainAsks, QuickAsks}
 use Rattle.search.specs.OnePage.{PageOf, firstPairs, atOrAfter}
 use Rattle.search.specs.Demands.{mostLooks, candidatePairs}
-use Rattle.search.proofs.Order.{starts-rising, in-starts}
+use Rattle.walking.proofs.Order.{starts-rising, in-starts}
 use Rattle.search.proofs.Listed.{listed-stands}
 use Rattle.search.proofs.AtOrAfter.{key-order}
 use Rattle.search.proofs.Turning.{Found}

@@ -17,10 +17,10 @@ use Rattle.asking.specs.declared.way.Way.{Way}
 use Rattle.asking.specs.declared.way.Way.the-variants.{Exact, Octave}
 use Rattle.asking.specs.declared.bookmark.Pair.{Pair}
 use Rattle.asking.specs.Way.{lowest, highest, span, shiftOf}
-use Rattle.search.specs.Starts.{Place, key}
+use Rattle.walking.specs.Starts.{Place, key}
 use Rattle.search.specs.Pairs.{pairAt}
 use Rattle.asking.specs.Bookmarks.{firstBookmark, afterPair, finishedBookmark, keyOf}
-use Rattle.search.specs.Page.{columnsOf, shiftsOf}
+use Rattle.walking.specs.Found.{columnsOf, shiftsOf}
 use Rattle.search.specs.Reading.{readPairs}
 use Rattle.asking.specs.Asking.{InRange}
 use Rattle.asking.proofs.Shifts.{code-shift, shift-above, shift-below}

@@ -6,9 +6,11 @@ use Rattle.theory.specs.Bits.{bit, number}
 use Rattle.theory.specs.Register.{step, register}
 use Rattle.score.specs.Sets.{apart, intervalSet}
 use Rattle.asking.specs.Way.{holds}
-use Rattle.search.specs.Starts.{hit, looks}
-use Rattle.search.specs.Candidates.{word, themeTable, candidate}
-use Rattle.search.specs.Page.{plainPage, quickStarts, quickPage}
+use Rattle.walking.specs.Starts.{hit, looks}
+use Rattle.filter.specs.Table.{word, themeTable}
+use Rattle.walking.specs.Candidates.{candidate}
+use Rattle.search.specs.Page.{plainPage, quickPage}
+use Rattle.walking.specs.Candidates.{quickStarts}
 use Rattle.search.specs.Cases.{cases, made}
 
 pub cases-hold : map made cases ≡ cases

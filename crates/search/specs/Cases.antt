@@ -15,7 +15,8 @@ use Rattle.asking.specs.declared.bookmark.Pair.{Pair}
 use Rattle.asking.specs.declared.bookmark.Bookmark.{Bookmark}
 use Rattle.search.specs.declared.page.Page.{Page}
 use Rattle.search.specs.declared.page.Page.the-variants.{Turned, Refused}
-use Rattle.search.specs.Candidates.{themeTable, candidate}
+use Rattle.filter.specs.Table.{themeTable}
+use Rattle.walking.specs.Candidates.{candidate}
 use Rattle.asking.specs.Bookmarks.{firstBookmark}
 use Rattle.search.specs.Page.{Leaf, plainPage, quickPage}
 use Rattle.search.specs.Reading.{readPairs}

@@ -4,15 +4,10 @@ use mathlib.Core.List.{List, []}
 use Prim.Native.Nat.{ℕ, _+_, _-_, _≤_}
 use lib.ListN.{length, getD}
 use lib.Signed.{_≤ℤ_}
-use Rattle.score.specs.declared.quantities.Pitch.{Pitch}
-use Rattle.score.specs.Score.{pitch, onward}
+use Rattle.score.specs.Score.{onward, note}
 use Rattle.asking.specs.declared.way.Way.{Way}
 use Rattle.asking.specs.declared.bookmark.Pair.{Pair}
 use Rattle.asking.specs.Way.{Holds, lowest, highest}
-
--- the theme's i-th note, from 1
-abbrev pub note : (theme : List ℕ) → ℕ → Pitch
-note theme i = pitch (getD theme (i - 1) 0)
 
 -- 1 <= j <= n - m + 1; c is a shift of the way; and for each i from 1 to m the i-th column from j on, which is column
 -- j + i - 1, holds the i-th note moved by c. Each note may come from any track

@@ -15,10 +15,12 @@ use Rattle.asking.specs.declared.bookmark.Bookmark.{Bookmark}
 use Rattle.search.specs.declared.page.Turn.{Turn}
 use Rattle.search.specs.declared.page.Page.{Page}
 use Rattle.search.specs.declared.page.Page.the-variants.{Turned, Refused}
-use Rattle.search.specs.Starts.{starts, looks}
+use Rattle.walking.specs.Starts.{starts, looks}
 use Rattle.search.specs.Pairs.{pairs}
-use Rattle.search.specs.Candidates.{themeTable, candidate}
-use Rattle.search.specs.Page.{Leaf, quickStarts}
+use Rattle.filter.specs.Table.{themeTable}
+use Rattle.walking.specs.Candidates.{candidate}
+use Rattle.search.specs.Page.{Leaf}
+use Rattle.walking.specs.Candidates.{quickStarts}
 use Rattle.search.specs.Reading.{Reading, last, more}
 
 -- ---- pages

@@ -2,15 +2,11 @@
 -- `Stands` (in integers) is the published definition, `pairs` (by codes) the method; `PageOf` says a page
 -- of the list of pairs, `leaf` how it comes of starts. That meaning and method agree is proved.
 pub mod Definition
-pub mod Starts
 pub mod Pairs
-pub mod Candidates
 pub mod Page
 pub mod Reading
 pub mod OnePage
 pub mod Demands
 pub mod Cases
--- contracts of inner functions, which no public call promises
-pub mod Scan
-pub mod Walk
-pub mod Alive
+-- the contract of an inner function, which no public call promises
+pub mod Turning

@@ -1,26 +1,26 @@
 -- The whole answer of a page call, and what every lent buffer holds afterwards: `plainPage` and `quickPage`.
 -- A refused call writes nothing. Assumes nothing.
 use mathlib.Core.Path.{_≡_}
-use mathlib.Core.Bool.{Bool, cond, not}
-use mathlib.Core.List.{List, [], _∷_, map}
-use Prim.Native.Nat.{ℕ, _+_}
+use mathlib.Core.Bool.{cond, not}
+use mathlib.Core.List.{List}
+use Prim.Native.Nat.{ℕ}
 use lib.Dec.{leb}
 use lib.IntN.{ℤ}
 use lib.ListN.{length}
 use Rattle.theory.specs.Lists.{over, last}
-use Rattle.theory.specs.Pages.{hits, pageHits, pageLooks, from}
-use Rattle.score.specs.Score.{columnAt, columnsIn, scoreOf}
+use Rattle.score.specs.Score.{columnAt, scoreOf}
 use Rattle.score.specs.Refusals.{judge}
 use Rattle.asking.specs.declared.way.Way.{Way}
 use Rattle.asking.specs.declared.bookmark.Bookmark.{Bookmark}
 use Rattle.search.specs.declared.page.Turn.{Turn}
 use Rattle.search.specs.declared.page.Page.{Page}
 use Rattle.search.specs.declared.page.Page.the-variants.{Turned, Refused}
-use Rattle.asking.specs.Way.{shiftOf}
-use Rattle.search.specs.Starts.{Place, place, key, starts, hit, looks}
+use Rattle.walking.specs.Starts.{Place, place, starts}
 use Rattle.search.specs.Pairs.{pairAt}
-use Rattle.search.specs.Candidates.{themeTable, candidate}
-use Rattle.asking.specs.Bookmarks.{firstBookmark, afterPair, finishedBookmark, keyOf}
+use Rattle.filter.specs.Table.{themeTable}
+use Rattle.walking.specs.Candidates.{quickStarts}
+use Rattle.walking.specs.Found.{columnsOf, shiftsOf, found, spent}
+use Rattle.asking.specs.Bookmarks.{afterPair, finishedBookmark}
 use Rattle.asking.specs.Refusals.{plainRows, quickRows}
 
 -- a call's answer, and the two lent buffers of pairs after it
@@ -28,13 +28,6 @@ pub record Leaf : Type 0 where
   pub answer : Page
   pub columns : List ℕ
   pub shifts : List ℤ
-
--- the columns and the shifts of places, as the buffers hold them
-abbrev pub columnsOf : List Place → List ℕ
-columnsOf places = map (λ s. s .column) places
-
-abbrev pub shiftsOf : Way → List Place → List ℤ
-shiftsOf way places = map (λ s. shiftOf way (s .code)) places
 
 -- the answer, where these places were written, in room r, with these looks: if r were written, it goes on after the last
 -- of them; otherwise it is finished
@@ -49,20 +42,14 @@ turn way n r places looks =
 
 -- the page of a search that reaches these starts
 module _ (way : Way) (score : List (List ℕ)) (theme : List ℕ) (reached : List Place) (b : Bookmark) (columns : List ℕ) (shifts : List ℤ) where
-  -- the first r pairs at or after the bookmark, and the looks of every start up to the one that fills the page
-  abbrev pub found : List Place
-  found = pageHits (hit way score theme) (length columns) (from key (keyOf way b) reached)
-
-  abbrev pub spent : ℕ
-  spent = pageLooks (hit way score theme) (looks way score theme) (length columns) (from key (keyOf way b) reached)
-
   -- written from the front; places behind keep their contents
   abbrev pub leaf : Leaf
   leaf =
+      let places = found way score theme reached b columns shifts in
       record {
-        answer = Turned (turn way (length score) (length columns) found spent);
-        columns = over columns (columnsOf found);
-        shifts = over shifts (shiftsOf way found);
+        answer = Turned (turn way (length score) (length columns) places (spent way score theme reached b columns shifts));
+        columns = over columns (columnsOf places);
+        shifts = over shifts (shiftsOf way places);
       }
 
 -- the plain way reaches every start: refusals 1 to 5, 9, 10
@@ -71,10 +58,6 @@ plainPage cells h theme way b columns shifts =
     judge (plainRows cells h theme way b columns shifts)
     (λ r. record { answer = Refused r; columns = columns; shifts = shifts })
     (leaf way (scoreOf cells h) theme (starts way (scoreOf cells h) theme) b columns shifts)
-
--- the starts at the columns that a table and sets make candidates
-unfoldable pub quickStarts : Way → (score : List (List ℕ)) (theme table sets : List ℕ) → List Place
-quickStarts way score theme table sets = hits (λ s. candidate table sets (length theme) (s .column)) (starts way score theme)
 
 -- a quick call leaves a theme table, too
 pub record QuickLeaf : Type 0 where

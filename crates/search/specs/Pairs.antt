@@ -10,7 +10,7 @@ use Rattle.score.specs.Score.{columnAt}
 use Rattle.asking.specs.declared.way.Way.{Way}
 use Rattle.asking.specs.declared.bookmark.Pair.{Pair}
 use Rattle.asking.specs.Way.{shiftOf}
-use Rattle.search.specs.Starts.{Place, starts, hit}
+use Rattle.walking.specs.Starts.{Place, starts, hit}
 
 -- the pair at a place
 abbrev pub pairAt : Way → Place → Pair

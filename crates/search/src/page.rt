@@ -1,27 +1,20 @@
 // The two page calls: plain, which reaches every start, and quick, which reaches the starts at candidates.
 
-use crate::signs::code_of;
-use crate::table::fill_table;
-use crate::walk::Walked;
-use crate::walk::walk;
 use asking::Bookmark;
 use asking::Pair;
 use asking::Way;
-use asking::check_plain;
-use asking::check_quick;
 use score::Column;
 use score::Refusal;
-use score::Verdict;
 use score::columns_in;
+use walking::Walk;
+use walking::Walked;
+use walking::walk_plain;
+use walking::walk_quick;
 ghost use mathlib.Core.Path.{_≡_};
-ghost use Prim.Native.Nat.{_+_, _≤_};
+ghost use Prim.Native.Nat.{_≤_};
 ghost use lib.ListN.{length};
-ghost use Rattle.score.specs.Score.{columnsIn, scoreOf};
-ghost use Rattle.search.specs.Starts.{starts};
-ghost use Rattle.search.specs.Candidates.{themeTable};
-ghost use Rattle.search.specs.Page.{PlainPages, QuickPages, leaf, quickStarts};
-ghost use Rattle.asking.specs.Asking.{PlainAsks, QuickAsks};
-ghost use Rattle.search.specs.Walk.{readTurn, Turns};
+ghost use Rattle.search.specs.Page.{PlainPages, QuickPages};
+ghost use Rattle.search.specs.Turning.{readTurn};
 
 // A page: how many pairs were written, where the next page goes on, whether the list is finished, and the looks.
 pub struct Turn {
@@ -49,18 +42,13 @@ pub fn plain_page(
 ) -> Page
     ensures { λ r. ⌜ PlainPages (now (cells .entry)) tracks (now (theme .entry)) way bookmark (now (columns .entry)) (now (shifts .entry)) r (now (columns .exit)) (now (shifts .exit)) ⌝ }
 {
-    if let Verdict::Refused(e) = check_plain(
-        cells,
-        tracks,
-        theme,
-        way,
-        bookmark,
-        columns.len(),
-        shifts.len(),
-    ) {
-        return Page::Refused(e);
+    match walk_plain(cells, tracks, theme, way, bookmark, columns, shifts) {
+        Walk::Done(w) => {
+            let n = columns_in(cells, tracks);
+            Page::Turned(turned(way, n, w, columns, shifts))
+        }
+        Walk::Refused(e) => Page::Refused(e),
     }
-    Page::Turned(turn_plain(cells, tracks, theme, way, bookmark, columns, shifts))
 }
 
 // The same of the pairs whose column the sets make a candidate, which with the score's own sets are all. Fills the theme's
@@ -78,101 +66,15 @@ pub fn quick_page(
 ) -> Page
     ensures { λ r. ⌜ QuickPages (now (cells .entry)) tracks (now (theme .entry)) way bookmark (now (sets .entry)) (now (table .entry)) (now (columns .entry)) (now (shifts .entry)) r (now (table .exit)) (now (columns .exit)) (now (shifts .exit)) ⌝ }
 {
-    if let Verdict::Refused(e) = check_quick(
-        cells,
-        tracks,
-        theme,
-        way,
-        bookmark,
-        sets,
-        table.len(),
-        columns.len(),
-        shifts.len(),
+    match walk_quick(
+        cells, tracks, theme, way, bookmark, sets, table, columns, shifts,
     ) {
-        return Page::Refused(e);
+        Walk::Done(w) => {
+            let n = columns_in(cells, tracks);
+            Page::Turned(turned(way, n, w, columns, shifts))
+        }
+        Walk::Refused(e) => Page::Refused(e),
     }
-    fill_table(theme, table);
-    Page::Turned(turn_quick(
-        cells,
-        tracks,
-        theme,
-        way,
-        bookmark,
-        sets,
-        table,
-        columns,
-        shifts,
-    ))
-}
-
-// The plain page of an accepted call.
-fn turn_plain(
-    cells: &[u8],
-    tracks: usize,
-    theme: &[u8],
-    way: Way,
-    bookmark: Bookmark,
-    columns: &mut [u16],
-    shifts: &mut [i16],
-) -> Turn
-    requires { ⌜ PlainAsks (now cells) tracks (now theme) way bookmark (now columns) (now shifts) ⌝ }
-    ensures { λ r. ⌜ Turns (leaf way (scoreOf (now (cells .entry)) tracks) (now (theme .entry)) (starts way (scoreOf (now (cells .entry)) tracks) (now (theme .entry))) bookmark (now (columns .entry)) (now (shifts .entry))) r (now (columns .exit)) (now (shifts .exit)) ⌝ }
-{
-    let column = bookmark.column;
-    let code = code_of(way, bookmark.shift);
-    let none = [0u16; 1];
-    let blank = [0u32; 1];
-    let mut ring = [0u64; 96];
-    let w = walk(
-        true,
-        cells,
-        tracks,
-        theme,
-        way,
-        column,
-        code,
-        &none,
-        &blank,
-        columns,
-        shifts,
-        &mut ring,
-    );
-    turned(way, columns_in(cells, tracks), w, columns, shifts)
-}
-
-// The quick page of an accepted call, by any table.
-fn turn_quick(
-    cells: &[u8],
-    tracks: usize,
-    theme: &[u8],
-    way: Way,
-    bookmark: Bookmark,
-    sets: &[u16],
-    table: &[u32],
-    columns: &mut [u16],
-    shifts: &mut [i16],
-) -> Turn
-    requires { ⌜ QuickAsks (now cells) tracks (now theme) way bookmark (now sets) (now table) (now columns) (now shifts) ⌝ }
-    ensures { λ r. ⌜ Turns (leaf way (scoreOf (now (cells .entry)) tracks) (now (theme .entry)) (quickStarts way (scoreOf (now (cells .entry)) tracks) (now (theme .entry)) (now (table .entry)) (now (sets .entry))) bookmark (now (columns .entry)) (now (shifts .entry))) r (now (columns .exit)) (now (shifts .exit)) ⌝ }
-{
-    let column = bookmark.column;
-    let code = code_of(way, bookmark.shift);
-    let mut ring = [0u64; 96];
-    let w = walk(
-        false,
-        cells,
-        tracks,
-        theme,
-        way,
-        column,
-        code,
-        sets,
-        table,
-        columns,
-        shifts,
-        &mut ring,
-    );
-    turned(way, columns_in(cells, tracks), w, columns, shifts)
 }
 
 // The answer after a walk through n columns: a full page goes on after the last pair written, another one is finished.

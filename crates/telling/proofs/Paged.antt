@@ -22,7 +22,7 @@ use Rattle.asking.specs.declared.bookmark.Bookmark.{Bookmark}
 use Rattle.search.specs.declared.page.Turn.{Turn}
 use Rattle.search.specs.declared.page.Page.{Page}
 use Rattle.search.specs.declared.page.Page.the-variants.{Turned, Refused}
-use Rattle.search.specs.Starts.{Place}
+use Rattle.walking.specs.Starts.{Place}
 use Rattle.search.specs.Pairs.{pairAt, pairs}
 use Rattle.search.specs.Page.{QuickPages}
 use Rattle.search.specs.Reading.{readPairs}

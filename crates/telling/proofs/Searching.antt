@@ -26,15 +26,16 @@ use Rattle.asking.specs.declared.bookmark.Pair.{Pair}
 use Rattle.asking.specs.declared.bookmark.Bookmark.{Bookmark}
 use Rattle.search.specs.declared.page.Page.the-variants.{Refused}
 use Rattle.asking.specs.Way.{span}
-use Rattle.search.specs.Starts.{Place, key, starts, hit}
+use Rattle.walking.specs.Starts.{Place, key, starts, hit}
 use Rattle.search.specs.Pairs.{pairAt, pairs}
-use Rattle.search.specs.Candidates.{themeTable}
+use Rattle.filter.specs.Table.{themeTable}
 use Rattle.asking.specs.Bookmarks.{firstBookmark}
-use Rattle.search.specs.Page.{Leaf, quickPage, quickStarts}
+use Rattle.search.specs.Page.{Leaf, quickPage}
+use Rattle.walking.specs.Candidates.{quickStarts}
 use Rattle.asking.specs.Asking.{Accepted, AcceptedSets}
 use Rattle.search.specs.Demands.{candidateLooks}
-use Rattle.search.proofs.Order.{in-starts}
-use Rattle.search.proofs.LookBound.{starts-le}
+use Rattle.walking.proofs.Order.{in-starts}
+use Rattle.walking.proofs.LookBound.{starts-le}
 use Rattle.search.proofs.Turning.{first-range, first-key}
 use Rattle.search.proofs.Paging.{Search, Calls, found as isHit, cost, inside, left, answer}
 use Rattle.search.proofs.Searches.{quick-calls}

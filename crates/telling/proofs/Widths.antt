@@ -14,7 +14,7 @@ use Rattle.asking.specs.declared.way.Way.{Way}
 use Rattle.asking.specs.declared.way.Way.the-variants.{Exact, Octave}
 use Rattle.asking.specs.declared.bookmark.Pair.{Pair}
 use Rattle.asking.specs.Way.{span, shiftOf}
-use Rattle.search.specs.Starts.{Place}
+use Rattle.walking.specs.Starts.{Place}
 use Rattle.search.specs.Pairs.{pairAt}
 use Rattle.telling.specs.Text.{digits, decimal, signed, line, hitWord, endWord, refusedWord}
 use Rattle.telling.specs.Lines.{hitLine, endLine, refusedLine, hitLines}

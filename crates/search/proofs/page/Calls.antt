@@ -1,84 +1,93 @@
--- What the checks and the page of an accepted call come to: each way out of a page call is what its definition says.
--- Assumes nothing.
+-- From a walk to a page: a walk that is turned away is a page that is turned away, and the answer that is read off the
+-- buffers of one that is done is the page's. Assumes nothing.
 use mathlib.Core.Path.{_≡_, sym, ap, _∙_}
-use mathlib.Core.List.{List, []}
-use Prim.Native.Nat.{ℕ}
+use mathlib.Core.List.{List}
+use Prim.Native.Nat.{ℕ, _≤_}
 use native.Mathlib.Omega.{arith}
 use lib.IntN.{ℤ}
+use lib.ListN.{length}
 use Rattle.score.specs.declared.refusals.Refusal.{Refusal}
-use Rattle.score.specs.declared.refusals.Verdict.{Verdict}
-use Rattle.score.specs.declared.refusals.Verdict.the-variants.{Accepted as Passed, Refused as Away}
-use Rattle.score.specs.Score.{scoreOf}
-use Rattle.score.specs.Refusals.{Row, verdict}
-use Rattle.score.proofs.Judging.{judge-refused}
+use Rattle.score.specs.Score.{columnsIn, scoreOf}
+use Rattle.score.proofs.Columns.{score-length}
+use Rattle.score.proofs.Judged.{judge-both}
 use Rattle.asking.specs.declared.way.Way.{Way}
 use Rattle.asking.specs.declared.bookmark.Bookmark.{Bookmark}
+use Rattle.asking.specs.Refusals.{plainRows, quickRows}
+use Rattle.walking.specs.declared.calls.Walked.{Walked}
+use Rattle.walking.specs.declared.calls.Walk.the-variants.{Done, Refused as Away}
+use Rattle.walking.specs.Found.{Trace, QuickTrace, plainWalk, quickWalk, PlainWalks, QuickWalks}
+use Rattle.walking.proofs.Answers.{done-refused, refused-same, refusedTrace, plainTrace, plain-asked, plain-walked, refusedQuick, quickTrace, quick-asked, quick-filled, quick-walked}
 use Rattle.search.specs.declared.page.Turn.{Turn}
 use Rattle.search.specs.declared.page.Page.the-variants.{Turned, Refused}
-use Rattle.search.specs.Starts.{starts}
-use Rattle.search.specs.Candidates.{themeTable}
-use Rattle.search.specs.Page.{Leaf, QuickLeaf, plainPage, quickPage, quickStarts, leaf, PlainPages, QuickPages}
-use Rattle.asking.specs.Asking.{PlainAsks, QuickAsks}
-use Rattle.asking.specs.Refusals.{plainRows, quickRows}
-use Rattle.search.specs.Walk.{Turns}
-use Rattle.score.proofs.Judged.{Clear, judge-clear-of}
-use Rattle.search.proofs.PlainCall.{plainRefused, plainLeaf, plain-clear, plain-leaf}
-use Rattle.search.proofs.QuickCall.{quickRefused, quickLeaf, quick-clear, quick-leaf}
+use Rattle.search.specs.Page.{Leaf, QuickLeaf, plainPage, quickPage, PlainPages, QuickPages}
+use Rattle.search.specs.Turning.{readTurn}
+use Rattle.search.proofs.PlainCall.{plainRefused, plainLeaf, plain-leaf}
+use Rattle.search.proofs.QuickCall.{quickRefused, quickLeaf, quick-leaf}
+use Rattle.search.proofs.page.Laws.{walk-long, walk-long-shifts, turn-read}
 
--- an accepted verdict: no row applies
-accepted-clear : (rows : List Row) → verdict rows ≡ Passed → Clear rows
-accepted-clear rows e = judge-clear-of Away Passed (λ v. v ≡ Passed) (λ r k. never r k) rows e
-  where
-    never : (r : Refusal) → Away r ≡ Passed → ⊥
-    never r k = let z : _≡_ {A = ℕ} 0 1 = cc in omega arith
+module _ (cells : List ℕ) (h : ℕ) (theme : List ℕ) (way : Way) (b : Bookmark) (columns : List ℕ) (shifts : List ℤ) {columns′ : List ℕ} {shifts′ : List ℤ} where
+  pub plain-away : {e : Refusal} → PlainWalks cells h theme way b columns shifts (Away e) columns′ shifts′ → PlainPages cells h theme way b columns shifts (Refused e) columns′ shifts′
+  unfolding plainWalk plainPage
+  plain-away {e} l =
+      let f = judge-both Goes (refusedTrace cells h theme way b columns shifts) (plainRefused cells h theme way b columns shifts) (plainTrace cells h theme way b columns shifts) (plainLeaf cells h theme way b columns shifts)
+      (λ r a c s. (ap Refused (refused-same a), c, s)) (λ a c s. absurd (done-refused (sym a))) (plainRows cells h theme way b columns shifts) (l .answers) (l .writes-columns) (l .writes-shifts) in
+      record { answers = f .0; writes-columns = f .1; writes-shifts = f .2 }
+    where
+      Goes : Trace → Leaf → Type 0
+      Goes t p = Away e ≡ t .answer → columns′ ≡ t .columns → shifts′ ≡ t .shifts → (Refused e ≡ p .answer) × (columns′ ≡ p .columns) × (shifts′ ≡ p .shifts)
 
-module _ (cells : List ℕ) (h : ℕ) (theme : List ℕ) (way : Way) (b : Bookmark) (columns : List ℕ) (shifts : List ℤ) where
-  pub plain-away : {v : Verdict} (e : Refusal) → v ≡ verdict (plainRows cells h theme way b columns shifts) → v ≡ Away e → PlainPages cells h theme way b columns shifts (Refused e) columns shifts
-  unfolding plainPage
-  plain-away e a v =
-      let p : plainPage cells h theme way b columns shifts ≡ plainRefused cells h theme way b columns shifts e =
-      judge-refused (plainRefused cells h theme way b columns shifts) (plainLeaf cells h theme way b columns shifts) (plainRows cells h theme way b columns shifts) [] (sym a ∙ v) in
-      record { answers = sym (ap (λ (l : Leaf). l .answer) p); writes-columns = sym (ap (λ (l : Leaf). l .columns) p); writes-shifts = sym (ap (λ (l : Leaf). l .shifts) p) }
+  module _ {w : Walked} (l : PlainWalks cells h theme way b columns shifts (Done w) columns′ shifts′) where
+    -- there is a last pair to read where the page is full
+    pub plain-room : (1 ≤ length columns′) × (length shifts′ ≡ length columns′) × (columnsIn cells h ≤ 65535)
+    plain-room =
+        let a = plain-asked cells h theme way b columns shifts l in
+        let k = walk-long _ _ _ _ _ _ _ _ _ _ (plain-walked cells h theme way b columns shifts l) (a .room) (a .same-room) in
+        (omega (arith, k, a .room), walk-long-shifts _ _ _ _ _ _ _ _ _ _ (plain-walked cells h theme way b columns shifts l) (a .room) (a .same-room) ∙ sym k, omega (arith, a .accepted .columns-few))
 
-  pub plain-asks : {v : Verdict} → v ≡ verdict (plainRows cells h theme way b columns shifts) → v ≡ Passed → PlainAsks cells h theme way b columns shifts
-  plain-asks a v = plain-clear cells h theme way b columns shifts .1 (accepted-clear (plainRows cells h theme way b columns shifts) (sym a ∙ v))
+    pub plain-turns : {n : ℕ} {t : Turn} → n ≡ columnsIn cells h → t ≡ readTurn way n (w .found) (w .looks) columns′ shifts′
+        → PlainPages cells h theme way b columns shifts (Turned t) columns′ shifts′
+    plain-turns {n} e r =
+        let a = plain-asked cells h theme way b columns shifts l in
+        let v = plain-walked cells h theme way b columns shifts l in
+        let p = plain-leaf cells h theme way b columns shifts a in
+        let m : n ≡ length (scoreOf cells h) = e ∙ sym (score-length cells h) in
+        record {
+          answers = ap Turned (r ∙ turn-read _ _ _ _ _ _ _ _ _ _ v (a .room) (a .same-room) n ∙ rw (m, v .costs)) ∙ sym (ap (λ (x : Leaf). x .answer) p);
+          writes-columns = v .in-columns ∙ sym (ap (λ (x : Leaf). x .columns) p);
+          writes-shifts = v .in-shifts ∙ sym (ap (λ (x : Leaf). x .shifts) p);
+        }
 
-  pub plain-turns : PlainAsks cells h theme way b columns shifts → (t : Turn) (columns′ : List ℕ) (shifts′ : List ℤ)
-      → Turns (leaf way (scoreOf cells h) theme (starts way (scoreOf cells h) theme) b columns shifts) t columns′ shifts′
-      → PlainPages cells h theme way b columns shifts (Turned t) columns′ shifts′
-  plain-turns a t columns′ shifts′ l =
-      let p = plain-leaf cells h theme way b columns shifts a in
-      record {
-        answers = l .answers ∙ sym (ap (λ (x : Leaf). x .answer) p);
-        writes-columns = l .writes-columns ∙ sym (ap (λ (x : Leaf). x .columns) p);
-        writes-shifts = l .writes-shifts ∙ sym (ap (λ (x : Leaf). x .shifts) p);
-      }
+module _ (cells : List ℕ) (h : ℕ) (theme : List ℕ) (way : Way) (b : Bookmark) (sets table columns : List ℕ) (shifts : List ℤ) {table′ columns′ : List ℕ} {shifts′ : List ℤ} where
+  pub quick-away : {e : Refusal} → QuickWalks cells h theme way b sets table columns shifts (Away e) table′ columns′ shifts′
+      → QuickPages cells h theme way b sets table columns shifts (Refused e) table′ columns′ shifts′
+  unfolding quickWalk quickPage
+  quick-away {e} l =
+      let f = judge-both Goes (refusedQuick cells h theme way b sets table columns shifts) (quickRefused cells h theme way b sets table columns shifts) (quickTrace cells h theme way b sets table columns shifts) (quickLeaf cells h theme way b sets table columns shifts)
+      (λ r a t c s. (ap Refused (refused-same a), t, c, s)) (λ a t c s. absurd (done-refused (sym a))) (quickRows cells h theme way b sets table columns shifts) (l .answers) (l .fills-table) (l .writes-columns) (l .writes-shifts) in
+      record { answers = f .0; fills-table = f .1; writes-columns = f .2; writes-shifts = f .3 }
+    where
+      Goes : QuickTrace → QuickLeaf → Type 0
+      Goes t p =
+          Away e ≡ t .trace .answer → table′ ≡ t .table → columns′ ≡ t .trace .columns → shifts′ ≡ t .trace .shifts
+          → (Refused e ≡ p .leaf .answer) × (table′ ≡ p .table) × (columns′ ≡ p .leaf .columns) × (shifts′ ≡ p .leaf .shifts)
 
-module _ (cells : List ℕ) (h : ℕ) (theme : List ℕ) (way : Way) (b : Bookmark) (sets table columns : List ℕ) (shifts : List ℤ) where
-  pub quick-away : {v : Verdict} (e : Refusal) → v ≡ verdict (quickRows cells h theme way b sets table columns shifts) → v ≡ Away e
-      → QuickPages cells h theme way b sets table columns shifts (Refused e) table columns shifts
-  unfolding quickPage
-  quick-away e a v =
-      let p : quickPage cells h theme way b sets table columns shifts ≡ quickRefused cells h theme way b sets table columns shifts e =
-      judge-refused (quickRefused cells h theme way b sets table columns shifts) (quickLeaf cells h theme way b sets table columns shifts) (quickRows cells h theme way b sets table columns shifts) [] (sym a ∙ v) in
-      record {
-        answers = sym (ap (λ (l : QuickLeaf). l .leaf .answer) p);
-        fills-table = sym (ap (λ (l : QuickLeaf). l .table) p);
-        writes-columns = sym (ap (λ (l : QuickLeaf). l .leaf .columns) p);
-        writes-shifts = sym (ap (λ (l : QuickLeaf). l .leaf .shifts) p);
-      }
+  module _ {w : Walked} (l : QuickWalks cells h theme way b sets table columns shifts (Done w) table′ columns′ shifts′) where
+    pub quick-room : (1 ≤ length columns′) × (length shifts′ ≡ length columns′) × (columnsIn cells h ≤ 65535)
+    quick-room =
+        let a = quick-asked cells h theme way b sets table columns shifts l .plain in
+        let k = walk-long _ _ _ _ _ _ _ _ _ _ (quick-walked cells h theme way b sets table columns shifts l) (a .room) (a .same-room) in
+        (omega (arith, k, a .room), walk-long-shifts _ _ _ _ _ _ _ _ _ _ (quick-walked cells h theme way b sets table columns shifts l) (a .room) (a .same-room) ∙ sym k, omega (arith, a .accepted .columns-few))
 
-  pub quick-asks : {v : Verdict} → v ≡ verdict (quickRows cells h theme way b sets table columns shifts) → v ≡ Passed → QuickAsks cells h theme way b sets table columns shifts
-  quick-asks a v = quick-clear cells h theme way b sets table columns shifts .1 (accepted-clear (quickRows cells h theme way b sets table columns shifts) (sym a ∙ v))
-
-  pub quick-turns : QuickAsks cells h theme way b sets table columns shifts → (t : Turn) (table′ columns′ : List ℕ) (shifts′ : List ℤ) → table′ ≡ themeTable theme
-      → Turns (leaf way (scoreOf cells h) theme (quickStarts way (scoreOf cells h) theme (themeTable theme) sets) b columns shifts) t columns′ shifts′
-      → QuickPages cells h theme way b sets table columns shifts (Turned t) table′ columns′ shifts′
-  quick-turns a t table′ columns′ shifts′ f l =
-      let p = quick-leaf cells h theme way b sets table columns shifts a in
-      record {
-        answers = l .answers ∙ sym (ap (λ (x : QuickLeaf). x .leaf .answer) p);
-        fills-table = f ∙ sym (ap (λ (x : QuickLeaf). x .table) p);
-        writes-columns = l .writes-columns ∙ sym (ap (λ (x : QuickLeaf). x .leaf .columns) p);
-        writes-shifts = l .writes-shifts ∙ sym (ap (λ (x : QuickLeaf). x .leaf .shifts) p);
-      }
+    pub quick-turns : {n : ℕ} {t : Turn} → n ≡ columnsIn cells h → t ≡ readTurn way n (w .found) (w .looks) columns′ shifts′
+        → QuickPages cells h theme way b sets table columns shifts (Turned t) table′ columns′ shifts′
+    quick-turns {n} e r =
+        let a = quick-asked cells h theme way b sets table columns shifts l in
+        let v = quick-walked cells h theme way b sets table columns shifts l in
+        let p = quick-leaf cells h theme way b sets table columns shifts a in
+        let m : n ≡ length (scoreOf cells h) = e ∙ sym (score-length cells h) in
+        record {
+          answers = ap Turned (r ∙ turn-read _ _ _ _ _ _ _ _ _ _ v (a .plain .room) (a .plain .same-room) n ∙ rw (m, v .costs)) ∙ sym (ap (λ (x : QuickLeaf). x .leaf .answer) p);
+          fills-table = quick-filled cells h theme way b sets table columns shifts l ∙ sym (ap (λ (x : QuickLeaf). x .table) p);
+          writes-columns = v .in-columns ∙ sym (ap (λ (x : QuickLeaf). x .leaf .columns) p);
+          writes-shifts = v .in-shifts ∙ sym (ap (λ (x : QuickLeaf). x .leaf .shifts) p);
+        }

@@ -1,39 +1,28 @@
--- `search::page::quick_page` meets its contract: the checks turn away, or the table is filled and the page of an
--- accepted call is turned. Assumes nothing.
+-- `search::page::quick_page` meets its contract: a walk that is turned away, or the answer that is read off the buffers of one
+-- that is done. Assumes nothing.
 use borrow.Author.Needs.{needs}
-use mathlib.Core.Path.{sym, ap, _∙_}
+use mathlib.Core.Path.{_∙_}
 use native.Mathlib.Omega.{arith}
-use lib.ListN.{length}
-use Rattle.search.proofs.Words.{table-length}
-use Rattle.search.proofs.page.Calls.{quick-away, quick-asks, quick-turns}
+use Rattle.search.proofs.page.Calls.{quick-away, quick-room, quick-turns}
 use Rattle.search.proofs.page.quick_page.Statement.{statement}
 use Rattle.search.proofs.page.quick_page.Tie as tie
 
-check-quick-requires : tie.Need-check-quick-requires
-check-quick-requires c κs = search needs
+walk-quick-requires : tie.Need-walk-quick-requires
+walk-quick-requires c κs = search needs
+
+enum-known-w : tie.Need-enum-known-w
+enum-known-w c = search needs
+
+columns-in-requires : tie.Need-columns-in-requires
+columns-in-requires c κs = search needs
+
+turned-requires : tie.Need-turned-requires
+turned-requires c κs =
+    let r = quick-room _ _ _ _ _ _ _ _ _ (rw (c .before .before .before .before .w .given .1) at (c .before .before .before .before .before .before .before .before .before .before .before .walk-quick .ensures)) in
+    (r .0, r .1, omega (arith, c .before .before .columns-in .ensures, r .2))
 
 enum-known-e : tie.Need-enum-known-e
 enum-known-e c = search needs
-
-returns : tie.Need-returns
-returns c = quick-away _ _ _ _ _ _ _ _ _ _ (c .before .before .before .check-quick .ensures) (c .before .e .given .1)
-
-enum-told : tie.Need-enum-told
-enum-told c = search needs
-
-fill-table-requires : tie.Need-fill-table-requires
-fill-table-requires c κs =
-    let e = c .before in
-    let a = e .before .before .before .before .before .before .before .before .args in
-    let q = quick-asks (a .cells .now) (a .tracks) (a .theme .now) (a .way) (a .bookmark) (a .sets .now) (a .table .now) (a .columns .now) (a .shifts .now) (e .before .before .check-quick .ensures) (e .enum-told .given .1) in
-    (omega (arith, q .plain .accepted .notes-some), q .table-long)
-
-turn-quick-requires : tie.Need-turn-quick-requires
-turn-quick-requires c κs =
-    let e = c .before .before .before .before .before .before .before in
-    let a = e .before .before .before .before .before .before .before .before .args in
-    let q = quick-asks (a .cells .now) (a .tracks) (a .theme .now) (a .way) (a .bookmark) (a .sets .now) (a .table .now) (a .columns .now) (a .shifts .now) (e .before .before .check-quick .ensures) (e .enum-told .given .1) in
-    record { plain = q .plain; with-sets = q .with-sets; table-long = ap length (c .before .before .before .before .before .fill-table .ensures) ∙ table-length (a .theme .now) }
 
 same-length : tie.Need-same-length
 same-length c = search needs
@@ -44,24 +33,35 @@ same-length-2 c = search needs
 same-length-3 : tie.Need-same-length-3
 same-length-3 c = search needs
 
+returns : tie.Need-returns
+returns c = quick-turns _ _ _ _ _ _ _ _ _ (rw (c .before .before .before .before .before .w .given .1) at (c .before .before .before .before .before .before .before .before .before .before .before .before .walk-quick .ensures)) (c .before .before .before .columns-in .ensures) (c .turned .ensures)
+
+same-length-4 : tie.Need-same-length-4
+same-length-4 c = search needs
+
+same-length-5 : tie.Need-same-length-5
+same-length-5 c = search needs
+
+same-length-6 : tie.Need-same-length-6
+same-length-6 c = search needs
+
 returns-2 : tie.Need-returns-2
-returns-2 c =
-    let e = c .before .before .before .before .before .before .before .before .before .before .before in
-    let a = e .before .before .before .before .before .before .before .before .args in
-    let q = quick-asks (a .cells .now) (a .tracks) (a .theme .now) (a .way) (a .bookmark) (a .sets .now) (a .table .now) (a .columns .now) (a .shifts .now) (e .before .before .check-quick .ensures) (e .enum-told .given .1) in
-    quick-turns _ _ _ _ _ _ _ _ _ q _ _ _ _ (c .before .before .before .before .before .before .before .before .before .fill-table .ensures) (rw (c .before .before .before .before .before .before .before .before .before .fill-table .ensures) at (c .before .before .before .turn-quick .ensures))
+returns-2 c = quick-away _ _ _ _ _ _ _ _ _ (rw (c .before .e .given .1) at (c .before .before .before .before .before .before .before .before .walk-quick .ensures))
 
 pub quick-page-spec : {M : Type 1} → statement M
 quick-page-spec =
     tie.close
     (tie.spec
-    check-quick-requires
+    walk-quick-requires
+    enum-known-w
+    columns-in-requires
+    turned-requires
     enum-known-e
-    returns
-    enum-told
-    fill-table-requires
-    turn-quick-requires
     same-length
     same-length-2
     same-length-3
+    returns
+    same-length-4
+    same-length-5
+    same-length-6
     returns-2)

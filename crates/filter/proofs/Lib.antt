@@ -1,0 +1,2 @@
+-- Laws of this crate's definitions: `Words` (the theme table).
+pub mod Words

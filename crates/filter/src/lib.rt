@@ -1,0 +1,11 @@
+// The filter: which columns a theme's intervals may begin at, by the sets alone.
+//
+// The `table` has a word for each set, and the `register` takes a word for each column: its bits say how many intervals of
+// the theme the last columns have.
+
+pub mod register;
+pub mod table;
+
+pub use register::marks;
+pub use register::step;
+pub use table::fill_table;

@@ -1,0 +1,17 @@
+-- `walking::starts::is_class` meets its contract: a rest is of no class. Assumes nothing.
+use borrow.Author.Needs.{needs}
+use borrow.Author.Tests.{le-leb, lt-leb}
+use Rattle.walking.proofs.starts.is_class.Statement.{statement}
+use Rattle.walking.proofs.starts.is_class.Tie as tie
+
+returns : tie.Need-returns
+returns c = rw (lt-leb _ _ (c .if1 .taken))
+
+cast-result : tie.Need-cast-result
+cast-result c = search needs
+
+returns-2 : tie.Need-returns-2
+returns-2 c = rw (le-leb _ _ (c .if1 .left))
+
+pub is-class-spec : {M : Type 1} → statement M
+is-class-spec = tie.close (tie.spec returns cast-result returns-2)

@@ -1,0 +1,200 @@
+// All starts of a column at once: a word has a bit for each that is alive, and each note that follows leaves those at which
+// the next column holds it.
+
+use crate::calls::Walked;
+use crate::masks::Word;
+use crate::masks::held_at;
+use crate::signs::shift_of;
+use crate::walk::try_column;
+use asking::Way;
+use score::Column;
+use score::Pitch;
+ghost use mathlib.Core.Path.{_≡_};
+ghost use Prim.Native.Nat.{_+_, _*_, _≤_, _<_};
+ghost use lib.ListN.{length};
+ghost use lib.Count.{ones};
+ghost use Rattle.theory.specs.Marks.{marks};
+ghost use Rattle.score.specs.Score.{columnsIn, scoreOf};
+ghost use Rattle.asking.specs.Way.{span};
+ghost use Rattle.walking.specs.Walk.{Ready, Fits, columnStarts, Tries};
+ghost use Rattle.walking.specs.Alive.{width, allLow, allHigh, lowCode, codesOf, Cached, Followed, Puts};
+
+// The starts of a column that are hits, and the looks of all its starts.
+pub struct Alive {
+    pub low: u64,
+    pub high: u64,
+    pub looks: u32,
+}
+
+// Every start there may be.
+fn all_starts(way: Way) -> Word
+    ensures { λ r. ⌜ (r .low ≡ allLow way) × (r .high ≡ allHigh way) ⌝ }
+{
+    match way {
+        Way::Exact => Word {
+            low: 0xffff_ffff_ffff_ffff,
+            high: 0xffff_ffff_ffff_ffff,
+        },
+        Way::Octave => Word { low: 4095, high: 0 },
+    }
+}
+
+// How many they are.
+fn width_of(way: Way) -> u32
+    ensures { λ r. ⌜ r ≡ width way ⌝ }
+{
+    match way {
+        Way::Exact => 128,
+        Way::Octave => 12,
+    }
+}
+
+// Follows all starts of the column note by note, until none is alive or the theme ends. The first note is treated as the
+// others are, and what it costs is taken off at the end: a start is not looked for.
+fn follow(cells: &[u8], h: usize, theme: &[u8], way: Way, column: Column, ring: &mut [u64]) -> Alive
+    requires { ⌜ Ready (now cells) h (now theme) ⌝ }
+    requires { ⌜ Fits (columnsIn (now cells) h) (length (now theme)) (column .0) ⌝ }
+    requires { ⌜ Cached way (now cells) h (now ring) ⌝ }
+    ensures { λ r. ⌜ Followed way (scoreOf (now (cells .entry)) h) (now (theme .entry)) (column .0) (r .low) (r .high) (r .looks) × Cached way (now (cells .entry)) h (now (ring .exit)) ⌝ }
+{
+    let j = column.0 as usize;
+    let first = Pitch(theme[0]);
+    let spare = width_of(way);
+    let all = all_starts(way);
+    let mut low = all.low;
+    let mut high = all.high;
+    let mut looks: u32 = 0;
+    let mut k: usize = 0;
+    while k < theme.len() {
+        if (low | high) == 0 {
+            looks -= spare;
+            return Alive { low, high, looks };
+        }
+        looks += u64::count_ones(low) + u64::count_ones(high);
+        let held = held_at(cells, h, way, j + k - 1, first, Pitch(theme[k]), ring);
+        low = low & held.low;
+        high = high & held.high;
+        k += 1;
+    }
+    looks -= spare;
+    Alive { low, high, looks }
+}
+
+// Writes the codes that a half of a word marks, from a place on, and gives the place behind them.
+fn put_marked(
+    columns: &mut [u16],
+    shifts: &mut [i16],
+    from: usize,
+    half: u64,
+    first: u16,
+    column: Column,
+    way: Way,
+) -> usize
+    requires { ⌜ (from + ones half ≤ length (now columns)) × (from + ones half ≤ length (now shifts)) × (first ≤ 191) ⌝ }
+    ensures { λ r. ⌜ Puts way (column .0) (marks 64 first half) from (now (columns .entry)) (now (shifts .entry)) r (now (columns .exit)) (now (shifts .exit)) ⌝ }
+{
+    let mut left = half;
+    let mut at = from;
+    while left != 0 {
+        let i = u64::trailing_zeros(left);
+        columns[at] = column.0;
+        shifts[at] = shift_of(way, first + i as u16);
+        left = left - (1 << i);
+        at += 1;
+    }
+    at
+}
+
+// The code that the lowest bit of a word stands for.
+fn low_code(way: Way, first: Pitch) -> u16
+    requires { ⌜ first .0 ≤ 127 ⌝ }
+    ensures { λ r. ⌜ r ≡ lowCode way first ⌝ }
+{
+    match way {
+        Way::Exact => 127 - first.0 as u16,
+        Way::Octave => 0,
+    }
+}
+
+// Writes the codes that a word marks, from a place on, and gives the place behind them.
+fn put_hits(
+    columns: &mut [u16],
+    shifts: &mut [i16],
+    from: usize,
+    low: u64,
+    high: u64,
+    first: Pitch,
+    column: Column,
+    way: Way,
+) -> usize
+    requires { ⌜ (from + (ones low + ones high) ≤ length (now columns)) × (length (now shifts) ≡ length (now columns)) × (first .0 ≤ 127) ⌝ }
+    ensures { λ r. ⌜ Puts way (column .0) (codesOf way first low high) from (now (columns .entry)) (now (shifts .entry)) r (now (columns .exit)) (now (shifts .exit)) ⌝ }
+{
+    let code = low_code(way, first);
+    let middle = put_marked(columns, shifts, from, low, code, column, way);
+    put_marked(columns, shifts, middle, high, code + 64, column, way)
+}
+
+// Tries all starts of a column: at once where there is room for every hit, otherwise one by one until the page is full.
+fn try_alive(
+    cells: &[u8],
+    h: usize,
+    theme: &[u8],
+    way: Way,
+    column: Column,
+    found: usize,
+    columns: &mut [u16],
+    shifts: &mut [i16],
+    ring: &mut [u64],
+) -> Walked
+    requires { ⌜ Ready (now cells) h (now theme) ⌝ }
+    requires { ⌜ Fits (columnsIn (now cells) h) (length (now theme)) (column .0) ⌝ }
+    requires { ⌜ (found ≤ length (now columns)) × (length (now shifts) ≡ length (now columns)) ⌝ }
+    requires { ⌜ Cached way (now cells) h (now ring) ⌝ }
+    ensures { λ r. ⌜ Tries way (scoreOf (now (cells .entry)) h) (now (theme .entry)) (columnStarts way (scoreOf (now (cells .entry)) h) (now (theme .entry)) (column .0) 0) found (now (columns .entry)) (now (shifts .entry)) (r .found) (r .looks) (now (columns .exit)) (now (shifts .exit)) × Cached way (now (cells .entry)) h (now (ring .exit)) ⌝ }
+{
+    let a = follow(cells, h, theme, way, column, ring);
+    let hits = u64::count_ones(a.low) + u64::count_ones(a.high);
+    if columns.len() - found <= hits as usize {
+        return try_column(cells, h, theme, way, column, 0, found, columns, shifts);
+    }
+    Walked {
+        found: put_hits(
+            columns,
+            shifts,
+            found,
+            a.low,
+            a.high,
+            Pitch(theme[0]),
+            column,
+            way,
+        ),
+        looks: a.looks,
+    }
+}
+
+// Tries the starts of a column from the code x on, until none is left or no room: all together where x leaves none out and
+// there are tracks to share them.
+pub fn try_all(
+    cells: &[u8],
+    h: usize,
+    theme: &[u8],
+    way: Way,
+    column: Column,
+    x: u16,
+    found: usize,
+    columns: &mut [u16],
+    shifts: &mut [i16],
+    ring: &mut [u64],
+) -> Walked
+    requires { ⌜ Ready (now cells) h (now theme) ⌝ }
+    requires { ⌜ Fits (columnsIn (now cells) h) (length (now theme)) (column .0) ⌝ }
+    requires { ⌜ (x ≤ span way) × (found ≤ length (now columns)) × (length (now shifts) ≡ length (now columns)) ⌝ }
+    requires { ⌜ Cached way (now cells) h (now ring) ⌝ }
+    ensures { λ r. ⌜ Tries way (scoreOf (now (cells .entry)) h) (now (theme .entry)) (columnStarts way (scoreOf (now (cells .entry)) h) (now (theme .entry)) (column .0) x) found (now (columns .entry)) (now (shifts .entry)) (r .found) (r .looks) (now (columns .exit)) (now (shifts .exit)) × Cached way (now (cells .entry)) h (now (ring .exit)) ⌝ }
+{
+    if (x == 0) & (h != 1) {
+        return try_alive(cells, h, theme, way, column, found, columns, shifts, ring);
+    }
+    try_column(cells, h, theme, way, column, x, found, columns, shifts)
+}

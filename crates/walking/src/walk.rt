@@ -1,0 +1,192 @@
+// The walk along the starts: each column's starts are tried in order, and hits are written behind those found.
+
+use crate::alive::try_all;
+use crate::calls::Walked;
+use crate::register::seek;
+use crate::register::warmed;
+use crate::signs::shift_of;
+use crate::signs::span_of;
+use crate::starts::next_code;
+use crate::starts::try_start;
+use asking::Way;
+use score::Column;
+use score::Pitch;
+use score::columns_in;
+ghost use mathlib.Core.Path.{_≡_};
+ghost use Prim.Native.Nat.{_+_, _*_, _≤_, _<_};
+ghost use lib.ListN.{length};
+ghost use Rattle.theory.specs.Pages.{from};
+ghost use Rattle.score.specs.Score.{columnsIn, scoreOf};
+ghost use Rattle.asking.specs.Way.{span, shiftOf};
+ghost use Rattle.walking.specs.Starts.{key};
+ghost use Rattle.walking.specs.Alive.{Cached};
+ghost use Rattle.walking.specs.Scan.{Filters, Comes};
+ghost use Rattle.walking.specs.Walk.{Ready, Fits, Keeps, columnStarts, Tries, LentFor, BeginsAt, reached, Walks};
+
+// Writes a hit at its place and gives the next place; what is no hit is not written.
+fn keep(
+    columns: &mut [u16],
+    shifts: &mut [i16],
+    at: usize,
+    hit: bool,
+    column: Column,
+    way: Way,
+    code: u16,
+) -> usize
+    requires { ⌜ (at < length (now columns)) × (at < length (now shifts)) × (code ≤ 255) ⌝ }
+    ensures { λ r. ⌜ Keeps hit (column .0) (shiftOf way code) at (now (columns .entry)) (now (shifts .entry)) r (now (columns .exit)) (now (shifts .exit)) ⌝ }
+{
+    if !hit {
+        return at;
+    }
+    columns[at] = column.0;
+    shifts[at] = shift_of(way, code);
+    at + 1
+}
+
+// Tries the starts of a column from the code x on, until none is left or no room. The first `found` places are taken.
+pub fn try_column(
+    cells: &[u8],
+    h: usize,
+    theme: &[u8],
+    way: Way,
+    column: Column,
+    x: u16,
+    found: usize,
+    columns: &mut [u16],
+    shifts: &mut [i16],
+) -> Walked
+    requires { ⌜ Ready (now cells) h (now theme) ⌝ }
+    requires { ⌜ Fits (columnsIn (now cells) h) (length (now theme)) (column .0) ⌝ }
+    requires { ⌜ (x ≤ span way) × (found ≤ length (now columns)) × (length (now shifts) ≡ length (now columns)) ⌝ }
+    ensures { λ r. ⌜ Tries way (scoreOf (now (cells .entry)) h) (now (theme .entry)) (columnStarts way (scoreOf (now (cells .entry)) h) (now (theme .entry)) (column .0) x) found (now (columns .entry)) (now (shifts .entry)) (r .found) (r .looks) (now (columns .exit)) (now (shifts .exit)) ⌝ }
+{
+    let j = column.0 as usize;
+    let base = (j - 1) * h;
+    let p = Pitch(theme[0]);
+    let end = span_of(way);
+    let mut code = x;
+    let mut at = found;
+    let mut looks: u32 = 0;
+    while at < columns.len() {
+        let next = next_code(cells, base, h, way, p, code);
+        if end <= next {
+            return Walked { found: at, looks };
+        }
+        let t = try_start(cells, h, theme, way, column, next);
+        looks += t.looks;
+        at = keep(columns, shifts, at, t.hit, column, way, next);
+        code = next + 1;
+    }
+    Walked { found: at, looks }
+}
+
+// Where a walk goes on: the register, and the column.
+pub struct Next {
+    pub register: u32,
+    pub column: usize,
+}
+
+// The register of a walk along candidates that begins at column j; of one along every column, none is needed.
+fn begun(every: bool, sets: &[u16], table: &[u32], m: usize, j: usize) -> u32
+    requires { ⌜ (2 ≤ m) × (m ≤ 32) × (1 ≤ j) × (j ≤ 2048) ⌝ }
+    requires { ⌜ BeginsAt every (now sets) (now table) m j ⌝ }
+    ensures { λ r. ⌜ Filters every (now (table .entry)) (now (sets .entry)) m j r j ⌝ }
+{
+    if every {
+        return 0;
+    }
+    warmed(sets, table, j - 1, m - 2)
+}
+
+// The first column from j on that is kept, or the one past the last that a theme of m notes has room in.
+fn next_column(
+    every: bool,
+    register: u32,
+    sets: &[u16],
+    table: &[u32],
+    n: usize,
+    m: usize,
+    j: usize,
+) -> Next
+    requires { ⌜ (2 ≤ m) × (m ≤ 32) × (1 ≤ j) × (j + m ≤ n + 1) × (n ≤ 2048) ⌝ }
+    requires { ⌜ LentFor every n (now sets) (now table) ⌝ }
+    ensures { λ r. ⌜ Comes every (now (table .entry)) (now (sets .entry)) n m j register (r .register) (r .column) ⌝ }
+{
+    if every {
+        return Next {
+            register,
+            column: j,
+        };
+    }
+    let s = seek(register, sets, table, j + m - 3, (m - 2) as u32);
+    Next {
+        register: s.register,
+        column: s.at + 3 - m,
+    }
+}
+
+// The walk along the starts of every column, or of candidates only, from a column and code on, until the page is full or none
+// is left. The register begins anew at the first column.
+pub fn walk(
+    every: bool,
+    cells: &[u8],
+    h: usize,
+    theme: &[u8],
+    way: Way,
+    first: Column,
+    x: u16,
+    sets: &[u16],
+    table: &[u32],
+    columns: &mut [u16],
+    shifts: &mut [i16],
+    ring: &mut [u64],
+) -> Walked
+    requires { ⌜ Ready (now cells) h (now theme) ⌝ }
+    requires { ⌜ LentFor every (columnsIn (now cells) h) (now sets) (now table) ⌝ }
+    requires { ⌜ (1 ≤ first .0) × (first .0 ≤ columnsIn (now cells) h + 1) × (x ≤ span way) × (length (now shifts) ≡ length (now columns)) ⌝ }
+    requires { ⌜ Cached way (now cells) h (now ring) ⌝ }
+    ensures { λ r. ⌜ Walks way (scoreOf (now (cells .entry)) h) (now (theme .entry)) (from key (first .0 * 256 + x) (reached every way (scoreOf (now (cells .entry)) h) (now (theme .entry)) (now (table .entry)) (now (sets .entry)))) (now (columns .entry)) (now (shifts .entry)) (r .found) (r .looks) (now (columns .exit)) (now (shifts .exit)) ⌝ }
+{
+    let n = columns_in(cells, h);
+    let m = theme.len();
+    let mut j = first.0 as usize;
+    let mut code = x;
+    let mut found: usize = 0;
+    let mut looks: u32 = 0;
+    if n + 1 < j + m {
+        return Walked { found, looks };
+    }
+    let mut register = begun(every, sets, table, m, j);
+    while j + m <= n + 1 {
+        let to = next_column(every, register, sets, table, n, m, j);
+        let next = to.column;
+        register = to.register;
+        if n + 1 < next + m {
+            return Walked { found, looks };
+        }
+        if j < next {
+            code = 0;
+        }
+        let t = try_all(
+            cells,
+            h,
+            theme,
+            way,
+            Column(next as u16),
+            code,
+            found,
+            columns,
+            shifts,
+            ring,
+        );
+        found = t.found;
+        looks += t.looks;
+        if found == columns.len() {
+            return Walked { found, looks };
+        }
+        code = 0;
+        j = next + 1;
+    }
+    Walked { found, looks }
+}
