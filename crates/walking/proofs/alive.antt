@@ -1,3 +1,3 @@
--- Laws of all starts of a column at once.
+-- Laws of all starts of a column at once, and of what they write.
 pub mod Laws
-pub mod Putting
+pub mod AtOnce

@@ -3,21 +3,19 @@
 -- by itself. Assumes nothing.
 use mathlib.Core.Path.{_≡_}
 use mathlib.Core.Bool.{Bool, cond}
-use mathlib.Core.List.{List, map, _++_}
+use mathlib.Core.List.{List, map}
 use Prim.Native.Nat.{ℕ, _+_, _-_, _*_, _%_, _^_, _≤_, _<_}
 use lib.Dec.{eqb, leb, ltb}
-use lib.IntN.{ℤ}
 use lib.ListN.{length, getD, take, drop}
-use lib.Seq.{sets as stored}
 use Rattle.theory.specs.Lists.{some, sum}
 use Rattle.theory.specs.Pages.{hits}
 use Rattle.theory.specs.Bits.{bit}
-use Rattle.theory.specs.Marks.{marks}
 use Rattle.score.specs.declared.quantities.Pitch.{Pitch}
 use Rattle.score.specs.Score.{pitches, columnAt, column}
 use Rattle.asking.specs.declared.way.Way.{Way}
 use Rattle.asking.specs.declared.way.Way.the-variants.{Exact, Octave}
-use Rattle.asking.specs.Way.{holds, shiftOf}
+use Rattle.asking.specs.Way.{holds}
+use Rattle.hits.specs.Writing.{lowCode, codesOf}
 use Rattle.score.specs.Score.{note}
 use Rattle.walking.specs.Starts.{place, codes, hit, looks}
 
@@ -39,15 +37,6 @@ allLow Octave = 2 ^ 12 - 1
 abbrev pub allHigh : Way → ℕ
 allHigh Exact = 2 ^ 64 - 1
 allHigh Octave = 0
-
--- the code that the lowest bit stands for
-abbrev pub lowCode : Way → (first : Pitch) → ℕ
-lowCode Exact first = 127 - first .0
-lowCode Octave first = 0
-
--- the codes that a word marks
-abbrev pub codesOf : Way → (first : Pitch) → (low high : ℕ) → List ℕ
-codesOf way first low high = marks 64 (lowCode way first) low ++ marks 64 (lowCode way first + 64) high
 
 -- ---- the word of a column
 
@@ -104,9 +93,3 @@ pub record Followed (way : Way) (score : List (List ℕ)) (theme : List ℕ) (j 
   pub small : Small way low high
   pub left : hits (λ c. hit way score theme (place j c)) (codes way (note theme 1) (column score (columnAt j)) 0) ≡ codesOf way (note theme 1) low high
   pub costs : sum (map (λ c. looks way score theme (place j c)) (codes way (note theme 1) (column score (columnAt j)) 0)) ≡ spent
-
--- these codes are written from a place on, each with the column's number
-pub record Puts (way : Way) (j : ℕ) (written : List ℕ) (at : ℕ) (columns : List ℕ) (shifts : List ℤ) (at′ : ℕ) (columns′ : List ℕ) (shifts′ : List ℤ) : Type 0 where
-  pub count : at′ ≡ at + length written
-  pub in-columns : columns′ ≡ stored columns at (map (λ c. j) written)
-  pub in-shifts : shifts′ ≡ stored shifts at (map (shiftOf way) written)

@@ -6,7 +6,7 @@ use mathlib.Core.List.{List, map}
 use Prim.Native.Nat.{ℕ, _+_, _-_, _*_, _%_, _≤_, _<_}
 use lib.Dec.{leb, ltb}
 use lib.IntN.{ℤ, pos, _+ℤ_}
-use lib.ListN.{length, getD, set}
+use lib.ListN.{length, getD}
 use lib.Seq.{sets as stored}
 use lib.Signed.{_≤ℤ_}
 use Rattle.theory.specs.Lists.{over, count, first, lower}
@@ -78,12 +78,6 @@ pub record Trial (way : Way) (score : List (List ℕ)) (theme : List ℕ) (j cod
 -- the starts of column j from code x on
 abbrev pub columnStarts : Way → (score : List (List ℕ)) (theme : List ℕ) (j x : ℕ) → List Place
 columnStarts way score theme j x = map (place j) (codes way (note theme 1) (column score (columnAt j)) x)
-
--- a hit is written at its place, and the next place is one further; what is no hit changes nothing
-pub record Keeps (hit : Bool) (j : ℕ) (c : ℤ) (at : ℕ) (columns : List ℕ) (shifts : List ℤ) (at′ : ℕ) (columns′ : List ℕ) (shifts′ : List ℤ) : Type 0 where
-  pub count : at′ ≡ cond hit (at + 1) at
-  pub in-columns : columns′ ≡ cond hit (set columns at j) columns
-  pub in-shifts : shifts′ ≡ cond hit (set shifts at c) shifts
 
 -- what trying the starts leaves in buffers of which `found` places are taken: the hits that still have room, behind those
 pub record Tries (way : Way) (score : List (List ℕ)) (theme : List ℕ) (tried : List Place) (found : ℕ) (columns : List ℕ) (shifts : List ℤ)

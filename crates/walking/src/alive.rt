@@ -4,20 +4,18 @@
 use crate::calls::Walked;
 use crate::masks::Word;
 use crate::masks::held_at;
-use crate::signs::shift_of;
 use crate::walk::try_column;
 use asking::Way;
+use hits::put_hits;
 use score::Column;
 use score::Pitch;
 ghost use mathlib.Core.Path.{_≡_};
 ghost use Prim.Native.Nat.{_+_, _*_, _≤_, _<_};
 ghost use lib.ListN.{length};
-ghost use lib.Count.{ones};
-ghost use Rattle.theory.specs.Marks.{marks};
 ghost use Rattle.score.specs.Score.{columnsIn, scoreOf};
 ghost use Rattle.asking.specs.Way.{span};
 ghost use Rattle.walking.specs.Walk.{Ready, Fits, columnStarts, Tries};
-ghost use Rattle.walking.specs.Alive.{width, allLow, allHigh, lowCode, codesOf, Cached, Followed, Puts};
+ghost use Rattle.walking.specs.Alive.{width, allLow, allHigh, Cached, Followed};
 
 // The starts of a column that are hits, and the looks of all its starts.
 pub struct Alive {
@@ -78,61 +76,6 @@ fn follow(cells: &[u8], h: usize, theme: &[u8], way: Way, column: Column, ring: 
     }
     looks -= spare;
     Alive { low, high, looks }
-}
-
-// Writes the codes that a half of a word marks, from a place on, and gives the place behind them.
-fn put_marked(
-    columns: &mut [u16],
-    shifts: &mut [i16],
-    from: usize,
-    half: u64,
-    first: u16,
-    column: Column,
-    way: Way,
-) -> usize
-    requires { ⌜ (from + ones half ≤ length (now columns)) × (from + ones half ≤ length (now shifts)) × (first ≤ 191) ⌝ }
-    ensures { λ r. ⌜ Puts way (column .0) (marks 64 first half) from (now (columns .entry)) (now (shifts .entry)) r (now (columns .exit)) (now (shifts .exit)) ⌝ }
-{
-    let mut left = half;
-    let mut at = from;
-    while left != 0 {
-        let i = u64::trailing_zeros(left);
-        columns[at] = column.0;
-        shifts[at] = shift_of(way, first + i as u16);
-        left = left - (1 << i);
-        at += 1;
-    }
-    at
-}
-
-// The code that the lowest bit of a word stands for.
-fn low_code(way: Way, first: Pitch) -> u16
-    requires { ⌜ first .0 ≤ 127 ⌝ }
-    ensures { λ r. ⌜ r ≡ lowCode way first ⌝ }
-{
-    match way {
-        Way::Exact => 127 - first.0 as u16,
-        Way::Octave => 0,
-    }
-}
-
-// Writes the codes that a word marks, from a place on, and gives the place behind them.
-fn put_hits(
-    columns: &mut [u16],
-    shifts: &mut [i16],
-    from: usize,
-    low: u64,
-    high: u64,
-    first: Pitch,
-    column: Column,
-    way: Way,
-) -> usize
-    requires { ⌜ (from + (ones low + ones high) ≤ length (now columns)) × (length (now shifts) ≡ length (now columns)) × (first .0 ≤ 127) ⌝ }
-    ensures { λ r. ⌜ Puts way (column .0) (codesOf way first low high) from (now (columns .entry)) (now (shifts .entry)) r (now (columns .exit)) (now (shifts .exit)) ⌝ }
-{
-    let code = low_code(way, first);
-    let middle = put_marked(columns, shifts, from, low, code, column, way);
-    put_marked(columns, shifts, middle, high, code + 64, column, way)
 }
 
 // Tries all starts of a column: at once where there is room for every hit, otherwise one by one until the page is full.

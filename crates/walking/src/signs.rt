@@ -2,8 +2,7 @@
 
 use asking::Way;
 ghost use mathlib.Core.Path.{_≡_};
-ghost use Prim.Native.Nat.{_≤_};
-ghost use Rattle.asking.specs.Way.{span, shiftOf, codeOf};
+ghost use Rattle.asking.specs.Way.{span, codeOf};
 ghost use Rattle.walking.specs.Walk.{ShiftIn};
 
 // How many shifts the way has.
@@ -13,17 +12,6 @@ pub fn span_of(way: Way) -> u16
     match way {
         Way::Exact => 255,
         Way::Octave => 12,
-    }
-}
-
-// The shift that a code stands for.
-pub fn shift_of(way: Way, code: u16) -> i16
-    requires { ⌜ code ≤ 255 ⌝ }
-    ensures { λ r. ⌜ r ≡ shiftOf way code ⌝ }
-{
-    match way {
-        Way::Exact => (code as i16) - 127,
-        Way::Octave => code as i16,
     }
 }
 

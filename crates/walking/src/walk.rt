@@ -4,11 +4,11 @@ use crate::alive::try_all;
 use crate::calls::Walked;
 use crate::register::seek;
 use crate::register::warmed;
-use crate::signs::shift_of;
 use crate::signs::span_of;
 use crate::starts::next_code;
 use crate::starts::try_start;
 use asking::Way;
+use hits::keep;
 use score::Column;
 use score::Pitch;
 use score::columns_in;
@@ -17,32 +17,11 @@ ghost use Prim.Native.Nat.{_+_, _*_, _≤_, _<_};
 ghost use lib.ListN.{length};
 ghost use Rattle.theory.specs.Pages.{from};
 ghost use Rattle.score.specs.Score.{columnsIn, scoreOf};
-ghost use Rattle.asking.specs.Way.{span, shiftOf};
+ghost use Rattle.asking.specs.Way.{span};
 ghost use Rattle.walking.specs.Starts.{key};
 ghost use Rattle.walking.specs.Alive.{Cached};
 ghost use Rattle.walking.specs.Scan.{Filters, Comes};
-ghost use Rattle.walking.specs.Walk.{Ready, Fits, Keeps, columnStarts, Tries, LentFor, BeginsAt, reached, Walks};
-
-// Writes a hit at its place and gives the next place; what is no hit is not written.
-fn keep(
-    columns: &mut [u16],
-    shifts: &mut [i16],
-    at: usize,
-    hit: bool,
-    column: Column,
-    way: Way,
-    code: u16,
-) -> usize
-    requires { ⌜ (at < length (now columns)) × (at < length (now shifts)) × (code ≤ 255) ⌝ }
-    ensures { λ r. ⌜ Keeps hit (column .0) (shiftOf way code) at (now (columns .entry)) (now (shifts .entry)) r (now (columns .exit)) (now (shifts .exit)) ⌝ }
-{
-    if !hit {
-        return at;
-    }
-    columns[at] = column.0;
-    shifts[at] = shift_of(way, code);
-    at + 1
-}
+ghost use Rattle.walking.specs.Walk.{Ready, Fits, columnStarts, Tries, LentFor, BeginsAt, reached, Walks};
 
 // Tries the starts of a column from the code x on, until none is left or no room. The first `found` places are taken.
 pub fn try_column(

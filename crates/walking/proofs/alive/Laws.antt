@@ -10,8 +10,8 @@ use native.Mathlib.Decide.{decLt}
 use native.Mathlib.Omega.{arith}
 use lib.Dec.{eqb}
 use lib.Bits.{bitAnd, bitOr, and-le-l, and-le-r, or-add-and}
-use lib.Count.{ones, ones-le, ones-ones}
-use lib.ListN.{length, getD, take, drop, length-append, drop-of-length-le}
+use lib.Count.{ones, ones-ones}
+use lib.ListN.{length, getD, take, drop, drop-of-length-le}
 use lib.Seq.{drop-cons, drop-drop, getD-drop}
 use borrow.Author.Tests.{eq-eqb}
 use Rattle.theory.specs.Lists.{count, some, sum}
@@ -19,7 +19,7 @@ use Rattle.theory.specs.Pages.{hits}
 use Rattle.theory.specs.Bits.{bit}
 use Rattle.theory.specs.Marks.{marks}
 use Rattle.theory.proofs.Bits.{bit-high, bit-ones}
-use Rattle.theory.proofs.Marks.{marks-is, marks-zero, marks-ones, marks-both, marks-few, count-append}
+use Rattle.theory.proofs.Marks.{marks-is, marks-zero, marks-both, marks-few, count-append}
 use Rattle.theory.proofs.Counts.{count-none}
 use Rattle.theory.proofs.Pages.{hits-append}
 use Rattle.theory.proofs.Hits.{hits-part, hits-all}
@@ -29,10 +29,12 @@ use Rattle.score.specs.Score.{pitch, pitches, columnAt, column, columnsIn, scor
 use Rattle.asking.specs.declared.way.Way.{Way}
 use Rattle.asking.specs.declared.way.Way.the-variants.{Exact, Octave}
 use Rattle.asking.specs.Way.{span, holds}
+use Rattle.hits.specs.Writing.{lowCode, codesOf}
+use Rattle.hits.proofs.Fitting.{ones-few, codes-length}
 use Rattle.score.specs.Score.{note}
 use Rattle.walking.specs.Starts.{place, codes, follows, looked, hit, looks}
 use Rattle.walking.specs.Walk.{Ready, Fits}
-use Rattle.walking.specs.Alive.{width, Small, allLow, allHigh, lowCode, codesOf, Says, Followed}
+use Rattle.walking.specs.Alive.{width, Small, allLow, allHigh, Says, Followed}
 use Rattle.walking.proofs.starts.Laws.{holds-below, holds-above}
 use Rattle.walking.proofs.starts.Trying.{column-cells}
 
@@ -47,10 +49,8 @@ small-high Exact low high s = s .1
 small-high Octave low high s = omega (arith, s .1)
 
 -- as many as the halves have ones
-pub codes-length : (way : Way) (first : Pitch) (low high : ℕ) → Small way low high → length (codesOf way first low high) ≡ ones low + ones high
-codes-length way first low high s =
-    length-append (marks 64 (lowCode way first) low) (marks 64 (lowCode way first + 64) high)
-    ∙ rw (marks-ones 64 (lowCode way first) low (small-low way low high s), marks-ones 64 (lowCode way first + 64) high (small-high way low high s))
+pub small-length : (way : Way) (first : Pitch) (low high : ℕ) → Small way low high → length (codesOf way first low high) ≡ ones low + ones high
+small-length way first low high s = codes-length way first low high (small-low way low high s) (small-high way low high s)
 
 -- a word has no bit where neither half has
 pub or-none-left : (x y : ℕ) → bitOr x y ≡ 0 → x ≡ 0
@@ -62,13 +62,6 @@ or-none-right x y e = omega (arith, e, or-add-and x y, and-le-l x y)
 pub both-left : (a b : Bool) → (a && b) ≡ true → a ≡ true
 both-left true b e = refl
 both-left false b e = e
-
-pub ones-few : (low high : ℕ) → low < 2 ^ 64 → high < 2 ^ 64 → ones low + ones high ≤ 128
-ones-few low high l h = omega (arith, ones-le 64 low l, ones-le 64 high h)
-
-pub low-code-le : (way : Way) (first : Pitch) → lowCode way first ≤ 127
-low-code-le Exact first = omega arith
-low-code-le Octave first = omega arith
 
 pub codes-none : (way : Way) (first : Pitch) → codesOf way first 0 0 ≡ []
 codes-none way first = rw (marks-zero 64 (lowCode way first), marks-zero 64 (lowCode way first + 64))
@@ -128,8 +121,8 @@ all-small Exact = (omega arith, omega arith)
 all-small Octave = (omega arith, refl)
 
 pub all-length : (way : Way) (p : Pitch) → length (codesOf way p (allLow way) (allHigh way)) ≡ width way
-all-length Exact p = codes-length Exact p (2 ^ 64 - 1) (2 ^ 64 - 1) (all-small Exact) ∙ rw (ones-ones 64)
-all-length Octave p = codes-length Octave p (2 ^ 12 - 1) 0 (all-small Octave) ∙ omega (arith, ones-ones 12, ones-ones 0)
+all-length Exact p = small-length Exact p (2 ^ 64 - 1) (2 ^ 64 - 1) (all-small Exact) ∙ rw (ones-ones 64)
+all-length Octave p = small-length Octave p (2 ^ 12 - 1) 0 (all-small Octave) ∙ omega (arith, ones-ones 12, ones-ones 0)
 
 pub all-starts : (way : Way) (p : Pitch) (column : List ℕ) → p .0 ≤ 127 → hits (λ c. holds way c p column) (codesOf way p (allLow way) (allHigh way)) ≡ codes way p column 0
 all-starts Exact p column l =
@@ -241,7 +234,7 @@ module _ (way : Way) (cells : List ℕ) (h : ℕ) (theme : List ℕ) (j : ℕ) (
       step-costs : sum (map (λ c. looked way c (drop k theme) (drop (j + k - 1) (scoreOf cells h))) (codesOf way (note theme 1) low high))
           ≡ ones low + ones high + sum (map (λ c. looked way c (drop (k + 1) theme) (drop (j + (k + 1) - 1) (scoreOf cells h))) (codesOf way (note theme 1) (bitAnd low l) (bitAnd high u)))
       step-costs =
-          rw (drop-cons theme k 0 q, at-column, further, add-one k, ← held, ← codes-length way (note theme 1) low high (t .small))
+          rw (drop-cons theme k 0 q, at-column, further, add-one k, ← held, ← small-length way (note theme 1) low high (t .small))
           (sum-part (λ c. holds way c (pitch (getD theme k 0)) (take h (drop ((j + k - 1) * h) cells)))
           (λ c. looked way c (drop (suc k) theme) (drop (j + suc k - 1) (scoreOf cells h))) (codesOf way (note theme 1) low high))
 

@@ -26,7 +26,7 @@ use Rattle.preparing.proofs.Turning.{turned-bit}
 use Rattle.asking.specs.declared.way.Way.{Way}
 use Rattle.asking.specs.declared.way.Way.the-variants.{Exact, Octave}
 use Rattle.asking.specs.Way.{holds}
-use Rattle.walking.specs.Alive.{width, Small, lowCode, has, bitAt, WordOf, Says, Down, Up, Turned, Moves, Cached}
+use Rattle.walking.specs.Alive.{width, Small, has, bitAt, WordOf, Says, Down, Up, Turned, Moves, Cached}
 use Rattle.walking.proofs.starts.Laws.{holds-exact, holds-below, holds-above, holds-octave}
 use Rattle.walking.proofs.masks.Moving.{bit-lower, bit-upper}
 

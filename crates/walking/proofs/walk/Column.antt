@@ -17,10 +17,13 @@ use Rattle.score.specs.Score.{pitch, columnAt, column, columnsIn, scoreOf}
 use Rattle.score.proofs.Columns.{cut-at}
 use Rattle.asking.specs.declared.way.Way.{Way}
 use Rattle.asking.specs.Way.{span, holds, shiftOf}
+use Rattle.hits.specs.Writing.{startCodes, fitting, Puts}
+use Rattle.hits.proofs.Fitting.{puts-hit, puts-miss}
 use Rattle.score.specs.Score.{note}
 use Rattle.walking.specs.Starts.{Place, place, hit, looks}
 use Rattle.walking.specs.Found.{columnsOf, shiftsOf}
-use Rattle.walking.specs.Walk.{Ready, Fits, nextCode, Trial, columnStarts, Tries, Keeps}
+use Rattle.walking.specs.Walk.{Ready, Fits, nextCode, Trial, columnStarts, Tries}
+use Rattle.walking.proofs.Order.{span-lt}
 use Rattle.walking.proofs.LookBound.{looks-le}
 
 -- ---- the starts of a column from a code on
@@ -47,15 +50,6 @@ module _ (way : Way) (cells : List ℕ) (h : ℕ) (theme : List ℕ) (j : ℕ) (
   starts-none q =
       let k : span way - code ≤ first (λ c. holds way c (note theme 1) (column (scoreOf cells h) (columnAt j))) (count code (span way - code)) = omega (arith, next-is) in
       rw (hits-none (λ c. holds way c (note theme 1) (column (scoreOf cells h) (columnAt j))) code (span way - code) k)
-
--- ---- a hit is kept, and what is none is not
-
-module _ {hit′ : Bool} (j : ℕ) (c : ℤ) (at : ℕ) (columns : List ℕ) (shifts : List ℤ) where
-  pub keep-none : hit′ ≡ false → Keeps hit′ j c at columns shifts at columns shifts
-  keep-none e = record { count = rw e; in-columns = rw e; in-shifts = rw e }
-
-  pub keep-hit : (c′ : ℤ) → c′ ≡ c → hit′ ≡ true → Keeps hit′ j c at columns shifts (at + 1) (set columns at j) (set shifts at c′)
-  keep-hit c′ d e = record { count = rw e; in-columns = rw e; in-shifts = rw (e, d) }
 
 -- nothing is tried
 pub tries-none : (way : Way) (score : List (List ℕ)) (theme : List ℕ) (C : List Place) {kept : Bool} (found : ℕ) (columns : List ℕ) (shifts : List ℤ)
@@ -152,14 +146,17 @@ module _ (way : Way) (cells : List ℕ) (h : ℕ) (theme : List ℕ) (j x found 
             (t .out) spent (suc (length columns₀ - (at + 1))) (place j next ∷ columnStarts way (scoreOf cells h) theme j (next + 1))
         ready = rw (starts-some way cells h theme j f some-notes code next base b n q, room-more) at (t .going)
 
-        pub fill-turn : (columns′ : List ℕ) (shifts′ : List ℤ) (at′ : ℕ) → Keeps found′ j (shiftOf way next) at columns shifts at′ columns′ shifts′
+        pub fill-turn : (columns′ : List ℕ) (shifts′ : List ℤ) (at′ : ℕ) → Puts way j (fitting (startCodes found′ next) at columns shifts) at columns shifts at′ columns′ shifts′
             → Filling way cells h theme j x found columns₀ shifts₀ columns′ shifts′ (next + 1) at′ (spent + costs)
-        fill-turn columns′ shifts′ at′ k = step found′ (tried .hits) (k .count) (k .in-columns) (k .in-shifts)
+        fill-turn columns′ shifts′ at′ k = step found′ (tried .hits) k
           where
-            step : (b : Bool) → b ≡ hit way (scoreOf cells h) theme (place j next) → at′ ≡ cond b (at + 1) at → columns′ ≡ cond b (set columns at j) columns
-                → shifts′ ≡ cond b (set shifts at (shiftOf way next)) shifts
+            step : (b : Bool) → b ≡ hit way (scoreOf cells h) theme (place j next) → Puts way j (fitting (startCodes b next) at columns shifts) at columns shifts at′ columns′ shifts′
                 → Filling way cells h theme j x found columns₀ shifts₀ columns′ shifts′ (next + 1) at′ (spent + costs)
-            step true e a c d =
+            step true e k =
+                let p = puts-hit way j at columns shifts next at′ columns′ shifts′ (omega (arith, span-lt way)) some-room (omega (arith, t .long, t .long-shifts)) k in
+                let a : at′ ≡ at + 1 = p .count in
+                let c : columns′ ≡ set columns at j = p .in-columns in
+                let d : shifts′ ≡ set shifts at (shiftOf way next) = p .in-shifts in
                 record {
                   out = t .out ++ (place j next ∷ []);
                   going = rw (a, tried .costs) (going-took _ _ _ _ ready (sym e));
@@ -172,7 +169,11 @@ module _ (way : Way) (cells : List ℕ) (h : ℕ) (theme : List ℕ) (j x found 
                   low = omega arith;
                   bounded = fill-bound;
                 }
-            step false e a c d =
+            step false e k =
+                let p = puts-miss way j at columns shifts next at′ columns′ shifts′ k in
+                let a : at′ ≡ at = omega (arith, p .count) in
+                let c : columns′ ≡ columns = p .in-columns in
+                let d : shifts′ ≡ shifts = p .in-shifts in
                 record {
                   out = t .out;
                   going = rw (a, tried .costs, room-more) (going-miss _ _ _ _ ready (sym e));

@@ -2,8 +2,8 @@
 use borrow.Author.Needs.{needs}
 use Prim.Native.Nat.{zero-le}
 use native.Mathlib.Omega.{arith}
-use Rattle.walking.proofs.alive.Laws.{ones-few}
-use Rattle.walking.proofs.alive.Putting.{at-once}
+use Rattle.hits.proofs.Fitting.{ones-few}
+use Rattle.walking.proofs.alive.AtOnce.{at-once}
 use Rattle.walking.proofs.alive.try_alive.Statement.{statement}
 use Rattle.walking.proofs.alive.try_alive.Tie as tie
 
@@ -38,7 +38,7 @@ shared-slice-read-t29 : tie.Need-shared-slice-read-t29
 shared-slice-read-t29 c = search needs
 
 put-hits-requires : tie.Need-put-hits-requires
-put-hits-requires c κs = let s = c .before .before .before .before .before .before .before .before .before .before .before .before .before .before in (omega (arith, c .before .before .before .if1 .left, s .pre .1 .1 .0 .0), s .pre .1 .1 .0 .1, s .pre .0 .sung 0)
+put-hits-requires c κs = tt
 
 same-length-4 : tie.Need-same-length-4
 same-length-4 c = search needs
@@ -51,8 +51,10 @@ same-length-6 c = search needs
 
 returns-2 : tie.Need-returns-2
 returns-2 c =
-    let f = c .before .before .before .before .before .before .before .before .before .before .before .before .follow .ensures in
-    (at-once _ _ _ _ _ _ _ (f .0) _ _ _ (c .before .before .before .before .before .before .before .if1 .left) _ _ _ (c .before .before .before .put-hits .ensures), f .1)
+    let e = c .before .before .before .before .before .before .before in
+    let f = e .before .before .before .before .before .follow .ensures in
+    let s = e .before .before .before .before .before .before .before .before .before .before .before in
+    (at-once _ _ _ _ _ _ _ (f .0) (s .pre .0 .sung 0) _ _ _ (s .pre .1 .1 .0 .1) (s .pre .1 .1 .0 .0) (e .if1 .left) _ _ _ (c .before .before .before .put-hits .ensures), f .1)
 
 pub try-alive-spec : {M : Type 1} → statement M
 try-alive-spec =

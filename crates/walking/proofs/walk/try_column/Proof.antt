@@ -69,11 +69,7 @@ add-looks c =
     omega (arith, span-lt (s .args .way), fill-bound _ _ _ _ _ _ _ _ _ _ _ _ _ _ (l .loop .inv) (s .pre .0) (s .pre .1 .0) _ refl _ (e .before .next-code .ensures) q (e .before .before .loop-test .taken) _ _ (c .before .try-start .ensures))
 
 keep-requires : tie.Need-keep-requires Inv-loop μ-loop
-keep-requires c κs =
-    let e = c .before .before .before .before in
-    let l = e .before .before .before in
-    let s = l .before .before .before .before .before .before .before in
-    (e .before .before .loop-test .taken, omega (arith, e .before .before .loop-test .taken, l .loop .inv .long, l .loop .inv .long-shifts), omega (arith, l .before .span-of .ensures, e .if1 .left, span-lt (s .args .way)))
+keep-requires c κs = tt
 
 add-code : tie.Need-add-code Inv-loop μ-loop
 add-code c = search needs

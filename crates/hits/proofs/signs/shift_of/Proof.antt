@@ -1,12 +1,12 @@
--- `walking::signs::shift_of` meets its contract: the law of a difference, at 16 bits; by cases on the way. Assumes
+-- `hits::signs::shift_of` meets its contract: the law of a difference, at 16 bits; by cases on the way. Assumes
 -- nothing.
 use borrow.Author.Needs.{needs}
 use native.Mathlib.Omega.{arith}
 use mir.Syntax.{w16}
 use mir.Facts.{toZ-pos}
 use Rattle.theory.proofs.Signed.{sub-fits, sub-read}
-use Rattle.walking.proofs.signs.shift_of.Statement.{statement}
-use Rattle.walking.proofs.signs.shift_of.Tie as tie
+use Rattle.hits.proofs.signs.shift_of.Statement.{statement}
+use Rattle.hits.proofs.signs.shift_of.Tie as tie
 
 enum-told : tie.Need-enum-told
 enum-told c = search needs

@@ -1,7 +1,7 @@
--- `walking::alive::low_code` meets its contract. Assumes nothing.
+-- `hits::writing::low_code` meets its contract. Assumes nothing.
 use borrow.Author.Needs.{needs}
-use Rattle.walking.proofs.alive.low_code.Statement.{statement}
-use Rattle.walking.proofs.alive.low_code.Tie as tie
+use Rattle.hits.proofs.writing.low_code.Statement.{statement}
+use Rattle.hits.proofs.writing.low_code.Tie as tie
 
 enum-told : tie.Need-enum-told
 enum-told c = search needs

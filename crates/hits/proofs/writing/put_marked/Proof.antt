@@ -1,4 +1,4 @@
--- `walking::alive::put_marked` meets its contract. The invariant is `Putting`: what is written and what is still marked are all that
+-- `hits::writing::put_marked` meets its contract. The invariant is `Putting`: what is written and what is still marked are all that
 -- was marked. The measure is what is still marked, as a number. Assumes nothing.
 use borrow.Author.Needs.{needs}
 use mathlib.Core.Path.{_∙_}
@@ -8,9 +8,9 @@ use lib.Count.{ones}
 use lib.ListN.{length}
 use mir.Syntax.{w16}
 use mir.Facts.{toZ-ofZ}
-use Rattle.walking.proofs.alive.Putting.{Putting, put-start, put-end, put-room, put-within, put-there, put-less, put-turn}
-use Rattle.walking.proofs.alive.put_marked.Statement.{statement}
-use Rattle.walking.proofs.alive.put_marked.Tie as tie
+use Rattle.hits.proofs.writing.Putting.{Putting, put-start, put-end, put-room, put-within, put-there, put-less, put-turn}
+use Rattle.hits.proofs.writing.put_marked.Statement.{statement}
+use Rattle.hits.proofs.writing.put_marked.Tie as tie
 
 abbrev Inv-loop : tie.InvT-loop
 Inv-loop columns₀ shifts₀ from half first column way left₀ at₀ columns shifts left at =
@@ -74,7 +74,7 @@ add-at c =
     search needs
 
 loop-less : tie.Need-loop-less Inv-loop μ-loop
-loop-less c = put-less _ _ _ _ _ _ _ _ _ _ _ (c .before .before .loop .inv) (c .before .loop-test .taken)
+loop-less c = omega (arith, put-less _ _ _ _ _ _ _ _ _ _ _ (c .before .before .loop .inv) (c .before .loop-test .taken))
 
 loop-again : tie.Need-loop-again Inv-loop μ-loop
 loop-again c = put-turn _ _ _ _ _ _ _ _ _ _ _ (c .before .before .loop .inv) (c .before .loop-test .taken) _ (toZ-ofZ {w = w16} (record { sfits = c .shift-of .ok }) ∙ c .shift-of .ensures)

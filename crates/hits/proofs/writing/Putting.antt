@@ -1,34 +1,27 @@
 -- What the loop that writes marked codes keeps: those written so far and those that are still marked are all that were marked.
--- Last, what a column gives where there is room for all its hits. Assumes nothing.
+-- Then what is written in two parts, and what is not written. Assumes nothing.
 use mathlib.Core.Path.{_≡_, refl, sym, ap, _∙_}
+use mathlib.Core.Bool.{Bool, true, false, not, _&&_, true≢false}
 use mathlib.Core.List.{List, [], _∷_, _++_, map, map-append, append-assoc, append-nil}
 use Prim.Native.Nat.{ℕ, zero, suc, _+_, _-_, _*_, _%_, _^_, _≤_, _<_}
+use native.Mathlib.Decide.{decLe}
 use native.Mathlib.Omega.{arith}
-use mathlib.Core.Bool.{false}
 use lib.Count.{ones, trailingZeros}
+use lib.Dec.{leb}
 use lib.IntN.{ℤ}
-use lib.ListN.{length, take, set, length-take, length-append, length-map, length-set}
+use lib.ListN.{length, set, length-append, length-map, length-set}
 use lib.Pow.{pow-pos}
 use lib.Seq.{sets}
-use borrow.Author.Tests.{lt-leb}
+use borrow.Author.Tests.{leb-true, le-leb, lt-leb, not-true}
 use Rattle.theory.specs.Marks.{marks}
 use Rattle.theory.proofs.Marks.{marks-zero, marks-ones, Lowest, marks-lowest}
 use Rattle.theory.proofs.Masks.{one-shl}
-use Rattle.theory.specs.Lists.{sum}
-use Rattle.theory.specs.Pages.{hits, pageHits, pageLooks, rest, full}
-use Rattle.theory.proofs.Lists.{sets-more, sets-append, map-twice}
-use Rattle.theory.proofs.Hits.{hits-map}
-use Rattle.theory.proofs.Pages.{page-take, page-last, rest-nil}
-use Rattle.theory.proofs.Looks.{looks-split}
-use Rattle.score.specs.Score.{columnAt, column}
+use Rattle.theory.proofs.Lists.{sets-more, sets-append}
+use Rattle.score.specs.declared.quantities.Pitch.{Pitch}
 use Rattle.asking.specs.declared.way.Way.{Way}
 use Rattle.asking.specs.Way.{shiftOf}
-use Rattle.score.specs.Score.{note}
-use Rattle.walking.specs.Starts.{Place, place, codes, hit, looks}
-use Rattle.walking.specs.Found.{columnsOf, shiftsOf}
-use Rattle.walking.specs.Walk.{columnStarts, Tries}
-use Rattle.walking.specs.Alive.{lowCode, codesOf, Followed, Puts}
-use Rattle.walking.proofs.alive.Laws.{codes-length}
+use Rattle.hits.specs.Writing.{codesOf, wordCodes, fitting, Puts}
+use Rattle.hits.proofs.Fitting.{fitting-nil, fitting-all, fitting-none, fitting-cond, puts-nil, codes-length, word-codes, word-none}
 
 pub record Putting (way : Way) (j from half first : ℕ) (columns₀ : List ℕ) (shifts₀ : List ℤ) (columns : List ℕ) (shifts : List ℤ) (left at : ℕ) : Type 0 where
   pub out : List ℕ
@@ -91,49 +84,6 @@ module _ (way : Way) (j from half first : ℕ) (columns₀ : List ℕ) (shifts�
             long-shifts = length-set shifts at c ∙ t .long-shifts;
           })
 
--- ---- what a column gives where there is room for all its hits
-
-module _ (way : Way) (score : List (List ℕ)) (theme : List ℕ) (j low high spent : ℕ) (f : Followed way score theme j low high spent) where
-  abbrev starts : List Place
-  starts = columnStarts way score theme j 0
-
-  hits-are : hits (hit way score theme) starts ≡ map (place j) (codesOf way (note theme 1) low high)
-  hits-are = hits-map (place j) (hit way score theme) (codes way (note theme 1) (column score (columnAt j)) 0) ∙ ap (map (place j)) (f .left)
-
-  hits-length : length (hits (hit way score theme) starts) ≡ ones low + ones high
-  hits-length = ap length hits-are ∙ length-map (codesOf way (note theme 1) low high) (place j) ∙ codes-length way (note theme 1) low high (f .small)
-
-  module _ (room : ℕ) (q : ones low + ones high < room) where
-    fewer : length (hits (hit way score theme) starts) < room
-    fewer = omega (arith, hits-length)
-
-    not-full : full (hit way score theme) room starts ≡ false
-    not-full = lt-leb room (length (pageHits (hit way score theme) room starts))
-        (omega (arith, ap length (page-take (hit way score theme) room starts), length-take room (hits (hit way score theme) starts), fewer))
-
-    page-is : pageHits (hit way score theme) room starts ≡ map (place j) (codesOf way (note theme 1) low high)
-    page-is = page-last (hit way score theme) room starts not-full ∙ hits-are
-
-    looks-are : pageLooks (hit way score theme) (looks way score theme) room starts ≡ spent
-    looks-are =
-        let a : pageLooks (hit way score theme) (looks way score theme) room starts + sum (map (looks way score theme) (rest (hit way score theme) room starts)) ≡ sum (map (looks way score theme) starts) =
-        looks-split (hit way score theme) (looks way score theme) room starts in
-        let b : sum (map (looks way score theme) (rest (hit way score theme) room starts)) ≡ 0 = rw (rest-nil (hit way score theme) room starts fewer) in
-        let c : sum (map (looks way score theme) starts) ≡ spent = ap sum (map-twice (place j) (looks way score theme) (codes way (note theme 1) (column score (columnAt j)) 0)) ∙ f .costs in
-        omega (arith, a, b, c)
-
-  pub at-once : (found : ℕ) (columns : List ℕ) (shifts : List ℤ) → ones low + ones high < length columns - found
-      → (found′ : ℕ) (columns′ : List ℕ) (shifts′ : List ℤ) → Puts way j (codesOf way (note theme 1) low high) found columns shifts found′ columns′ shifts′
-      → Tries way score theme starts found columns shifts found′ spent columns′ shifts′
-  at-once found columns shifts q found′ columns′ shifts′ p =
-      let page = page-is (length columns - found) q in
-      record {
-        count = p .count ∙ ap (λ (n : ℕ). found + n) (sym (ap length page ∙ length-map (codesOf way (note theme 1) low high) (place j)));
-        costs = sym (looks-are (length columns - found) q);
-        in-columns = p .in-columns ∙ ap (sets columns found) (sym (ap columnsOf page ∙ map-twice (place j) (λ s. s .column) (codesOf way (note theme 1) low high)));
-        in-shifts = p .in-shifts ∙ ap (sets shifts found) (sym (ap (shiftsOf way) page ∙ map-twice (place j) (λ s. shiftOf way (s .code)) (codesOf way (note theme 1) low high)));
-      }
-
 -- some codes, and then others behind them
 pub puts-both : (way : Way) (j : ℕ) (some more : List ℕ) (at : ℕ) (columns : List ℕ) (shifts : List ℤ) (middle : ℕ) (columns₁ : List ℕ) (shifts₁ : List ℤ)
     → Puts way j some at columns shifts middle columns₁ shifts₁ → (end : ℕ) (columns₂ : List ℕ) (shifts₂ : List ℤ)
@@ -148,3 +98,47 @@ puts-both way j some more at columns shifts middle columns₁ shifts₁ p end co
           r .in-shifts ∙ rw (p .in-shifts) (sets-append (map (shiftOf way) some) shifts at middle (map (shiftOf way) more) (p .count ∙ ap (λ (n : ℕ). at + n) (sym (length-map some _))))
           ∙ ap (sets shifts at) (sym (map-append (shiftOf way) some more));
     }
+
+-- ---- a word, where it fits and where not
+
+-- room is counted from the place on, or from the beginning
+pub room-from : (n at hits : ℕ) → at ≤ n → leb hits (n - at) ≡ leb (at + hits) n
+room-from n at hits h = sides (decLe hits (n - at))
+  where
+    sides : Dec (hits ≤ n - at) → leb hits (n - at) ≡ leb (at + hits) n
+    sides (yes l) = le-leb _ _ l ∙ sym (le-leb (at + hits) n (omega arith))
+    sides (no l) = lt-leb hits (n - at) (omega arith) ∙ sym (lt-leb (at + hits) n (omega arith))
+
+-- both buffers have room for so many
+pub record Room (n at a b : ℕ) : Type 0 where
+  pub in-columns : at + n ≤ a
+  pub in-shifts : at + n ≤ b
+
+module _ (n at a b : ℕ) (x y : Bool) (p : x ≡ leb (at + n) a) (q : y ≡ leb (at + n) b) where
+  pub room-both : not (x && y) ≡ false → Room n at a b
+  room-both e = step x y p q e
+    where
+      step : (x y : Bool) → x ≡ leb (at + n) a → y ≡ leb (at + n) b → not (x && y) ≡ false → Room n at a b
+      step true true p q e = record { in-columns = leb-true _ _ (sym p); in-shifts = leb-true _ _ (sym q) }
+      step true false p q e = absurd (true≢false e)
+      step false y p q e = absurd (true≢false e)
+
+  pub room-none : not (x && y) ≡ true → (leb (at + n) a && leb (at + n) b) ≡ false
+  room-none e = rw (← p, ← q) (not-true (x && y) e)
+
+module _ (way : Way) (j : ℕ) (first : Pitch) (low high at : ℕ) (columns : List ℕ) (shifts : List ℤ) where
+  pub put-no-pitch : 127 < first .0 → Puts way j (fitting (wordCodes way first low high) at columns shifts) at columns shifts at columns shifts
+  put-no-pitch h = puts-nil at columns shifts way j _ (rw (word-none way first low high h) (fitting-nil at columns shifts))
+
+  module _ (l : low < 2 ^ 64) (h : high < 2 ^ 64) where
+    pub put-no-room : (leb (at + (ones low + ones high)) (length columns) && leb (at + (ones low + ones high)) (length shifts)) ≡ false
+        → Puts way j (fitting (wordCodes way first low high) at columns shifts) at columns shifts at columns shifts
+    put-no-room e =
+        puts-nil at columns shifts way j _
+        (fitting-cond at columns shifts (codesOf way first low high) (leb (first .0) 127) (fitting-none at columns shifts (codesOf way first low high) (rw (codes-length way first low high l h) e)))
+
+    pub put-all : first .0 ≤ 127 → Room (ones low + ones high) at (length columns) (length shifts) → (at′ : ℕ) (columns′ : List ℕ) (shifts′ : List ℤ)
+        → Puts way j (codesOf way first low high) at columns shifts at′ columns′ shifts′ → Puts way j (fitting (wordCodes way first low high) at columns shifts) at columns shifts at′ columns′ shifts′
+    put-all f r at′ columns′ shifts′ t =
+        let n = codes-length way first low high l h in
+        rw (word-codes way first low high f, fitting-all at columns shifts (codesOf way first low high) (omega (arith, n, r .in-columns)) (omega (arith, n, r .in-shifts))) t

@@ -1,0 +1,2 @@
+-- Laws of this crate's definitions, for every crate above: `Fitting` (what fits is written, and what does not is not).
+pub mod Fitting

@@ -1,0 +1,3 @@
+-- Laws of what is written: a word's codes one after the other, and one start.
+pub mod Putting
+pub mod Keeping

@@ -1,0 +1,2 @@
+-- Hits written into the two lent buffers.
+pub mod Writing
