@@ -1,14 +1,5 @@
 // Whole lists: the pages from the first bookmark to the last, each beside the second finder's.
 
-use crate::calls::Got;
-use crate::calls::refused;
-use crate::compare::LOOKS;
-use crate::compare::PAGES as PAGES_FAULT;
-use crate::compare::REFUSAL;
-use crate::compare::Seen;
-use crate::compare::turn_both;
-use crate::compare::turn_plain;
-use crate::compare::turn_quick;
 use crate::report::DIFFERED;
 use crate::report::PAGES;
 use crate::report::PAIRS;
@@ -16,6 +7,16 @@ use crate::report::REFUSALS;
 use crate::report::SCORES;
 use crate::report::differs;
 use crate::report::page;
+use crate::turns::turn_both;
+use crate::turns::turn_plain;
+use crate::turns::turn_quick;
+use cases::answers::Got;
+use cases::answers::refused;
+use cases::changes::at;
+use cases::compare::LOOKS;
+use cases::compare::PAGES as PAGES_FAULT;
+use cases::compare::REFUSAL;
+use cases::compare::Seen;
 use second::away::Ask;
 use second::away::BOTH;
 use second::away::PLAIN;
@@ -35,14 +36,6 @@ const MOST: usize = 70000;
 
 // How many differing cases are written out.
 const SHOWN: u64 = 8;
-
-// The same at another bookmark.
-pub fn at(a: Ask, column: u16, shift: i16) -> Ask {
-    let mut b = a;
-    b.column = column;
-    b.shift = shift;
-    b
-}
 
 // Counts what was seen, and writes it out where it differs.
 pub fn noted(cells: &[u8], theme: &[u8], sets: &[u16], tally: &mut [u64], a: Ask, s: Seen) -> bool {
