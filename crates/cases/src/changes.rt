@@ -1,5 +1,8 @@
 // Changes to an accepted call, one number at a time: the sizes and numbers beside the buffers, or a place in one of them.
 
+use crate::buffers::Cells;
+use crate::buffers::Sets;
+use crate::buffers::Theme;
 use second::away::Ask;
 use second::totals::less_one;
 use second::totals::product;
@@ -143,7 +146,7 @@ pub fn at(a: Ask, column: u16, shift: i16) -> Ask {
 }
 
 // The score and the theme after a change.
-pub fn change_bytes(cells: &mut [u8], theme: &mut [u8], c: Change) {
+pub fn change_bytes(cells: &mut Cells, theme: &mut Theme, c: Change) {
     if c.what == CELL {
         put_byte(cells, c.place, low(c.value));
         return;
@@ -154,7 +157,7 @@ pub fn change_bytes(cells: &mut [u8], theme: &mut [u8], c: Change) {
 }
 
 // The sets after a change.
-pub fn change_sets(sets: &mut [u16], c: Change) {
+pub fn change_sets(sets: &mut Sets, c: Change) {
     if c.what == SET {
         put_set(sets, c.place, c.value);
     }

@@ -2,6 +2,9 @@
 // needs the lent buffers is here; the families of jobs are functions of numbers.
 
 use crate::answers::ask_prepare;
+use crate::buffers::Cells;
+use crate::buffers::Sets;
+use crate::buffers::Theme;
 use crate::changes::Change;
 use crate::changes::change_bytes;
 use crate::changes::change_sets;
@@ -52,7 +55,7 @@ pub struct Job {
 }
 
 // Puts a score into the lent buffer.
-fn put_score(cells: &mut [u8], source: u8, k: usize, many: usize) {
+fn put_score(cells: &mut Cells, source: u8, k: usize, many: usize) {
     if source == WORKED {
         load(cells, k);
         return;
@@ -64,7 +67,7 @@ fn put_score(cells: &mut [u8], source: u8, k: usize, many: usize) {
     fill(cells, many, k);
 }
 
-fn put_theme(cells: &[u8], theme: &mut [u8], source: u8, k: usize, a: Ask) {
+fn put_theme(cells: &[u8], theme: &mut Theme, source: u8, k: usize, a: Ask) {
     if source == WORKED {
         load_theme(theme, k);
         return;
@@ -77,19 +80,19 @@ fn put_theme(cells: &[u8], theme: &mut [u8], source: u8, k: usize, a: Ask) {
 }
 
 // The sets of the score, where it is one, with two changes.
-fn put_sets(cells: &[u8], sets: &mut [u16], a: Ask, c: Change, d: Change) {
+fn put_sets(cells: &[u8], sets: &mut Sets, a: Ask, c: Change, d: Change) {
     ask_prepare(cells, sets, a);
     change_sets(sets, c);
     change_sets(sets, d);
 }
 
-fn put_changes(cells: &mut [u8], theme: &mut [u8], c: Change, d: Change) {
+fn put_changes(cells: &mut Cells, theme: &mut Theme, c: Change, d: Change) {
     change_bytes(cells, theme, c);
     change_bytes(cells, theme, d);
 }
 
 // The score and its sets, or those of another one.
-pub fn arrange(cells: &mut [u8], sets: &mut [u16], j: Job) {
+pub fn arrange(cells: &mut Cells, sets: &mut Sets, j: Job) {
     let a = j.a;
     let c = j.c;
     let d = j.d;
@@ -99,7 +102,7 @@ pub fn arrange(cells: &mut [u8], sets: &mut [u16], j: Job) {
 }
 
 // The theme, and the changes.
-pub fn arrange_theme(cells: &mut [u8], theme: &mut [u8], j: Job) {
+pub fn arrange_theme(cells: &mut Cells, theme: &mut Theme, j: Job) {
     let a = j.a;
     let c = j.c;
     let d = j.d;

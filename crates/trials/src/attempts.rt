@@ -9,6 +9,13 @@ use crate::report::answered;
 use crate::report::head;
 use crate::report::tail;
 use crate::turns::turn_prepare;
+use cases::buffers::Cells;
+use cases::buffers::Columns;
+use cases::buffers::Sets;
+use cases::buffers::Shifts;
+use cases::buffers::Table;
+use cases::buffers::Tally;
+use cases::buffers::Theme;
 use cases::compare::REFUSAL;
 use cases::compare::Seen;
 use cases::jobs::Job;
@@ -24,10 +31,10 @@ use second::totals::size;
 fn called(
     cells: &[u8],
     theme: &[u8],
-    sets: &mut [u16],
-    table: &mut [u32],
-    columns: &mut [u16],
-    shifts: &mut [i16],
+    sets: &mut Sets,
+    table: &mut Table,
+    columns: &mut Columns,
+    shifts: &mut Shifts,
     a: Ask,
     call: u8,
     deep: bool,
@@ -54,11 +61,11 @@ fn due_judged(j: Job, s: Seen) -> Seen {
 fn once(
     cells: &[u8],
     theme: &[u8],
-    sets: &mut [u16],
-    table: &mut [u32],
-    columns: &mut [u16],
-    shifts: &mut [i16],
-    tally: &mut [u64],
+    sets: &mut Sets,
+    table: &mut Table,
+    columns: &mut Columns,
+    shifts: &mut Shifts,
+    tally: &mut Tally,
     j: Job,
 ) {
     let a = j.a;
@@ -82,11 +89,11 @@ fn once(
 fn act(
     cells: &[u8],
     theme: &[u8],
-    sets: &mut [u16],
-    table: &mut [u32],
-    columns: &mut [u16],
-    shifts: &mut [i16],
-    tally: &mut [u64],
+    sets: &mut Sets,
+    table: &mut Table,
+    columns: &mut Columns,
+    shifts: &mut Shifts,
+    tally: &mut Tally,
     j: Job,
 ) {
     if j.whole {
@@ -113,11 +120,11 @@ fn act(
 fn acted(
     cells: &[u8],
     theme: &[u8],
-    sets: &mut [u16],
-    table: &mut [u32],
-    columns: &mut [u16],
-    shifts: &mut [i16],
-    tally: &mut [u64],
+    sets: &mut Sets,
+    table: &mut Table,
+    columns: &mut Columns,
+    shifts: &mut Shifts,
+    tally: &mut Tally,
     j: Job,
 ) {
     head(cells, theme, sets, j);
@@ -126,13 +133,13 @@ fn acted(
 }
 
 pub fn attempt(
-    cells: &mut [u8],
-    theme: &mut [u8],
-    sets: &mut [u16],
-    table: &mut [u32],
-    columns: &mut [u16],
-    shifts: &mut [i16],
-    tally: &mut [u64],
+    cells: &mut Cells,
+    theme: &mut Theme,
+    sets: &mut Sets,
+    table: &mut Table,
+    columns: &mut Columns,
+    shifts: &mut Shifts,
+    tally: &mut Tally,
     j: Job,
 ) {
     if j.source == 0 {

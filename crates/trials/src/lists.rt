@@ -12,6 +12,10 @@ use crate::turns::turn_plain;
 use crate::turns::turn_quick;
 use cases::answers::Got;
 use cases::answers::refused;
+use cases::buffers::Columns;
+use cases::buffers::Shifts;
+use cases::buffers::Table;
+use cases::buffers::Tally;
 use cases::changes::at;
 use cases::compare::LOOKS;
 use cases::compare::PAGES as PAGES_FAULT;
@@ -38,7 +42,7 @@ const MOST: usize = 70000;
 const SHOWN: u64 = 8;
 
 // Counts what was seen, and writes it out where it differs.
-pub fn noted(cells: &[u8], theme: &[u8], sets: &[u16], tally: &mut [u64], a: Ask, s: Seen) -> bool {
+pub fn noted(cells: &[u8], theme: &[u8], sets: &[u16], tally: &mut Tally, a: Ask, s: Seen) -> bool {
     if s.fault != 0 {
         add(tally, DIFFERED, 1);
         if count(tally, DIFFERED) <= SHOWN {
@@ -64,7 +68,7 @@ fn calls_in(call: u8) -> usize {
 }
 
 // Counts a page and its pairs, for each call that turned it.
-fn page_noted(tally: &mut [u64], call: u8, written: usize) {
+fn page_noted(tally: &mut Tally, call: u8, written: usize) {
     let calls = calls_in(call);
     add(tally, PAGES, calls as u64);
     add(tally, PAIRS, product(written, calls) as u64);
@@ -136,9 +140,9 @@ pub fn turned(
     cells: &[u8],
     theme: &[u8],
     sets: &[u16],
-    table: &mut [u32],
-    columns: &mut [u16],
-    shifts: &mut [i16],
+    table: &mut Table,
+    columns: &mut Columns,
+    shifts: &mut Shifts,
     a: Ask,
     call: u8,
     deep: bool,
@@ -157,10 +161,10 @@ fn read_on(
     cells: &[u8],
     theme: &[u8],
     sets: &[u16],
-    table: &mut [u32],
-    columns: &mut [u16],
-    shifts: &mut [i16],
-    tally: &mut [u64],
+    table: &mut Table,
+    columns: &mut Columns,
+    shifts: &mut Shifts,
+    tally: &mut Tally,
     a: Ask,
     call: u8,
     deep: bool,
@@ -185,10 +189,10 @@ pub fn list(
     cells: &[u8],
     theme: &[u8],
     sets: &[u16],
-    table: &mut [u32],
-    columns: &mut [u16],
-    shifts: &mut [i16],
-    tally: &mut [u64],
+    table: &mut Table,
+    columns: &mut Columns,
+    shifts: &mut Shifts,
+    tally: &mut Tally,
     a: Ask,
     call: u8,
     deep: bool,

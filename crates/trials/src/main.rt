@@ -6,6 +6,13 @@ mod report;
 mod turns;
 
 use attempts::attempt;
+use cases::buffers::Cells;
+use cases::buffers::Columns;
+use cases::buffers::Sets;
+use cases::buffers::Shifts;
+use cases::buffers::Table;
+use cases::buffers::Tally;
+use cases::buffers::Theme;
 use cases::families::JOBS;
 use cases::families::job;
 use report::totals;
@@ -30,13 +37,13 @@ fn main() {
 }
 
 fn run(
-    cells: &mut [u8],
-    theme: &mut [u8],
-    sets: &mut [u16],
-    table: &mut [u32],
-    columns: &mut [u16],
-    shifts: &mut [i16],
-    tally: &mut [u64],
+    cells: &mut Cells,
+    theme: &mut Theme,
+    sets: &mut Sets,
+    table: &mut Table,
+    columns: &mut Columns,
+    shifts: &mut Shifts,
+    tally: &mut Tally,
 ) {
     for k in 0..JOBS {
         attempt(cells, theme, sets, table, columns, shifts, tally, job(k));

@@ -3,6 +3,10 @@
 use crate::calls::ask_plain;
 use crate::calls::ask_quick;
 use cases::answers::ask_prepare;
+use cases::buffers::Columns;
+use cases::buffers::Sets;
+use cases::buffers::Shifts;
+use cases::buffers::Table;
 use cases::compare::Seen;
 use cases::compare::beside_fault;
 use cases::compare::page_fault;
@@ -18,7 +22,7 @@ use second::away::PREPARE;
 use second::away::QUICK;
 use second::totals::more;
 
-fn mark_page(columns: &mut [u16], shifts: &mut [i16], a: Ask) {
+fn mark_page(columns: &mut Columns, shifts: &mut Shifts, a: Ask) {
     mark_sets(columns, more(a.columns, 1));
     mark_shifts(shifts, more(a.shifts, 1));
 }
@@ -27,8 +31,8 @@ pub fn turn_plain(
     cells: &[u8],
     theme: &[u8],
     sets: &[u16],
-    columns: &mut [u16],
-    shifts: &mut [i16],
+    columns: &mut Columns,
+    shifts: &mut Shifts,
     a: Ask,
 ) -> Seen {
     mark_page(columns, shifts, a);
@@ -46,9 +50,9 @@ pub fn turn_quick(
     cells: &[u8],
     theme: &[u8],
     sets: &[u16],
-    table: &mut [u32],
-    columns: &mut [u16],
-    shifts: &mut [i16],
+    table: &mut Table,
+    columns: &mut Columns,
+    shifts: &mut Shifts,
     a: Ask,
     deep: bool,
 ) -> Seen {
@@ -67,7 +71,7 @@ fn marked_from(a: Ask, deep: bool) -> usize {
     if deep { 0 } else { a.table }
 }
 
-pub fn turn_prepare(cells: &[u8], theme: &[u8], sets: &mut [u16], a: Ask) -> Seen {
+pub fn turn_prepare(cells: &[u8], theme: &[u8], sets: &mut Sets, a: Ask) -> Seen {
     mark_sets(sets, more(a.sets, 1));
     let got = ask_prepare(cells, sets, a);
     let fault = sets_fault(cells, theme, sets, a, got);
@@ -83,9 +87,9 @@ pub fn turn_both(
     cells: &[u8],
     theme: &[u8],
     sets: &[u16],
-    table: &mut [u32],
-    columns: &mut [u16],
-    shifts: &mut [i16],
+    table: &mut Table,
+    columns: &mut Columns,
+    shifts: &mut Shifts,
     a: Ask,
     deep: bool,
 ) -> Seen {
