@@ -1,7 +1,8 @@
-// The library's public calls, each on the part of the lent buffers that is asked for, with the answer as plain numbers.
+// The library's pages, each on the part of the lent buffers that is asked for, with the answer as plain numbers.
 
-use preparing::Preparation;
-use preparing::prepare;
+use cases::answers::Got;
+use cases::answers::refused;
+use cases::answers::unasked;
 use score::Column;
 use search::Bookmark;
 use search::Page;
@@ -9,35 +10,6 @@ use search::Way;
 use search::plain_page;
 use search::quick_page;
 use second::away::Ask;
-
-// An answer: the refusal's number and place, or 0 and the page.
-pub struct Got {
-    pub number: u8,
-    pub place: usize,
-    pub written: usize,
-    pub column: u16,
-    pub shift: i16,
-    pub finished: bool,
-    pub looks: u32,
-}
-
-// A refusal, or 0 and no page.
-pub fn refused(number: u8, place: usize) -> Got {
-    Got {
-        number,
-        place,
-        written: 0,
-        column: 0,
-        shift: 0,
-        finished: false,
-        looks: 0,
-    }
-}
-
-// No call: the buffers are too short for what is asked.
-fn unasked() -> Got {
-    refused(99, 0)
-}
 
 fn answer(p: Page) -> Got {
     match p {
@@ -62,21 +34,6 @@ fn bookmark_of(column: u16, shift: i16) -> Bookmark {
     Bookmark {
         column: Column(column),
         shift,
-    }
-}
-
-pub fn ask_prepare(cells: &[u8], sets: &mut [u16], a: Ask) -> Got {
-    let many = a.cells;
-    let last = a.sets;
-    if cells.len() < many {
-        return unasked();
-    }
-    if sets.len() < last {
-        return unasked();
-    }
-    match prepare(&cells[..many], a.h, &mut sets[..last]) {
-        Preparation::Prepared => refused(0, 0),
-        Preparation::Refused(r) => refused(r.number, r.place),
     }
 }
 

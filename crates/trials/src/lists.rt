@@ -1,14 +1,5 @@
 // Whole lists: the pages from the first bookmark to the last, each beside the second finder's.
 
-use crate::calls::Got;
-use crate::calls::refused;
-use crate::compare::LOOKS;
-use crate::compare::PAGES as PAGES_FAULT;
-use crate::compare::REFUSAL;
-use crate::compare::Seen;
-use crate::compare::turn_both;
-use crate::compare::turn_plain;
-use crate::compare::turn_quick;
 use crate::report::DIFFERED;
 use crate::report::PAGES;
 use crate::report::PAIRS;
@@ -16,6 +7,20 @@ use crate::report::REFUSALS;
 use crate::report::SCORES;
 use crate::report::differs;
 use crate::report::page;
+use crate::turns::turn_both;
+use crate::turns::turn_plain;
+use crate::turns::turn_quick;
+use cases::answers::Got;
+use cases::answers::refused;
+use cases::buffers::Columns;
+use cases::buffers::Shifts;
+use cases::buffers::Table;
+use cases::buffers::Tally;
+use cases::changes::at;
+use cases::compare::LOOKS;
+use cases::compare::PAGES as PAGES_FAULT;
+use cases::compare::REFUSAL;
+use cases::compare::Seen;
 use second::away::Ask;
 use second::away::BOTH;
 use second::away::PLAIN;
@@ -36,16 +41,8 @@ const MOST: usize = 70000;
 // How many differing cases are written out.
 const SHOWN: u64 = 8;
 
-// The same at another bookmark.
-pub fn at(a: Ask, column: u16, shift: i16) -> Ask {
-    let mut b = a;
-    b.column = column;
-    b.shift = shift;
-    b
-}
-
 // Counts what was seen, and writes it out where it differs.
-pub fn noted(cells: &[u8], theme: &[u8], sets: &[u16], tally: &mut [u64], a: Ask, s: Seen) -> bool {
+pub fn noted(cells: &[u8], theme: &[u8], sets: &[u16], tally: &mut Tally, a: Ask, s: Seen) -> bool {
     if s.fault != 0 {
         add(tally, DIFFERED, 1);
         if count(tally, DIFFERED) <= SHOWN {
@@ -71,7 +68,7 @@ fn calls_in(call: u8) -> usize {
 }
 
 // Counts a page and its pairs, for each call that turned it.
-fn page_noted(tally: &mut [u64], call: u8, written: usize) {
+fn page_noted(tally: &mut Tally, call: u8, written: usize) {
     let calls = calls_in(call);
     add(tally, PAGES, calls as u64);
     add(tally, PAIRS, product(written, calls) as u64);
@@ -143,9 +140,9 @@ pub fn turned(
     cells: &[u8],
     theme: &[u8],
     sets: &[u16],
-    table: &mut [u32],
-    columns: &mut [u16],
-    shifts: &mut [i16],
+    table: &mut Table,
+    columns: &mut Columns,
+    shifts: &mut Shifts,
     a: Ask,
     call: u8,
     deep: bool,
@@ -164,10 +161,10 @@ fn read_on(
     cells: &[u8],
     theme: &[u8],
     sets: &[u16],
-    table: &mut [u32],
-    columns: &mut [u16],
-    shifts: &mut [i16],
-    tally: &mut [u64],
+    table: &mut Table,
+    columns: &mut Columns,
+    shifts: &mut Shifts,
+    tally: &mut Tally,
     a: Ask,
     call: u8,
     deep: bool,
@@ -192,10 +189,10 @@ pub fn list(
     cells: &[u8],
     theme: &[u8],
     sets: &[u16],
-    table: &mut [u32],
-    columns: &mut [u16],
-    shifts: &mut [i16],
-    tally: &mut [u64],
+    table: &mut Table,
+    columns: &mut Columns,
+    shifts: &mut Shifts,
+    tally: &mut Tally,
     a: Ask,
     call: u8,
     deep: bool,

@@ -1,14 +1,14 @@
 // What is written: cases, answers, and how much was tried.
 
-use crate::calls::Got;
-use crate::changes::Change;
-use crate::changes::SHIFT;
-use crate::changes::end_shift;
-use crate::changes::placed;
-use crate::jobs::CASE;
-use crate::jobs::DUE;
-use crate::jobs::END;
-use crate::jobs::Job;
+use cases::answers::Got;
+use cases::changes::Change;
+use cases::changes::SHIFT;
+use cases::changes::end_shift;
+use cases::changes::placed;
+use cases::jobs::CASE;
+use cases::jobs::DUE;
+use cases::jobs::END;
+use cases::jobs::Job;
 use libc::STDOUT_FILENO;
 use second::away::Ask;
 use second::away::QUICK;

@@ -1,13 +1,11 @@
 -- `trials::run` meets its contract: it is safe, and the measure is what is left of its range. Assumes nothing.
 use Prim.Native.Nat.{_-_}
 use borrow.Author.Needs.{needs}
-use lib.ListN.{length}
-use mathlib.Core.Path.{_≡_}
 use Rattle.trials.proofs.run.Statement.{statement}
 use Rattle.trials.proofs.run.Tie as tie
 
 abbrev Inv-loop : tie.InvT-loop
-Inv-loop cells₀ theme₀ sets₀ table₀ columns₀ shifts₀ tally₀ k₀ cells theme sets table columns shifts tally k = (length cells ≡ length cells₀) × (length theme ≡ length theme₀) × (length sets ≡ length sets₀) × (length table ≡ length table₀) × (length columns ≡ length columns₀) × (length shifts ≡ length shifts₀) × (length tally ≡ length tally₀)
+Inv-loop cells₀ theme₀ sets₀ table₀ columns₀ shifts₀ tally₀ k₀ cells theme sets table columns shifts tally k = Unit {0}
 
 abbrev μ-loop : tie.MeasureT-loop
 μ-loop cells₀ theme₀ sets₀ table₀ columns₀ shifts₀ tally₀ k₀ cells theme sets table columns shifts tally k = 344666 - k
@@ -33,27 +31,6 @@ loop-again c = search needs
 totals-requires : tie.Need-totals-requires Inv-loop μ-loop
 totals-requires c κs = search needs
 
-same-length : tie.Need-same-length Inv-loop μ-loop
-same-length c = search needs
-
-same-length-2 : tie.Need-same-length-2 Inv-loop μ-loop
-same-length-2 c = search needs
-
-same-length-3 : tie.Need-same-length-3 Inv-loop μ-loop
-same-length-3 c = search needs
-
-same-length-4 : tie.Need-same-length-4 Inv-loop μ-loop
-same-length-4 c = search needs
-
-same-length-5 : tie.Need-same-length-5 Inv-loop μ-loop
-same-length-5 c = search needs
-
-same-length-6 : tie.Need-same-length-6 Inv-loop μ-loop
-same-length-6 c = search needs
-
-same-length-7 : tie.Need-same-length-7 Inv-loop μ-loop
-same-length-7 c = search needs
-
 returns : tie.Need-returns Inv-loop μ-loop
 returns c = search needs
 
@@ -70,11 +47,4 @@ run-spec =
     loop-less
     loop-again
     totals-requires
-    same-length
-    same-length-2
-    same-length-3
-    same-length-4
-    same-length-5
-    same-length-6
-    same-length-7
     returns)

@@ -1,13 +1,11 @@
 -- `trials::lists::list` meets its contract: it is safe, and the measure is what is left of its range. Assumes nothing.
 use Prim.Native.Nat.{_-_}
 use borrow.Author.Needs.{needs}
-use lib.ListN.{length}
-use mathlib.Core.Path.{_≡_}
 use Rattle.trials.proofs.lists.list.Statement.{statement}
 use Rattle.trials.proofs.lists.list.Tie as tie
 
 abbrev Inv-loop : tie.InvT-loop
-Inv-loop cells theme sets table₀ columns₀ shifts₀ tally₀ a call deep loud shift r₀ p₀ table columns shifts tally r p = (length table ≡ length table₀) × (length columns ≡ length columns₀) × (length shifts ≡ length shifts₀) × (length tally ≡ length tally₀)
+Inv-loop cells theme sets table₀ columns₀ shifts₀ tally₀ a call deep loud shift r₀ p₀ table columns shifts tally r p = Unit {0}
 
 abbrev μ-loop : tie.MeasureT-loop
 μ-loop cells theme sets table₀ columns₀ shifts₀ tally₀ a call deep loud shift r₀ p₀ table columns shifts tally r p = 70000 - p
@@ -17,18 +15,6 @@ lowest-requires c κs = search needs
 
 loop-holds : tie.Need-loop-holds Inv-loop μ-loop
 loop-holds c = search needs
-
-same-length : tie.Need-same-length Inv-loop μ-loop
-same-length c = search needs
-
-same-length-2 : tie.Need-same-length-2 Inv-loop μ-loop
-same-length-2 c = search needs
-
-same-length-3 : tie.Need-same-length-3 Inv-loop μ-loop
-same-length-3 c = search needs
-
-same-length-4 : tie.Need-same-length-4 Inv-loop μ-loop
-same-length-4 c = search needs
 
 returns : tie.Need-returns Inv-loop μ-loop
 returns c = search needs
@@ -51,18 +37,6 @@ endless-requires c κs = search needs
 noted-requires : tie.Need-noted-requires Inv-loop μ-loop
 noted-requires c κs = search needs
 
-same-length-5 : tie.Need-same-length-5 Inv-loop μ-loop
-same-length-5 c = search needs
-
-same-length-6 : tie.Need-same-length-6 Inv-loop μ-loop
-same-length-6 c = search needs
-
-same-length-7 : tie.Need-same-length-7 Inv-loop μ-loop
-same-length-7 c = search needs
-
-same-length-8 : tie.Need-same-length-8 Inv-loop μ-loop
-same-length-8 c = search needs
-
 returns-2 : tie.Need-returns-2 Inv-loop μ-loop
 returns-2 c = search needs
 
@@ -74,10 +48,6 @@ list-spec =
     μ-loop
     lowest-requires
     loop-holds
-    same-length
-    same-length-2
-    same-length-3
-    same-length-4
     returns
     read-on-requires
     add-p
@@ -85,8 +55,4 @@ list-spec =
     loop-again
     endless-requires
     noted-requires
-    same-length-5
-    same-length-6
-    same-length-7
-    same-length-8
     returns-2)

@@ -1,0 +1,50 @@
+-- `cases::marks::shifts_kept` meets its contract: it is safe, and the measure is what is left of its range. Assumes nothing.
+use Prim.Native.Nat.{_-_}
+use borrow.Author.Needs.{needs}
+use Rattle.cases.proofs.marks.shifts_kept.Statement.{statement}
+use Rattle.cases.proofs.marks.shifts_kept.Tie as tie
+
+abbrev Inv-loop : tie.InvT-loop
+Inv-loop s from to i₀ i = Unit {0}
+
+abbrev μ-loop : tie.MeasureT-loop
+μ-loop s from to i₀ i = to - i
+
+loop-holds : tie.Need-loop-holds Inv-loop μ-loop
+loop-holds c = search needs
+
+shift-requires : tie.Need-shift-requires Inv-loop μ-loop
+shift-requires c κs = search needs
+
+shift-mark-requires : tie.Need-shift-mark-requires Inv-loop μ-loop
+shift-mark-requires c κs = search needs
+
+returns : tie.Need-returns Inv-loop μ-loop
+returns c = search needs
+
+add-i : tie.Need-add-i Inv-loop μ-loop
+add-i c = search needs
+
+loop-less : tie.Need-loop-less Inv-loop μ-loop
+loop-less c = search needs
+
+loop-again : tie.Need-loop-again Inv-loop μ-loop
+loop-again c = search needs
+
+returns-2 : tie.Need-returns-2 Inv-loop μ-loop
+returns-2 c = search needs
+
+pub shifts-kept-spec : {M : Type 1} → statement M
+shifts-kept-spec =
+    tie.close
+    (tie.spec
+    Inv-loop
+    μ-loop
+    loop-holds
+    shift-requires
+    shift-mark-requires
+    returns
+    add-i
+    loop-less
+    loop-again
+    returns-2)

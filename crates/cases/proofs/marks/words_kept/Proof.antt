@@ -1,0 +1,54 @@
+-- `cases::marks::words_kept` meets its contract: it is safe, and the measure is what is left of its range. Assumes nothing.
+use Prim.Native.Nat.{_-_}
+use borrow.Author.Needs.{needs}
+use Rattle.cases.proofs.marks.words_kept.Statement.{statement}
+use Rattle.cases.proofs.marks.words_kept.Tie as tie
+
+abbrev Inv-loop : tie.InvT-loop
+Inv-loop s from to i₀ i = Unit {0}
+
+abbrev μ-loop : tie.MeasureT-loop
+μ-loop s from to i₀ i = to - i
+
+loop-holds : tie.Need-loop-holds Inv-loop μ-loop
+loop-holds c = search needs
+
+word-requires : tie.Need-word-requires Inv-loop μ-loop
+word-requires c κs = search needs
+
+word-mark-requires : tie.Need-word-mark-requires Inv-loop μ-loop
+word-mark-requires c κs = search needs
+
+size32-requires : tie.Need-size32-requires Inv-loop μ-loop
+size32-requires c κs = search needs
+
+returns : tie.Need-returns Inv-loop μ-loop
+returns c = search needs
+
+add-i : tie.Need-add-i Inv-loop μ-loop
+add-i c = search needs
+
+loop-less : tie.Need-loop-less Inv-loop μ-loop
+loop-less c = search needs
+
+loop-again : tie.Need-loop-again Inv-loop μ-loop
+loop-again c = search needs
+
+returns-2 : tie.Need-returns-2 Inv-loop μ-loop
+returns-2 c = search needs
+
+pub words-kept-spec : {M : Type 1} → statement M
+words-kept-spec =
+    tie.close
+    (tie.spec
+    Inv-loop
+    μ-loop
+    loop-holds
+    word-requires
+    word-mark-requires
+    size32-requires
+    returns
+    add-i
+    loop-less
+    loop-again
+    returns-2)

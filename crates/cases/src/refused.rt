@@ -1,0 +1,226 @@
+// What is turned away: both ends of every range, each refusal alone, and each two together. Every job here is one call, of the
+// three in turn, on changes to an accepted one.
+
+use crate::changes::Change;
+use crate::changes::SET;
+use crate::changes::at;
+use crate::changes::changed;
+use crate::changes::none;
+use crate::changes::place_of;
+use crate::changes::placed;
+use crate::jobs::DUE;
+use crate::jobs::END;
+use crate::jobs::Job;
+use crate::jobs::QUIET;
+use crate::jobs::WORKED;
+use crate::worked::case_ask;
+use second::away::Ask;
+use second::away::PREPARE;
+use second::away::QUICK;
+use second::finder::lowest;
+use second::totals::more;
+use second::totals::product;
+use second::totals::size16;
+
+// The ends of the ranges: what is changed, and four numbers that it gets. A shift goes by its own number.
+const ENDS: [[u16; 5]; 15] = [
+    [1, 0, 1, 16, 17],
+    [2, 0, 1, 2048, 2049],
+    [3, 9, 10, 11, 12],
+    [4, 127, 128, 254, 255],
+    [5, 1, 2, 32, 33],
+    [6, 0, 127, 128, 255],
+    [7, 0, 3, 4, 5],
+    [8, 0, 4095, 4096, 65535],
+    [9, 0, 4095, 4096, 4097],
+    [10, 0, 1, 2, 3],
+    [11, 0, 3, 4, 5],
+    [12, 0, 3, 4, 5],
+    [13, 0, 1, 6, 7],
+    [14, 0, 1, 2, 3],
+    [14, 4, 5, 6, 7],
+];
+
+// Three faults for each refusal from 1 to 10: what is changed, its place, and the number.
+const FAULTS: [[u16; 9]; 10] = [
+    [1, 0, 0, 1, 0, 17, 1, 0, 255],
+    [3, 0, 9, 2, 0, 0, 2, 0, 2049],
+    [4, 0, 128, 4, 5, 200, 4, 9, 254],
+    [5, 0, 1, 5, 0, 33, 5, 0, 0],
+    [6, 0, 128, 6, 1, 255, 6, 2, 200],
+    [7, 0, 3, 7, 0, 5, 7, 0, 0],
+    [8, 0, 4096, 8, 1, 65535, 8, 3, 5000],
+    [9, 0, 4095, 9, 0, 4097, 9, 0, 0],
+    [10, 0, 0, 11, 0, 3, 12, 0, 2],
+    [13, 0, 0, 13, 0, 7, 14, 0, 3],
+];
+
+fn end_item(row: usize, i: usize) -> u16 {
+    if row < 15 {
+        if i < 5 {
+            return ENDS[row][i];
+        }
+    }
+    0
+}
+
+fn fault_item(row: usize, i: usize) -> u16 {
+    if row < 10 {
+        if i < 9 {
+            return FAULTS[row][i];
+        }
+    }
+    0
+}
+
+// The k-th end, at its first, middle or last place.
+fn end(k: usize, p: u8) -> Change {
+    let what = end_item(k / 4, 0);
+    Change {
+        what,
+        place: place_of(what, p),
+        value: end_item(k / 4, more(k % 4, 1)),
+    }
+}
+
+// The fault of a refusal, 0 for none, by its variant.
+fn fault(number: usize, variant: usize) -> Change {
+    if number == 0 {
+        return none();
+    }
+    let at = product(variant, 3);
+    Change {
+        what: fault_item(number - 1, at),
+        place: size16(fault_item(number - 1, more(at, 1))),
+        value: fault_item(number - 1, more(at, 2)),
+    }
+}
+
+// An accepted call: score K, theme 60 62 64, room 4, from the first bookmark.
+fn accepted(octave: bool) -> Ask {
+    let mut a = case_ask(0);
+    a.octave = octave;
+    at(a, 1, lowest(octave))
+}
+
+// Whether a call gives a refusal: preparation 1, 2, 3, 6; plain 1 to 5, 9, 10; quick 1 to 10. Of 0 none does.
+fn gives(call: u8, number: usize) -> bool {
+    if number == 0 {
+        return false;
+    }
+    if number < 4 {
+        return true;
+    }
+    if call == PREPARE {
+        return number == 6;
+    }
+    if call == QUICK {
+        return true;
+    }
+    if number < 6 {
+        return true;
+    }
+    8 < number
+}
+
+// The lower of two faults that the call gives, 0 where it gives neither.
+pub fn due(call: u8, low: usize, high: usize) -> usize {
+    if gives(call, low) {
+        return low;
+    }
+    if gives(call, high) {
+        return high;
+    }
+    0
+}
+
+// A call on the accepted one after two changes.
+fn refused_job(octave: bool, c: Change, d: Change, call: u8) -> Job {
+    let a = changed(changed(accepted(octave), c), d);
+    Job {
+        source: WORKED,
+        sets_of: 0,
+        score: 0,
+        theme: 0,
+        a,
+        c,
+        d,
+        call,
+        whole: false,
+        deep: true,
+        loud: true,
+        head: QUIET,
+        low: 0,
+        high: 0,
+    }
+}
+
+// A head is written before the first of the three calls.
+fn head_at(call: u8, head: u8) -> u8 {
+    if call == PREPARE { head } else { QUIET }
+}
+
+fn call_at(k: usize) -> u8 {
+    (k % 3) as u8
+}
+
+// Before a middle and a last place: the highest number that is right, at the first one.
+fn highest(what: u16, p: u8) -> Change {
+    if p == 0 {
+        return none();
+    }
+    let mut value: u16 = 127;
+    if what == SET {
+        value = 4095;
+    }
+    Change {
+        what,
+        place: 0,
+        value,
+    }
+}
+
+// Both ends of every range, at each place, both ways.
+pub fn end_job(k: usize) -> Job {
+    let p = (k / 180 % 3) as u8;
+    let c = end(k % 180 / 3, p);
+    let call = call_at(k);
+    let mut j = refused_job(540 <= k, c, highest(c.what, p), call);
+    j.head = head_at(call, END);
+    if !placed(c.what, p) {
+        j.source = 0;
+    }
+    j
+}
+
+// Each refusal alone, twice, and each two together, each by each of its faults, both ways; the first faults are written out.
+pub fn due_job(k: usize) -> Job {
+    let pair = k % 3267 / 27;
+    let variant = k % 27 / 3;
+    let call = call_at(k);
+    let mut j = due_of(3267 <= k, pair / 11, pair % 11, variant, call);
+    j.loud = variant == 0;
+    if variant == 0 {
+        j.head = head_at(call, DUE);
+    }
+    j
+}
+
+// The lower is not above the higher; 0 is none, so that each stands alone too.
+fn due_of(octave: bool, low: usize, high: usize, variant: usize, call: u8) -> Job {
+    let mut j = refused_job(
+        octave,
+        fault(low, variant / 3),
+        fault(high, variant % 3),
+        call,
+    );
+    j.low = low;
+    j.high = high;
+    if high < low {
+        j.source = 0;
+    }
+    if high == 0 {
+        j.source = 0;
+    }
+    j
+}
