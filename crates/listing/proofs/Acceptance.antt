@@ -7,16 +7,14 @@ use Prim.Native.Nat.{ℕ, zero, suc, _+_, _-_, _*_, _/_, _≤_}
 use native.Mathlib.Nat.{suc-mul, zero-mul, mul-div-cancel, div-add-mod'}
 use native.Mathlib.Omega.{arith}
 use lib.ListN.{length, take, drop, length-drop, take-append-drop}
-use lib.Seq.{length-take-le}
 use borrow.Author.Tests.{lt-leb, le-ltb}
 use Rattle.theory.specs.Lists.{some}
 use Rattle.score.specs.Score.{cut, columnsIn, scoreOf}
 use Rattle.score.specs.Refusals.{badCell}
 use Rattle.asking.specs.Refusals.{badNote}
 use Rattle.asking.specs.Asking.{Accepted}
-use Rattle.listing.specs.Reading.{Theme}
-use Rattle.listing.specs.Request.{Each, IsNote, IsCell, IsChord, IsTheme}
-use Rattle.listing.proofs.Scoring.{cut-take}
+use Rattle.reading.specs.Reading.{Theme}
+use Rattle.listing.specs.Texts.{Each, IsNote, IsCell, IsChord, IsTheme}
 
 -- ---- no cell and no note is bad
 
@@ -72,14 +70,3 @@ module _ (n h : ℕ) (cells : List ℕ) (some-tracks : 1 ≤ h) (e : length cell
         notes-few = t .notes-few;
         notes-good = notes-good (theme .notes) (t .notes);
       }
-
--- the columns at the front of a buffer
-module _ (n h : ℕ) (cells : List ℕ) (some-tracks : 1 ≤ h) (room : n * h ≤ length cells) where
-  pub front-length : length (take (n * h) cells) ≡ n * h
-  front-length = length-take-le (n * h) cells room
-
-  pub front-cut : cut n h (take (n * h) cells) ≡ cut n h cells
-  front-cut = cut-take n h (n * h) cells (omega arith)
-
-  pub front-score : scoreOf (take (n * h) cells) h ≡ cut n h cells
-  front-score = score-is n h (take (n * h) cells) some-tracks front-length ∙ front-cut

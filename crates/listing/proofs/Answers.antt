@@ -3,7 +3,8 @@
 use mathlib.Core.Path.{_≡_, refl, ap}
 use mathlib.Core.List.{List}
 use Prim.Native.Nat.{ℕ, _≤_}
-use Rattle.listing.specs.Request.{Request, Meaning, right, faulty, meaning, textOf, Right}
+use Rattle.reading.specs.Request.{Request, Meaning, right, faulty, meaning}
+use Rattle.listing.specs.Texts.{textOf, Right}
 use Rattle.telling.specs.Lines.{linesOf, refusedLine}
 use Rattle.listing.specs.Answer.{answer, output}
 use Rattle.listing.proofs.Texts.{meaning-text}

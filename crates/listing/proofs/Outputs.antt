@@ -13,8 +13,9 @@ use lib.Seq.{take-at, drop-at}
 use Rattle.theory.specs.Lists.{join}
 use Rattle.score.specs.Score.{cut, scoreOf}
 use Rattle.asking.specs.Asking.{Accepted}
-use Rattle.listing.specs.Reading.{Read, got, bad, Theme, chordLine, themeLine}
-use Rattle.listing.specs.Request.{Request, Chords, all, fault, above, onChord, chords, Meaning, right, faulty, withChords, withTheme, meaning, textOf, themeText, Each, IsChord, Right}
+use Rattle.reading.specs.Reading.{Read, got, bad, Theme, chordLine, themeLine}
+use Rattle.reading.specs.Request.{Request, Chords, all, fault, above, onChord, chords, Meaning, right, faulty, withChords, withTheme, meaning}
+use Rattle.listing.specs.Texts.{textOf, themeText, Each, IsChord, Right}
 use Rattle.telling.specs.Telling.{room}
 use Rattle.telling.specs.Lines.{linesOf}
 use Rattle.listing.specs.Answer.{answer, output}
@@ -126,7 +127,7 @@ cut-join h [] r = refl
 cut-join h (c ∷ columns) r = rw (take-at c (join columns) h (r .0 .wide), drop-at c (join columns) h (r .0 .wide), cut-join h columns (r .1))
 
 module _ (q : Request) (r : Right q) where
-  cells-long : length (join (q .columns)) ≡ length (q .columns) * r .tracks
+  pub cells-long : length (join (q .columns)) ≡ length (q .columns) * r .tracks
   cells-long = join-length (r .tracks) (q .columns) (r .columns)
 
   -- its cells make its columns

@@ -13,9 +13,10 @@ use borrow.Author.Tests.{leb-true, eqb-true}
 use Rattle.theory.specs.Lists.{join}
 use Rattle.asking.specs.declared.way.Way.{Way}
 use Rattle.asking.specs.declared.way.Way.the-variants.{Exact, Octave}
-use Rattle.listing.specs.Reading.{themeWord, exactWord, octaveWord, chordWord, Read, got, bad, next, begins, fields, counted, tracksRight, chordLine, Theme, notesOf, themeLine}
-use Rattle.listing.specs.Request.{Chords, all, fault, above, onChord, chords, chordText, themeText, wayWord, fieldsText, Each, IsChord, IsTheme}
-use Rattle.listing.proofs.Scoring.{bad-got, tracks-some, tracks-same}
+use Rattle.reading.specs.Reading.{themeWord, exactWord, octaveWord, chordWord, Read, got, bad, next, begins, fields, counted, tracksRight, chordLine, Theme, notesOf, themeLine}
+use Rattle.reading.specs.Request.{Chords, all, fault, above, onChord, chords}
+use Rattle.listing.specs.Texts.{chordText, themeText, wayWord, fieldsText, Each, IsChord, IsTheme}
+use Rattle.reading.proofs.Scoring.{bad-got, tracks-some, tracks-same}
 use Rattle.listing.proofs.Rights.{Fielded, fields-right, got-value, got-rest}
 
 -- a word that begins the text is its front

@@ -10,11 +10,11 @@ use lib.Dec.{leb, eqb}
 use lib.ListN.{length, drop}
 use borrow.Author.Tests.{leb-true, eqb-true, eqb-false, ne-eqb}
 use Rattle.telling.specs.Text.{decimal}
-use Rattle.listing.specs.Reading.{Read, got, bad, next, front, isDigit, moreDigits, number, cell, fields}
-use Rattle.listing.specs.Request.{cellText, fieldsText, Each, IsNote, IsCell}
-use Rattle.listing.proofs.Places.{digit-some}
+use Rattle.reading.specs.Reading.{Read, got, bad, next, front, isDigit, moreDigits, number, cell, fields}
+use Rattle.listing.specs.Texts.{cellText, fieldsText, Each, IsNote, IsCell}
+use Rattle.reading.proofs.Places.{digit-some}
 use Rattle.telling.proofs.Decimals.{decimal-small, decimal-more}
-use Rattle.listing.proofs.Scoring.{bad-got}
+use Rattle.reading.proofs.Scoring.{bad-got}
 
 pub front-cons : (text : List ℕ) → 1 ≤ front text → text ≡ front text ∷ drop 1 text
 front-cons [] h = absurd (omega arith)

@@ -13,11 +13,12 @@ use Rattle.theory.specs.Lists.{join}
 use Rattle.asking.specs.declared.way.Way.{Way}
 use Rattle.asking.specs.declared.way.Way.the-variants.{Exact, Octave}
 use Rattle.telling.specs.Text.{decimal}
-use Rattle.listing.specs.Reading.{got, bad, next, front, isDigit, moreDigits, number, cell, fields, tracksRight, chordLine, Theme, themeLine}
-use Rattle.listing.specs.Request.{Request, all, chords, right, withChords, meaning, cellText, fieldsText, chordText, themeText, textOf, Each, IsNote, IsCell, IsChord, IsTheme, Right}
-use Rattle.listing.proofs.Places.{digit-some}
+use Rattle.reading.specs.Reading.{got, bad, next, front, isDigit, moreDigits, number, cell, fields, tracksRight, chordLine, Theme, themeLine}
+use Rattle.reading.specs.Request.{Request, all, chords, right, withChords, meaning}
+use Rattle.listing.specs.Texts.{cellText, fieldsText, chordText, themeText, textOf, Each, IsNote, IsCell, IsChord, IsTheme, Right}
+use Rattle.reading.proofs.Places.{digit-some}
 use Rattle.telling.proofs.Decimals.{decimal-small, decimal-more}
-use Rattle.listing.proofs.Scoring.{bad-got}
+use Rattle.reading.proofs.Scoring.{bad-got}
 use Rattle.listing.proofs.Rights.{IsValue}
 
 below-or : (n top : ℕ) → (n < top) ⊎ (top ≤ n)

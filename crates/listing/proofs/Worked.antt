@@ -12,8 +12,9 @@ use Rattle.filter.specs.Table.{word, themeTable}
 use Rattle.walking.specs.Candidates.{candidate}
 use Rattle.walking.specs.Candidates.{quickStarts}
 use Rattle.telling.specs.Text.{digits}
-use Rattle.listing.specs.Reading.{moreDigits, number, cell, fields, chordLine, themeLine}
-use Rattle.listing.specs.Request.{Request, chords, meaning, fieldsText, textOf}
+use Rattle.reading.specs.Reading.{moreDigits, number, cell, fields, chordLine, themeLine}
+use Rattle.reading.specs.Request.{Request, chords, meaning}
+use Rattle.listing.specs.Texts.{fieldsText, textOf}
 use Rattle.telling.specs.Lines.{hitLine, endLine, refusedLine, linesOf}
 use Rattle.listing.specs.Answer.{output}
 

@@ -2,7 +2,7 @@
 use mathlib.Core.List.{List}
 use Prim.Native.Nat.{ℕ}
 use Rattle.telling.specs.Lines.{linesOf, refusedLine}
-use Rattle.listing.specs.Request.{Meaning, right, faulty, meaning}
+use Rattle.reading.specs.Request.{Meaning, right, faulty, meaning}
 
 abbrev pub answer : Meaning → List ℕ
 answer (right q) = linesOf (q .theme .way) (q .columns) (q .theme .notes)

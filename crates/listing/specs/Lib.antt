@@ -1,6 +1,4 @@
--- The lister's text, in reading order: what a line is, what an input means, what is answered.
-pub mod Reading
-pub mod Request
+-- The lister's output, in reading order: what a right input is, what is answered, what the call promises.
+pub mod Texts
 pub mod Answer
 pub mod Listing
-pub mod Steps

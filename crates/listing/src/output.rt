@@ -1,13 +1,11 @@
 // The call: from an input to its whole output.
 
-use crate::lines::ChordLines;
-use crate::lines::ThemeLine;
-use crate::lines::chord_lines;
-use crate::lines::theme_line;
+use reading::Reading;
+use reading::read;
 use telling::Telling;
 use telling::refuse;
 use telling::tell;
-ghost use mathlib.Core.Path.{_≡_};
+ghost use Prim.Native.Nat.{_≤_};
 ghost use lib.ListN.{length};
 ghost use Rattle.telling.specs.Telling.{told, Tells};
 ghost use Rattle.listing.specs.Answer.{output};
@@ -39,20 +37,20 @@ pub fn list(input: &[u8], out: &mut [u8]) -> Listing
 
 // The output, by way of room for a theme and for cells.
 fn answer(input: &[u8], theme: &mut [u8], cells: &mut [u8], out: &mut [u8]) -> Telling
-    requires { ⌜ (length (now theme) ≡ 32) × (length (now cells) ≡ 32768) ⌝ }
+    requires { ⌜ (32 ≤ length (now theme)) × (32768 ≤ length (now cells)) ⌝ }
     ensures { λ r. ⌜ Tells (told (output (now (input .entry))) (now (out .entry))) r (now (out .exit)) ⌝ }
 {
-    match theme_line(input, theme) {
-        ThemeLine::Read { way, count, next } => match chord_lines(input, next, cells) {
-            ChordLines::Read { tracks, columns } => {
-                if columns == 0 {
-                    return refuse(2, out);
-                }
-                let long = columns * tracks;
-                tell(&cells[0..long], tracks, &theme[0..count], way, out)
-            }
-            ChordLines::Faulty(before) => refuse(before as u32 + 2, out),
-        },
-        ThemeLine::Bad => refuse(1, out),
+    match read(input, theme, cells) {
+        Reading::Right {
+            way,
+            notes,
+            tracks,
+            columns,
+        } => {
+            let long = columns * tracks;
+            tell(&cells[0..long], tracks, &theme[0..notes], way, out)
+        }
+        Reading::Bad { line } => refuse(line, out),
+        Reading::Short => Telling::Short, // there is room for every input
     }
 }

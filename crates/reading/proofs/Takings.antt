@@ -1,0 +1,176 @@
+-- The call's promise, from the lines that were read; it leaves one answer and one state of both buffers (`takes-unique`); and
+-- what a caller reads off it, of buffers that are long enough (`took-right`, `took-bad`, `took-short`). Assumes nothing.
+use mathlib.Core.Path.{_≡_, refl, sym, ap, _∙_, subst}
+use mathlib.Core.Bool.{Bool, true, false, _||_, true≢false}
+use mathlib.Core.List.{List, [], _∷_, _++_}
+use Prim.Native.Nat.{ℕ, zero, suc, _+_, _-_, _*_, _≤_, _<_}
+use native.Mathlib.Nat.{zero-mul, suc-mul, one-mul, mul-le-mul}
+use native.Mathlib.Omega.{arith}
+use lib.Dec.{ltb}
+use lib.ListN.{length, getD, take, drop, replicate}
+use lib.Seq.{take-add, length-take-le}
+use borrow.Author.Tests.{le-ltb, ltb-false}
+use Rattle.theory.specs.Lists.{join}
+use Rattle.score.specs.Score.{cut}
+use Rattle.score.proofs.Columns.{cut-length, column-length}
+use Rattle.asking.specs.declared.way.Way.{Way}
+use Rattle.reading.specs.declared.request.Reading.{Reading}
+use Rattle.reading.specs.declared.request.Reading.the-variants.{Right, Bad, Short}
+use Rattle.reading.specs.Request.{Request, Meaning, right, faulty, meaning}
+use Rattle.reading.specs.Taking.{Take, alone, tracksOf, takenAs, taken, Takes}
+use Rattle.reading.specs.Steps.{Stood, says, Held, heldNotes, heldCells, Cleared}
+
+pub takes-unique : {input theme cells : List ℕ} {a b : Reading} {s t u v : List ℕ} → Takes input theme cells a s u → Takes input theme cells b t v → (a ≡ b) × (s ≡ t) × (u ≡ v)
+takes-unique p q = (p .answers ∙ sym (q .answers), p .notes ∙ sym (q .notes), p .columns ∙ sym (q .columns))
+
+-- columns joined are the cells that they were cut from
+join-cut : (n h : ℕ) (cells : List ℕ) → join (cut n h cells) ≡ take (n * h) cells
+join-cut zero h cells = rw zero-mul
+join-cut (suc n) h cells =
+    let e : suc n * h ≡ h + n * h = omega (arith, suc-mul n h) in
+    rw (e, join-cut n h (drop h cells)) (sym (take-add h (n * h) cells))
+
+-- a buffer cleared behind what was read into it
+cleared-alone : {k : ℕ} {into₁ into₂ : List ℕ} (into values : List ℕ) → Cleared k into₁ into₂ → length into₁ ≡ length into → k ≤ length into₁ → take k into₁ ≡ values
+    → into₂ ≡ alone into values
+cleared-alone {k} {into₁} into values c e h t =
+    let n : length into₁ - k ≡ length into - length values = omega (arith, length-take-le k into₁ h, ap length t) in
+    c .is ∙ ap (λ (l : List ℕ). l ++ replicate (length into₁ - k) 0) t ∙ ap (λ (m : ℕ). values ++ replicate m 0) n
+
+-- ---- what is answered
+
+-- one buffer or the other is shorter than it must be
+abbrev short : (theme cells : List ℕ) → Bool
+short theme cells = ltb (length theme) 32 || ltb (length cells) 32768
+
+-- both are not
+pub both-long : (theme cells : List ℕ) → short theme cells ≡ false → (32 ≤ length theme) × (32768 ≤ length cells)
+both-long theme cells = step (ltb (length theme) 32) (ltb (length cells) 32768) refl refl
+  where
+    step : (s t : Bool) → ltb (length theme) 32 ≡ s → ltb (length cells) 32768 ≡ t → (s || t) ≡ false → (32 ≤ length theme) × (32768 ≤ length cells)
+    step false false p q e = (ltb-false (length theme) 32 p, ltb-false (length cells) 32768 q)
+    step true t p q e = absurd (true≢false e)
+    step false true p q e = absurd (true≢false e)
+
+-- what was read is within the buffers
+pub record Within (r : Reading) (theme cells : List ℕ) : Type 0 where
+  pub notes-within : heldNotes r ≤ length theme
+  pub cells-few : heldCells r ≤ 32768
+  pub cells-within : heldCells r ≤ length cells
+
+-- the promise by what an input means, of buffers that are long enough
+pub record As (m : Meaning) (theme cells : List ℕ) (answer : Reading) (theme′ cells′ : List ℕ) : Type 0 where
+  pub answers : answer ≡ takenAs m theme cells .answer
+  pub notes : theme′ ≡ takenAs m theme cells .theme
+  pub columns : cells′ ≡ takenAs m theme cells .cells
+
+module _ (input theme cells : List ℕ) where
+  pub takes-short : short theme cells ≡ true → Takes input theme cells Short theme cells
+  unfolding taken
+  takes-short e = record { answers = rw e; notes = rw e; columns = rw e }
+
+  module _ (e : short theme cells ≡ false) where
+    taken-is : taken input theme cells ≡ takenAs (meaning input) theme cells
+    unfolding taken
+    taken-is = rw e
+
+    takes-as : {m : Meaning} {answer : Reading} {theme′ cells′ : List ℕ} → meaning input ≡ m → As m theme cells answer theme′ cells′ → Takes input theme cells answer theme′ cells′
+    takes-as {m} p a =
+        let is : taken input theme cells ≡ takenAs m theme cells = taken-is ∙ ap (λ (x : Meaning). takenAs x theme cells) p in
+        record {
+          answers = a .answers ∙ ap (λ (t : Take). t .answer) (sym is);
+          notes = a .notes ∙ ap (λ (t : Take). t .theme) (sym is);
+          columns = a .columns ∙ ap (λ (t : Take). t .cells) (sym is);
+        }
+
+    as-takes : {answer : Reading} {theme′ cells′ : List ℕ} → Takes input theme cells answer theme′ cells′ → As (meaning input) theme cells answer theme′ cells′
+    as-takes t =
+        record {
+          answers = t .answers ∙ ap (λ (t : Take). t .answer) taken-is;
+          notes = t .notes ∙ ap (λ (t : Take). t .theme) taken-is;
+          columns = t .columns ∙ ap (λ (t : Take). t .cells) taken-is;
+        }
+
+    -- what was read is within the buffers
+    module _ {r : Reading} {theme₁ cells₁ : List ℕ} (w : Held input r theme₁ cells₁) (as-theme : length theme₁ ≡ length theme) (as-cells : length cells₁ ≡ length cells) where
+      pub held-within : Within r theme₁ cells₁
+      held-within = step r (w .is)
+        where
+          step : (a : Reading) → says input a theme₁ cells₁ → Within a theme₁ cells₁
+          step (Right way notes tracks columns) h =
+              let few : columns * tracks ≤ 32768 = mul-le-mul {n₁ = columns} {m₁ = tracks} {n₂ = 2048} {m₂ = 16} (h .columns-few) (h .tracks-few) in
+              record { notes-within = omega (arith, both-long theme cells e .0, h .notes-few); cells-few = few; cells-within = omega (arith, both-long theme cells e .1) }
+          step (Bad line) h = record { notes-within = omega arith; cells-few = omega arith; cells-within = omega arith }
+          step Short h = absurd h
+
+      pub takes-held : {m k : ℕ} {theme₂ cells₂ : List ℕ} → m ≡ heldNotes r → k ≡ heldCells r → Cleared m theme₁ theme₂ → Cleared k cells₁ cells₂
+          → Takes input theme cells r theme₂ cells₂
+      takes-held {theme₂ = theme₂} {cells₂ = cells₂} p q t s =
+          step r (w .is) held-within (subst (λ (n : ℕ). Cleared n theme₁ theme₂) p t) (subst (λ (n : ℕ). Cleared n cells₁ cells₂) q s)
+        where
+          step : (a : Reading) → says input a theme₁ cells₁ → Within a theme₁ cells₁ → Cleared (heldNotes a) theme₁ theme₂ → Cleared (heldCells a) cells₁ cells₂
+              → Takes input theme cells a theme₂ cells₂
+          step (Right way notes tracks columns) h within t s =
+              let one : (0 + 1) * tracks ≤ length cells₁ = omega (arith, both-long theme cells e .1, h .tracks-few, one-mul tracks) in
+              takes-as (h .is)
+              (record {
+                answers = rw (length-take-le notes theme₁ (within .notes-within), cut-length columns tracks cells₁, column-length columns tracks cells₁ 0 (h .columns-some) one);
+                notes = cleared-alone theme (take notes theme₁) t as-theme (within .notes-within) refl;
+                columns = cleared-alone cells (join (cut columns tracks cells₁)) s as-cells (within .cells-within) (sym (join-cut columns tracks cells₁));
+              })
+          step (Bad line) h within t s =
+              takes-as h
+              (record {
+                answers = refl;
+                notes = cleared-alone theme [] t as-theme (omega arith) refl;
+                columns = cleared-alone cells [] s as-cells (omega arith) refl;
+              })
+          step Short h within t s = absurd h
+
+-- ---- what a caller reads off
+
+pub record Took (input theme cells : List ℕ) (way : Way) (notes tracks columns : ℕ) (theme′ cells′ : List ℕ) : Type 0 where
+  pub request : Request
+  pub is : meaning input ≡ right request
+  pub way-is : way ≡ request .theme .way
+  pub notes-are : notes ≡ length (request .theme .notes)
+  pub tracks-are : tracks ≡ tracksOf (request .columns)
+  pub columns-are : columns ≡ length (request .columns)
+  pub theme-is : theme′ ≡ alone theme (request .theme .notes)
+  pub cells-are : cells′ ≡ alone cells (join (request .columns))
+
+module _ {input theme cells : List ℕ} {r : Reading} {theme′ cells′ : List ℕ} (t : Takes input theme cells r theme′ cells′) (few : 32 ≤ length theme) (many : 32768 ≤ length cells) where
+  read-as : As (meaning input) theme cells r theme′ cells′
+  read-as = as-takes input theme cells (rw (le-ltb (length theme) 32 few, le-ltb (length cells) 32768 many)) t
+
+  pub took-short : r ≡ Short → ⊥
+  took-short e = step (meaning input) read-as
+    where
+      step : (m : Meaning) → As m theme cells r theme′ cells′ → ⊥
+      step (right q) w = let d = w .answers in let z : _≡_ {A = ℕ} 0 1 = cc in omega arith
+      step (faulty n) w = let d = w .answers in let z : _≡_ {A = ℕ} 0 1 = cc in omega arith
+
+  pub took-bad : {line : ℕ} → r ≡ Bad line → meaning input ≡ faulty line
+  took-bad {line} e = step (meaning input) read-as
+    where
+      step : (m : Meaning) → As m theme cells r theme′ cells′ → m ≡ faulty line
+      step (right q) w = let d = w .answers in let z : _≡_ {A = ℕ} 0 1 = cc in absurd (omega arith)
+      step (faulty n) w = let d = w .answers in let z : n ≡ line = cc in ap faulty z
+
+  pub took-right : {way : Way} {notes tracks columns : ℕ} → r ≡ Right way notes tracks columns → Took input theme cells way notes tracks columns theme′ cells′
+  took-right {way} {notes} {tracks} {columns} e = step (meaning input) refl read-as
+    where
+      step : (m : Meaning) → meaning input ≡ m → As m theme cells r theme′ cells′ → Took input theme cells way notes tracks columns theme′ cells′
+      step (faulty n) p w = let d = w .answers in let z : _≡_ {A = ℕ} 0 1 = cc in absurd (omega arith)
+      step (right q) p w =
+          let d = w .answers in
+          record {
+            request = q;
+            is = p;
+            way-is = cc;
+            notes-are = cc;
+            tracks-are = cc;
+            columns-are = cc;
+            theme-is = w .notes;
+            cells-are = w .columns;
+          }

@@ -1,0 +1,5 @@
+-- The lister's input, in reading order: what a line is, what an input means, what the call promises.
+pub mod Reading
+pub mod Request
+pub mod Taking
+pub mod Steps

@@ -1,0 +1,34 @@
+// What stands at a place of the input. Places only go forward.
+
+ghost use mathlib.Core.Path.{_≡_};
+ghost use Prim.Native.Nat.{_≤_};
+ghost use lib.ListN.{length, drop};
+ghost use Rattle.reading.specs.Reading.{begins};
+ghost use Rattle.reading.specs.Steps.{Seen};
+
+// The byte at the place, and 0 behind the last byte.
+pub fn byte_at(text: &[u8], at: usize) -> u8
+    ensures { λ r. ⌜ Seen (now (text .entry)) at r ⌝ }
+{
+    if at < text.len() { text[at] } else { 0 }
+}
+
+// Whether the word stands at the place.
+pub fn stands(text: &[u8], from: usize, word: &[u8]) -> bool
+    requires { ⌜ from ≤ length (now text) ⌝ }
+    ensures { λ r. ⌜ r ≡ begins (now (word .entry)) (drop from (now (text .entry))) ⌝ }
+{
+    let mut at = from;
+    let mut i = 0;
+    while i < word.len() {
+        if text.len() <= at {
+            return false;
+        }
+        if word[i] != text[at] {
+            return false;
+        }
+        at += 1;
+        i += 1;
+    }
+    true
+}

@@ -1,0 +1,145 @@
+// Theme and chord lines at a place of the input.
+
+use crate::bytes::byte_at;
+use crate::bytes::stands;
+use crate::numbers::Numeral;
+use crate::numbers::cell;
+use asking::Way;
+ghost use mathlib.Core.Path.{_≡_};
+ghost use Prim.Native.Nat.{_+_, _≤_};
+ghost use lib.ListN.{length, drop};
+ghost use Rattle.reading.specs.Reading.{fields as fieldsOf, chordLine, notesOf, themeLine};
+ghost use Rattle.reading.specs.Request.{chords as chordsOf};
+ghost use Rattle.reading.specs.Steps.{Filled, Themed, Scored};
+
+// A line was read: how many values it has, and the place behind its line feed; or bad text.
+pub enum Line {
+    Read { count: usize, next: usize },
+    Bad,
+}
+
+// A theme line was read.
+pub enum ThemeLine {
+    Read { way: Way, count: usize, next: usize },
+    Bad,
+}
+
+// All chord lines were read: how many tracks and columns they make; or how many stand before the first faulty one.
+pub enum ChordLines {
+    Read { tracks: usize, columns: usize },
+    Faulty(usize),
+}
+
+// The fields up to the line feed, `limit` at most, into the buffer from a base on.
+fn fields(text: &[u8], from: usize, rests: bool, limit: usize, into: &mut [u8], base: usize) -> Line
+    requires { ⌜ (from ≤ length (now text)) × (base + limit ≤ length (now into)) ⌝ }
+    ensures { λ r. ⌜ Filled (now (text .entry)) limit base (now (into .entry)) r (now (into .exit)) (fieldsOf rests limit (drop from (now (text .entry)))) ⌝ }
+{
+    let mut at = from;
+    let mut count = 0;
+    while at < text.len() {
+        let b = text[at];
+        if b == 10 {
+            return Line::Read {
+                count,
+                next: at + 1,
+            };
+        }
+        if (b != 9) | (count == limit) {
+            return Line::Bad;
+        }
+        match cell(text, at + 1, rests) {
+            Numeral::At { value, next } => {
+                into[base + count] = value;
+                count += 1;
+                at = next;
+            }
+            Numeral::Bad => {
+                return Line::Bad;
+            }
+        }
+    }
+    Line::Bad // no line feed
+}
+
+// The chord line at the place, into the cells from a base on: as many cells as h, or any number where h is 0.
+fn chord_line(text: &[u8], from: usize, h: usize, cells: &mut [u8], base: usize) -> Line
+    requires { ⌜ (from ≤ length (now text)) × (base + 16 ≤ length (now cells)) ⌝ }
+    ensures { λ r. ⌜ Filled (now (text .entry)) 16 base (now (cells .entry)) r (now (cells .exit)) (chordLine h (drop from (now (text .entry)))) ⌝ }
+{
+    if !stands(text, from, b"chord") {
+        return Line::Bad;
+    }
+    match fields(text, from + 5, true, 16, cells, base) {
+        Line::Read { count, next } => {
+            if (1 <= count) & ((h == 0) | (count == h)) {
+                Line::Read { count, next }
+            } else {
+                Line::Bad
+            }
+        }
+        Line::Bad => Line::Bad,
+    }
+}
+
+// All chord lines from the place on, to the end of the input.
+pub fn chord_lines(text: &[u8], from: usize, cells: &mut [u8]) -> ChordLines
+    requires { ⌜ (from ≤ length (now text)) × (32768 ≤ length (now cells)) ⌝ }
+    ensures { λ r. ⌜ Scored r (now (cells .exit)) (chordsOf 2048 0 (drop from (now (text .entry)))) ⌝ }
+{
+    let mut at = from;
+    let mut tracks = 0;
+    let mut columns = 0;
+    let mut base = 0;
+    while at < text.len() {
+        if columns == 2048 {
+            return ChordLines::Faulty(columns);
+        }
+        match chord_line(text, at, tracks, cells, base) {
+            Line::Read { count, next } => {
+                tracks = count;
+                columns += 1;
+                base += count;
+                at = next;
+            }
+            Line::Bad => {
+                return ChordLines::Faulty(columns);
+            }
+        }
+    }
+    ChordLines::Read { tracks, columns }
+}
+
+// The notes of a theme line, from the place behind its way on.
+fn notes(text: &[u8], from: usize, way: Way, theme: &mut [u8]) -> ThemeLine
+    requires { ⌜ (from ≤ length (now text)) × (32 ≤ length (now theme)) ⌝ }
+    ensures { λ r. ⌜ Themed (now (text .entry)) r (now (theme .exit)) (notesOf way (drop from (now (text .entry)))) ⌝ }
+{
+    match fields(text, from, false, 32, theme, 0) {
+        Line::Read { count, next } => {
+            if 2 <= count {
+                ThemeLine::Read { way, count, next }
+            } else {
+                ThemeLine::Bad
+            }
+        }
+        Line::Bad => ThemeLine::Bad,
+    }
+}
+
+// The theme line at the front of the input.
+pub fn theme_line(text: &[u8], theme: &mut [u8]) -> ThemeLine
+    requires { ⌜ 32 ≤ length (now theme) ⌝ }
+    ensures { λ r. ⌜ Themed (now (text .entry)) r (now (theme .exit)) (themeLine (now (text .entry))) ⌝ }
+{
+    if !stands(text, 0, b"theme\t") {
+        return ThemeLine::Bad;
+    }
+    if stands(text, 6, b"exact") {
+        return notes(text, 11, Way::Exact, theme);
+    }
+    if stands(text, 6, b"octave") {
+        return notes(text, 12, Way::Octave, theme);
+    }
+    ThemeLine::Bad
+}

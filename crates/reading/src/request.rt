@@ -1,0 +1,106 @@
+// The call: a whole input, read into two lent buffers.
+
+use crate::lines::ChordLines;
+use crate::lines::ThemeLine;
+use crate::lines::chord_lines;
+use crate::lines::theme_line;
+use asking::Way;
+ghost use mathlib.Core.Path.{_≡_};
+ghost use Prim.Native.Nat.{_≤_};
+ghost use lib.ListN.{length};
+ghost use Rattle.reading.specs.Taking.{Takes};
+ghost use Rattle.reading.specs.Steps.{heldNotes, heldCells, Held, Cleared};
+
+// A right input: its way, how many notes stand in the one buffer, and how many tracks and columns in the other; or the number of
+// its first faulty line; or a buffer is too short for some inputs, and nothing was written.
+pub enum Reading {
+    Right {
+        way: Way,
+        notes: usize,
+        tracks: usize,
+        columns: usize,
+    },
+    Bad {
+        line: u32,
+    },
+    Short,
+}
+
+// Reads the notes to the front of a buffer of 32 bytes or more and the cells, column after column, to the front of one of 32,768
+// or more. All places behind them are 0 afterwards, and all places are where a line is faulty. No input needs more room.
+pub fn read(input: &[u8], theme: &mut [u8], cells: &mut [u8]) -> Reading
+    ensures { λ r. ⌜ Takes (now (input .entry)) (now (theme .entry)) (now (cells .entry)) r (now (theme .exit)) (now (cells .exit)) ⌝ }
+{
+    if (theme.len() < 32) | (cells.len() < 32768) {
+        return Reading::Short;
+    }
+    let reading = all_lines(input, theme, cells);
+    clear(theme, notes_in(reading));
+    clear(cells, cells_in(reading));
+    reading
+}
+
+// The theme line and all chord lines. Chord lines that are missing altogether are a fault of line 2.
+fn all_lines(input: &[u8], theme: &mut [u8], cells: &mut [u8]) -> Reading
+    requires { ⌜ (32 ≤ length (now theme)) × (32768 ≤ length (now cells)) ⌝ }
+    ensures { λ r. ⌜ Held (now (input .entry)) r (now (theme .exit)) (now (cells .exit)) ⌝ }
+{
+    match theme_line(input, theme) {
+        ThemeLine::Read { way, count, next } => match chord_lines(input, next, cells) {
+            ChordLines::Read { tracks, columns } => {
+                if columns == 0 {
+                    Reading::Bad { line: 2 }
+                } else {
+                    Reading::Right {
+                        way,
+                        notes: count,
+                        tracks,
+                        columns,
+                    }
+                }
+            }
+            ChordLines::Faulty(before) => Reading::Bad {
+                line: before as u32 + 2,
+            },
+        },
+        ThemeLine::Bad => Reading::Bad { line: 1 },
+    }
+}
+
+// How many notes, and how many cells, a right input has; none of another.
+fn notes_in(reading: Reading) -> usize
+    ensures { λ r. ⌜ r ≡ heldNotes reading ⌝ }
+{
+    match reading {
+        Reading::Right { notes, .. } => notes,
+        Reading::Bad { .. } => 0,
+        Reading::Short => 0,
+    }
+}
+
+fn cells_in(reading: Reading) -> usize
+    requires { ⌜ heldCells reading ≤ 32768 ⌝ }
+    ensures { λ r. ⌜ r ≡ heldCells reading ⌝ }
+{
+    match reading {
+        Reading::Right {
+            tracks,
+            columns,
+            ..
+        } => columns * tracks,
+        Reading::Bad { .. } => 0,
+        Reading::Short => 0,
+    }
+}
+
+// All places from one on become 0.
+fn clear(into: &mut [u8], from: usize)
+    requires { ⌜ from ≤ length (now into) ⌝ }
+    ensures { λ _. ⌜ Cleared from (now (into .entry)) (now (into .exit)) ⌝ }
+{
+    let mut at = from;
+    while at < into.len() {
+        into[at] = 0;
+        at += 1;
+    }
+}
