@@ -117,21 +117,6 @@ fn act(
     once(cells, theme, sets, table, columns, shifts, tally, j);
 }
 
-fn acted(
-    cells: &[u8],
-    theme: &[u8],
-    sets: &mut Sets,
-    table: &mut Table,
-    columns: &mut Columns,
-    shifts: &mut Shifts,
-    tally: &mut Tally,
-    j: Job,
-) {
-    head(cells, theme, sets, j);
-    act(cells, theme, sets, table, columns, shifts, tally, j);
-    tail(j);
-}
-
 pub fn attempt(
     cells: &mut Cells,
     theme: &mut Theme,
@@ -147,5 +132,9 @@ pub fn attempt(
     }
     arrange(cells, sets, j);
     arrange_theme(cells, theme, j);
-    acted(cells, theme, sets, table, columns, shifts, tally, j);
+    let made: &[u8] = cells;
+    let notes: &[u8] = theme;
+    head(made, notes, sets, j);
+    act(made, notes, sets, table, columns, shifts, tally, j);
+    tail(j);
 }
