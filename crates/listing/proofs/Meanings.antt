@@ -1,16 +1,16 @@
 -- From what was read to the whole output: which line is refused, or which search is told. Assumes nothing.
-use mathlib.Core.Path.{_≡_, refl, sym, ap, _∙_}
-use mathlib.Core.List.{List, [], _∷_, _++_}
-use Prim.Native.Nat.{ℕ, _+_, _-_, _*_, _≤_}
+use mathlib.Core.Path.{_≡_, sym, ap, _∙_}
+use mathlib.Core.List.{List, [], _∷_}
+use Prim.Native.Nat.{ℕ, _-_, _*_, _≤_}
 use native.Mathlib.Nat.{sub-zero, mul-le-mul}
 use native.Mathlib.Omega.{arith}
-use lib.ListN.{length, take, replicate, length-append, length-replicate}
+use lib.ListN.{length, take, replicate, length-append}
 use lib.Seq.{take-at}
 use Rattle.theory.specs.Lists.{join}
 use Rattle.asking.specs.declared.way.Way.{Way}
 use Rattle.reading.specs.declared.request.Reading.{Reading}
 use Rattle.reading.specs.declared.request.Reading.the-variants.{Bad}
-use Rattle.reading.specs.Request.{Meaning, meaning}
+use Rattle.reading.specs.Request.{Meaning}
 use Rattle.reading.specs.Taking.{alone, tracksOf, Takes}
 use Rattle.reading.proofs.Takings.{Took, took-bad}
 use Rattle.telling.specs.Lines.{linesOf, refusedLine}

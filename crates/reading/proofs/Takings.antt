@@ -2,12 +2,12 @@
 -- what a caller reads off it, of buffers that are long enough (`took-right`, `took-bad`, `took-short`). Assumes nothing.
 use mathlib.Core.Path.{_≡_, refl, sym, ap, _∙_, subst}
 use mathlib.Core.Bool.{Bool, true, false, _||_, true≢false}
-use mathlib.Core.List.{List, [], _∷_, _++_}
-use Prim.Native.Nat.{ℕ, zero, suc, _+_, _-_, _*_, _≤_, _<_}
+use mathlib.Core.List.{List, [], _++_}
+use Prim.Native.Nat.{ℕ, zero, suc, _+_, _-_, _*_, _≤_}
 use native.Mathlib.Nat.{zero-mul, suc-mul, one-mul, mul-le-mul}
 use native.Mathlib.Omega.{arith}
 use lib.Dec.{ltb}
-use lib.ListN.{length, getD, take, drop, replicate}
+use lib.ListN.{length, take, drop, replicate}
 use lib.Seq.{take-add, length-take-le}
 use borrow.Author.Tests.{le-ltb, ltb-false}
 use Rattle.theory.specs.Lists.{join}
@@ -18,7 +18,7 @@ use Rattle.reading.specs.declared.request.Reading.{Reading}
 use Rattle.reading.specs.declared.request.Reading.the-variants.{Right, Bad, Short}
 use Rattle.reading.specs.Request.{Request, Meaning, right, faulty, meaning}
 use Rattle.reading.specs.Taking.{Take, alone, tracksOf, takenAs, taken, Takes}
-use Rattle.reading.specs.Steps.{Stood, says, Held, heldNotes, heldCells, Cleared}
+use Rattle.reading.specs.Steps.{says, Held, heldNotes, heldCells, Cleared}
 
 pub takes-unique : {input theme cells : List ℕ} {a b : Reading} {s t u v : List ℕ} → Takes input theme cells a s u → Takes input theme cells b t v → (a ≡ b) × (s ≡ t) × (u ≡ v)
 takes-unique p q = (p .answers ∙ sym (q .answers), p .notes ∙ sym (q .notes), p .columns ∙ sym (q .columns))

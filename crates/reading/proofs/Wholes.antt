@@ -1,7 +1,7 @@
 -- From the lines that were read to the meaning of the whole input. What was read stands for the theme line (`ThemeGot`), and for
 -- all chord lines (`ScoreGot`) or a faulty one (`FaultGot`). Assumes nothing.
 use mathlib.Core.Path.{_≡_, refl, sym, ap, _∙_}
-use mathlib.Core.List.{List, []}
+use mathlib.Core.List.{List}
 use Prim.Native.Nat.{ℕ, zero, suc, _+_, _≤_}
 use native.Mathlib.Omega.{arith}
 use lib.ListN.{length, take, drop}
@@ -12,7 +12,7 @@ use Rattle.reading.specs.declared.lines.ThemeLine.the-variants as ThemeL
 use Rattle.reading.specs.declared.lines.ChordLines.{ChordLines}
 use Rattle.reading.specs.declared.lines.ChordLines.the-variants as ChordLines
 use Rattle.reading.specs.Reading.{Read, got, Theme, themeLine}
-use Rattle.reading.specs.Request.{Chords, all, fault, chords, Meaning, right, faulty, withChords, withTheme, meaning}
+use Rattle.reading.specs.Request.{Chords, all, fault, chords, right, faulty, withChords, withTheme, meaning}
 use Rattle.reading.specs.Steps.{themeRead, themeNext, themeCount, Themed, chordsRead, chordsTracks, chordsCount, Scored, Stood}
 
 -- ---- what was read

@@ -2,7 +2,6 @@
 -- is how many places are left. Assumes nothing.
 use Prim.Native.Nat.{_-_}
 use lib.ListN.{length}
-use native.Mathlib.Omega.{arith}
 use Rattle.reading.proofs.Clearing.{Clearing, clearing-start, clearing-end, clearing-more}
 use borrow.Author.Needs.{needs}
 use Rattle.reading.proofs.request.clear.Statement.{statement}
