@@ -5,13 +5,14 @@ use mathlib.Core.Bool.{Bool, true, false, _&&_, cond}
 use mathlib.Core.List.{List, [], _∷_}
 use Prim.Native.Nat.{ℕ, _+_, _^_, _≤_, _<_}
 use native.Mathlib.Omega.{arith}
+use lib.Bits.{bitOr, and-le-l, and-le-r, or-add-and}
 use lib.Count.{ones, ones-le}
 use lib.Dec.{leb}
 use lib.IntN.{ℤ}
 use lib.ListN.{length, length-append}
 use borrow.Author.Tests.{le-leb, lt-leb}
 use Rattle.theory.specs.Marks.{marks}
-use Rattle.theory.proofs.Marks.{marks-ones}
+use Rattle.theory.proofs.Marks.{marks-zero, marks-ones}
 use Rattle.score.specs.declared.quantities.Pitch.{Pitch}
 use Rattle.asking.specs.declared.way.Way.{Way}
 use Rattle.asking.specs.declared.way.Way.the-variants.{Exact, Octave}
@@ -62,9 +63,19 @@ module _ (at : ℕ) (columns : List ℕ) (shifts : List ℤ) where
 pub ones-few : (low high : ℕ) → low < 2 ^ 64 → high < 2 ^ 64 → ones low + ones high ≤ 128
 ones-few low high l h = omega (arith, ones-le 64 low l, ones-le 64 high h)
 
+-- a word has no bit where neither half has
+pub or-none-left : (x y : ℕ) → bitOr x y ≡ 0 → x ≡ 0
+or-none-left x y e = omega (arith, e, or-add-and x y, and-le-r x y)
+
+pub or-none-right : (x y : ℕ) → bitOr x y ≡ 0 → y ≡ 0
+or-none-right x y e = omega (arith, e, or-add-and x y, and-le-l x y)
+
 pub low-code-le : (way : Way) (first : Pitch) → lowCode way first ≤ 127
 low-code-le Exact first = omega arith
 low-code-le Octave first = omega arith
+
+pub codes-none : (way : Way) (first : Pitch) → codesOf way first 0 0 ≡ []
+codes-none way first = rw (marks-zero 64 (lowCode way first), marks-zero 64 (lowCode way first + 64))
 
 module _ (way : Way) (first : Pitch) (low high : ℕ) where
   -- as many as the halves have ones

@@ -73,6 +73,10 @@ pub fn put_hits(
 ) -> usize
     ensures { λ r. ⌜ Puts way (column .0) (fitting (wordCodes way first low high) from (now (columns .entry)) (now (shifts .entry))) from (now (columns .entry)) (now (shifts .entry)) r (now (columns .exit)) (now (shifts .exit)) ⌝ }
 {
+    // most columns have none
+    if (low | high) == 0 {
+        return from;
+    }
     if 127 < first.0 {
         return from;
     }

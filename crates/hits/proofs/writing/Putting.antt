@@ -6,6 +6,7 @@ use mathlib.Core.List.{List, [], _∷_, _++_, map, map-append, append-assoc, app
 use Prim.Native.Nat.{ℕ, zero, suc, _+_, _-_, _*_, _%_, _^_, _≤_, _<_}
 use native.Mathlib.Decide.{decLe}
 use native.Mathlib.Omega.{arith}
+use lib.Bits.{bitOr}
 use lib.Count.{ones, trailingZeros}
 use lib.Dec.{leb}
 use lib.IntN.{ℤ}
@@ -21,7 +22,7 @@ use Rattle.score.specs.declared.quantities.Pitch.{Pitch}
 use Rattle.asking.specs.declared.way.Way.{Way}
 use Rattle.asking.specs.Way.{shiftOf}
 use Rattle.hits.specs.Writing.{codesOf, wordCodes, fitting, Puts}
-use Rattle.hits.proofs.Fitting.{fitting-nil, fitting-all, fitting-none, fitting-cond, puts-nil, codes-length, word-codes, word-none}
+use Rattle.hits.proofs.Fitting.{fitting-nil, fitting-all, fitting-none, fitting-cond, puts-nil, or-none-left, or-none-right, codes-none, codes-length, word-codes, word-none}
 
 pub record Putting (way : Way) (j from half first : ℕ) (columns₀ : List ℕ) (shifts₀ : List ℤ) (columns : List ℕ) (shifts : List ℤ) (left at : ℕ) : Type 0 where
   pub out : List ℕ
@@ -127,6 +128,12 @@ module _ (n at a b : ℕ) (x y : Bool) (p : x ≡ leb (at + n) a) (q : y ≡ leb
   room-none e = rw (← p, ← q) (not-true (x && y) e)
 
 module _ (way : Way) (j : ℕ) (first : Pitch) (low high at : ℕ) (columns : List ℕ) (shifts : List ℤ) where
+  pub put-no-mark : bitOr low high ≡ 0 → Puts way j (fitting (wordCodes way first low high) at columns shifts) at columns shifts at columns shifts
+  put-no-mark e =
+      puts-nil at columns shifts way j _
+      (fitting-cond at columns shifts (codesOf way first low high) (leb (first .0) 127)
+      (rw (or-none-left low high e, or-none-right low high e, codes-none way first) (fitting-nil at columns shifts)))
+
   pub put-no-pitch : 127 < first .0 → Puts way j (fitting (wordCodes way first low high) at columns shifts) at columns shifts at columns shifts
   put-no-pitch h = puts-nil at columns shifts way j _ (rw (word-none way first low high h) (fitting-nil at columns shifts))
 

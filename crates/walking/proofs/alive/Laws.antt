@@ -9,7 +9,7 @@ use native.Mathlib.Numerals.{add-one}
 use native.Mathlib.Decide.{decLt}
 use native.Mathlib.Omega.{arith}
 use lib.Dec.{eqb}
-use lib.Bits.{bitAnd, bitOr, and-le-l, and-le-r, or-add-and}
+use lib.Bits.{bitAnd, and-le-l}
 use lib.Count.{ones, ones-ones}
 use lib.ListN.{length, getD, take, drop, drop-of-length-le}
 use lib.Seq.{drop-cons, drop-drop, getD-drop}
@@ -30,7 +30,7 @@ use Rattle.asking.specs.declared.way.Way.{Way}
 use Rattle.asking.specs.declared.way.Way.the-variants.{Exact, Octave}
 use Rattle.asking.specs.Way.{span, holds}
 use Rattle.hits.specs.Writing.{lowCode, codesOf}
-use Rattle.hits.proofs.Fitting.{ones-few, codes-length}
+use Rattle.hits.proofs.Fitting.{ones-few, codes-none, codes-length}
 use Rattle.score.specs.Score.{note}
 use Rattle.walking.specs.Starts.{place, codes, follows, looked, hit, looks}
 use Rattle.walking.specs.Walk.{Ready, Fits}
@@ -52,19 +52,9 @@ small-high Octave low high s = omega (arith, s .1)
 pub small-length : (way : Way) (first : Pitch) (low high : ℕ) → Small way low high → length (codesOf way first low high) ≡ ones low + ones high
 small-length way first low high s = codes-length way first low high (small-low way low high s) (small-high way low high s)
 
--- a word has no bit where neither half has
-pub or-none-left : (x y : ℕ) → bitOr x y ≡ 0 → x ≡ 0
-or-none-left x y e = omega (arith, e, or-add-and x y, and-le-r x y)
-
-pub or-none-right : (x y : ℕ) → bitOr x y ≡ 0 → y ≡ 0
-or-none-right x y e = omega (arith, e, or-add-and x y, and-le-l x y)
-
 pub both-left : (a b : Bool) → (a && b) ≡ true → a ≡ true
 both-left true b e = refl
 both-left false b e = e
-
-pub codes-none : (way : Way) (first : Pitch) → codesOf way first 0 0 ≡ []
-codes-none way first = rw (marks-zero 64 (lowCode way first), marks-zero 64 (lowCode way first + 64))
 
 -- a bit that is set is one of those used
 low-used : (way : Way) (low high i : ℕ) → Small way low high → bit low i ≡ 1 → i < 64 → i < width way

@@ -10,18 +10,21 @@ use denote.Ref.{now}
 use Rattle.theory.specs.Marks.{marks}
 use Rattle.theory.proofs.Marks.{marks-ones}
 use Rattle.hits.proofs.Fitting.{ones-few, low-code-le}
-use Rattle.hits.proofs.writing.Putting.{puts-both, Room, room-both, room-none, put-no-pitch, put-no-room, put-all}
+use Rattle.hits.proofs.writing.Putting.{puts-both, Room, room-both, room-none, put-no-mark, put-no-pitch, put-no-room, put-all}
 use Rattle.hits.proofs.writing.put_hits.Statement.{statement}
 use Rattle.hits.proofs.writing.put_hits.Tie as tie
 
 returns : tie.Need-returns
-returns c = let s = c .before .before .before .args in put-no-pitch _ _ (s .first) (s .low) (s .high) _ _ _ (c .if1 .taken)
+returns c = let s = c .before .before .args in put-no-mark _ _ (s .first) (s .low) (s .high) _ _ _ (c .if1 .taken)
+
+returns-2 : tie.Need-returns-2
+returns-2 c = let s = c .before .before .before .before .args in put-no-pitch _ _ (s .first) (s .low) (s .high) _ _ _ (c .if2 .taken)
 
 add-hits : tie.Need-add-hits
-add-hits c = let s = c .before .before .before .args in omega (arith, ones-few (s .low) (s .high) (omega arith) (omega arith))
+add-hits c = let s = c .before .before .before .before .args in omega (arith, ones-few (s .low) (s .high) (omega arith) (omega arith))
 
 cast-hits : tie.Need-cast-hits
-cast-hits c = let s = c .before .before .before .args in omega (arith, ones-few (s .low) (s .high) (omega arith) (omega arith))
+cast-hits c = let s = c .before .before .before .before .args in omega (arith, ones-few (s .low) (s .high) (omega arith) (omega arith))
 
 has-room-requires : tie.Need-has-room-requires
 has-room-requires c κs = tt
@@ -29,12 +32,12 @@ has-room-requires c κs = tt
 has-room-requires-2 : tie.Need-has-room-requires-2
 has-room-requires-2 c κs = tt
 
-returns-2 : tie.Need-returns-2
-returns-2 c =
+returns-3 : tie.Need-returns-3
+returns-3 c =
     let r = c .before in
-    let s = r .before .before .before .before .before .args in
+    let s = r .before .before .before .before .before .before .args in
     put-no-room _ _ (s .first) (s .low) (s .high) _ _ _ (omega arith) (omega arith)
-    (room-none (ones (s .low) + ones (s .high)) (s .from) (length (now (s .columns))) (length (now (s .shifts))) _ _ (r .before .has-room .ensures) (r .has-room2 .ensures) (c .if2 .taken))
+    (room-none (ones (s .low) + ones (s .high)) (s .from) (length (now (s .columns))) (length (now (s .shifts))) _ _ (r .before .has-room .ensures) (r .has-room2 .ensures) (c .if3 .taken))
 
 low-code-requires : tie.Need-low-code-requires
 low-code-requires c κs = search needs
@@ -43,14 +46,14 @@ put-marked-requires : tie.Need-put-marked-requires
 put-marked-requires c κs =
     let e = c .before .before .before in
     let r = e .before in
-    let s = r .before .before .before .before .before .args in
-    let q : Room (ones (s .low) + ones (s .high)) (s .from) (length (now (s .columns))) (length (now (s .shifts))) = room-both _ _ _ _ _ _ (r .before .has-room .ensures) (r .has-room2 .ensures) (e .if2 .left) in
+    let s = r .before .before .before .before .before .before .args in
+    let q : Room (ones (s .low) + ones (s .high)) (s .from) (length (now (s .columns))) (length (now (s .shifts))) = room-both _ _ _ _ _ _ (r .before .has-room .ensures) (r .has-room2 .ensures) (e .if3 .left) in
     (omega (arith, q .in-columns), omega (arith, q .in-shifts), omega (arith, c .before .before .low-code .ensures, low-code-le (s .way) (s .first)))
 
 add-put-marked : tie.Need-add-put-marked
 add-put-marked c =
     let d = c .before .before .before .before .before .before .before .before in
-    let s = d .before .before .before .before .before .before .before .args in
+    let s = d .before .before .before .before .before .before .before .before .args in
     omega (arith, d .low-code .ensures, low-code-le (s .way) (s .first))
 
 put-marked-requires-2 : tie.Need-put-marked-requires-2
@@ -59,9 +62,9 @@ put-marked-requires-2 c κs =
     let d = p .before .before .before in
     let e = d .before in
     let r = e .before in
-    let s = r .before .before .before .before .before .args in
-    let q : Room (ones (s .low) + ones (s .high)) (s .from) (length (now (s .columns))) (length (now (s .shifts))) = room-both _ _ _ _ _ _ (r .before .has-room .ensures) (r .has-room2 .ensures) (e .if2 .left) in
-    let l : s .low < 2 ^ 64 = omega (arith, r .before .before .before .before .before .fits .low) in
+    let s = r .before .before .before .before .before .before .args in
+    let q : Room (ones (s .low) + ones (s .high)) (s .from) (length (now (s .columns))) (length (now (s .shifts))) = room-both _ _ _ _ _ _ (r .before .has-room .ensures) (r .has-room2 .ensures) (e .if3 .left) in
+    let l : s .low < 2 ^ 64 = omega (arith, r .before .before .before .before .before .before .fits .low) in
     let m : length (marks 64 (d .low-code .result) (s .low)) ≡ ones (s .low) = marks-ones 64 (d .low-code .result) (s .low) l in
     (omega (arith, q .in-columns, p .put-marked .ensures .count, m, p .put-marked .kept .0), omega (arith, q .in-shifts, p .put-marked .ensures .count, m, p .put-marked .kept .1 .0), omega (arith, d .low-code .ensures, low-code-le (s .way) (s .first)))
 
@@ -71,17 +74,18 @@ same-length c = search needs
 same-length-2 : tie.Need-same-length-2
 same-length-2 c = search needs
 
-returns-3 : tie.Need-returns-3
-returns-3 c =
+returns-4 : tie.Need-returns-4
+returns-4 c =
     let p2 = c .before .before .before in
     let p = p2 .before .before .before .before .before .before in
     let d = p .before .before .before in
     let e = d .before in
     let r = e .before in
     let f = r .before .before in
-    let s = f .before .before .before .args in
-    let q : Room (ones (s .low) + ones (s .high)) (s .from) (length (now (s .columns))) (length (now (s .shifts))) = room-both _ _ _ _ _ _ (r .before .has-room .ensures) (r .has-room2 .ensures) (e .if2 .left) in
-    put-all _ _ (s .first) (s .low) (s .high) _ _ _ (omega arith) (omega arith) (f .if1 .left) q _ _ _
+    let a = f .before .before .before .before in
+    let s = a .args in
+    let q : Room (ones (s .low) + ones (s .high)) (s .from) (length (now (s .columns))) (length (now (s .shifts))) = room-both _ _ _ _ _ _ (r .before .has-room .ensures) (r .has-room2 .ensures) (e .if3 .left) in
+    put-all _ _ (s .first) (s .low) (s .high) _ _ _ (omega (arith, a .fits .low)) (omega (arith, a .fits .high)) (f .if2 .left) q _ _ _
     (rw (← (d .low-code .ensures)) (puts-both _ _ _ _ _ _ _ _ _ _ (p .put-marked .ensures) _ _ _ (p2 .put-marked2 .ensures)))
 
 pub put-hits-spec : {M : Type 1} → statement M
@@ -89,15 +93,16 @@ put-hits-spec =
     tie.close
     (tie.spec
     returns
+    returns-2
     add-hits
     cast-hits
     has-room-requires
     has-room-requires-2
-    returns-2
+    returns-3
     low-code-requires
     put-marked-requires
     add-put-marked
     put-marked-requires-2
     same-length
     same-length-2
-    returns-3)
+    returns-4)

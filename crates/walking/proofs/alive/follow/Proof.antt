@@ -7,9 +7,10 @@ use native.Mathlib.Omega.{arith}
 use lib.ListN.{length}
 use denote.Ref.{now}
 use Rattle.score.specs.Score.{columnsIn}
+use Rattle.hits.proofs.Fitting.{or-none-left, or-none-right}
 use Rattle.walking.specs.Alive.{Cached}
 use Rattle.walking.proofs.starts.Trying.{cells-within}
-use Rattle.walking.proofs.alive.Laws.{Following, alive-few, or-none-left, or-none-right, follow-first, none-spare, follow-none, end-spare, follow-end, follow-turn}
+use Rattle.walking.proofs.alive.Laws.{Following, alive-few, follow-first, none-spare, follow-none, end-spare, follow-end, follow-turn}
 use Rattle.walking.proofs.alive.follow.Statement.{statement}
 use Rattle.walking.proofs.alive.follow.Tie as tie
 
