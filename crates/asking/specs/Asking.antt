@@ -1,16 +1,15 @@
 -- What a call asks for (`PlainAsks`, `QuickAsks`), in the words of the table of refusals turned round and apart from any
 -- method. Assumes nothing.
 use mathlib.Core.Path.{_≡_}
-use mathlib.Core.Bool.{true, false, cond}
-use mathlib.Core.List.{List, [], _∷_}
+use mathlib.Core.Bool.{false}
+use mathlib.Core.List.{List, []}
 use Prim.Native.Nat.{ℕ, _+_, _-_, _%_, _≤_}
-use lib.Dec.{eqb}
 use lib.IntN.{ℤ, pos, _+ℤ_}
 use lib.ListN.{length}
 use lib.Signed.{_≤ℤ_}
 use Rattle.theory.specs.Lists.{some}
 use Rattle.score.specs.Score.{columnsIn}
-use Rattle.score.specs.Refusals.{Row, badCell, badSet}
+use Rattle.score.specs.Refusals.{badCell, badSet}
 use Rattle.asking.specs.declared.way.Way.{Way}
 use Rattle.asking.specs.declared.bookmark.Bookmark.{Bookmark}
 use Rattle.asking.specs.Way.{lowest, highest}

@@ -15,7 +15,6 @@ ghost use mathlib.Core.Bool.{_||_};
 ghost use mathlib.Core.List.{[], _∷_};
 ghost use Prim.Native.Nat.{_+_};
 ghost use lib.Dec.{eqb, ltb};
-ghost use lib.ListN.{length};
 ghost use Rattle.theory.specs.Lists.{some, first};
 ghost use Rattle.score.specs.Score.{columnsIn};
 ghost use Rattle.score.specs.Refusals.{verdict, row1, row2, row3, row6, row7};

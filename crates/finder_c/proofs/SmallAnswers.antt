@@ -4,15 +4,15 @@
 use mathlib.Core.Path.{_≡_, refl}
 use mathlib.Core.Bool.{Bool, true, false, cond}
 use mathlib.Core.List.{List, [], _∷_}
-use Prim.Native.Nat.{ℕ, zero, suc, _+_, _*_, _≤_, _<_, zero-le}
+use Prim.Native.Nat.{ℕ, zero, suc, _+_, _≤_, zero-le}
 use native.Mathlib.Nat.{mul-le-mul}
 use native.Mathlib.Omega.{arith}
 use lib.IntN.{ℤ}
-use lib.ListN.{length, getD, drop}
+use lib.ListN.{length}
 use Rattle.theory.specs.Pages.{pageHits, pageLooks, from}
 use Rattle.theory.proofs.Lists.{some-first}
 use Rattle.score.specs.declared.refusals.Refusal.{Refusal}
-use Rattle.score.specs.Score.{columnsIn, scoreOf, pitch, columnAt, onward}
+use Rattle.score.specs.Score.{columnsIn, scoreOf}
 use Rattle.score.specs.Refusals.{Row, judge, row1, row2, row3, row6, row7, badCell, badSet}
 use Rattle.score.specs.Sets.{sets as setsOf}
 use Rattle.preparing.specs.declared.sets.Preparation.the-variants.{Prepared, Refused as Away}
@@ -20,9 +20,9 @@ use Rattle.preparing.specs.Preparing.{Filled, prepared}
 use Rattle.score.proofs.Columns.{columns-whole}
 use Rattle.asking.specs.declared.way.Way.{Way}
 use Rattle.asking.specs.declared.bookmark.Bookmark.{Bookmark}
-use Rattle.walking.specs.Starts.{Place, key, starts, looked, hit, looks}
+use Rattle.walking.specs.Starts.{Place, key, starts, hit, looks}
 use Rattle.asking.specs.Bookmarks.{keyOf}
-use Rattle.asking.specs.Refusals.{row4, row5, row8, row9, row10, badNote}
+use Rattle.asking.specs.Refusals.{row4, row5, row8, badNote}
 use Rattle.filter.specs.Table.{themeTable}
 use Rattle.search.specs.Page.{Leaf, QuickLeaf, leaf, plainPage, quickPage}
 use Rattle.walking.specs.Candidates.{quickStarts}

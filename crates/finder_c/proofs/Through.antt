@@ -1,6 +1,6 @@
 -- From the calls of `score` and `search` to the exported ones: what was answered, told in numbers, is what the contract
 -- says; a call that is none changes nothing. Assumes nothing.
-use mathlib.Core.Path.{_≡_, refl, sym, ap, _∙_, subst}
+use mathlib.Core.Path.{_≡_, sym, ap, _∙_, subst}
 use mathlib.Core.Bool.{Bool, true, false, cond, not, _||_, true≢false}
 use mathlib.Core.List.{List}
 use Prim.Native.Nat.{ℕ}
@@ -9,7 +9,7 @@ use lib.IntN.{ℤ, pos}
 use lib.ListN.{length}
 use borrow.Author.Tests.{eqb-true, not-false}
 use Rattle.preparing.specs.declared.sets.Preparation.{Preparation}
-use Rattle.preparing.specs.Preparing.{Prepares, prepared}
+use Rattle.preparing.specs.Preparing.{Prepares}
 use Rattle.asking.specs.declared.way.Way.{Way}
 use Rattle.search.specs.declared.page.Page.{Page}
 use Rattle.search.specs.Page.{PlainPages, QuickPages, plainPage, quickPage}

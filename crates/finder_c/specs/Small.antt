@@ -1,6 +1,6 @@
 -- What makes an answer's numbers fit 64 bits: a refused place is below 65,536, and no page has more pairs than looks. Asked
 -- by inner functions only; that every answer of the finder is so is a law of this crate. Assumes nothing.
-use Prim.Native.Nat.{ℕ, _≤_, _<_}
+use Prim.Native.Nat.{_≤_, _<_}
 use Rattle.score.specs.declared.refusals.Refusal.{Refusal}
 use Rattle.preparing.specs.declared.sets.Preparation.{Preparation}
 use Rattle.preparing.specs.declared.sets.Preparation.the-variants as preparation

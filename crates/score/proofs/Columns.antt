@@ -3,7 +3,7 @@
 use mathlib.Core.Path.{_≡_, refl, ap, _∙_}
 use mathlib.Core.List.{List, []}
 use Prim.Native.Nat.{ℕ, zero, suc, _+_, _-_, _*_, _%_, _≤_, _<_}
-use native.Mathlib.Nat.{zero-mul, suc-mul, one-mul, add-mul, sub-zero, suc-sub-suc, mul-le-mul-right, not-suc-le-zero, le-of-suc-le-suc, div-add-mod'}
+use native.Mathlib.Nat.{zero-mul, suc-mul, one-mul, add-mul, sub-zero, suc-sub-suc, not-suc-le-zero, le-of-suc-le-suc, div-add-mod'}
 use native.Mathlib.Decide.{decLt}
 use native.Mathlib.Omega.{arith}
 use lib.ListN.{length, getD, take, drop, length-take, length-drop, List·getD-eq-default}
@@ -50,12 +50,6 @@ column-length n h cells k l m =
 
 pub columns-whole : (cells : List ℕ) (h : ℕ) → length cells % h ≡ 0 → columnsIn cells h * h ≡ length cells
 columns-whole cells h e = omega (arith, div-add-mod' (length cells) h)
-
--- its columns are within the cells
-pub column-within : (cells : List ℕ) (h k : ℕ) → length cells % h ≡ 0 → k < columnsIn cells h → (k + 1) * h ≤ length cells
-column-within cells h k e l =
-    let m : k + 1 ≤ columnsIn cells h = omega arith in
-    omega (arith, columns-whole cells h e, mul-le-mul-right h m)
 
 pub score-length : (cells : List ℕ) (h : ℕ) → length (scoreOf cells h) ≡ columnsIn cells h
 score-length cells h = cut-length (columnsIn cells h) h cells

@@ -23,16 +23,13 @@ use Rattle.search.specs.Definition.{Stands}
 use Rattle.walking.specs.Starts.{Place, place, key, starts, hit}
 use Rattle.search.specs.Pairs.{pairAt, pairs, Before, Ordered, none, one, more}
 use Rattle.walking.proofs.Order.{span-lt, Start, in-starts, starts-in, starts-rising}
-use Rattle.asking.proofs.Shifts.{code-shift, shift-rises, shift-above, shift-below, shift-code, code-lt}
+use Rattle.asking.proofs.Shifts.{shift-rises, shift-above, shift-below, shift-code, code-lt}
 use Rattle.asking.proofs.Holding.{holds-true, true-holds}
 use Rattle.search.proofs.Notes.{Each, hit-each, each-hit}
 
 -- where a pair stands
 abbrev pub placeOf : Way → Pair → Place
 placeOf way pair = place (pair .column .0) (codeOf way (pair .shift))
-
-pub place-pair : (way : Way) (s : Place) → placeOf way (pairAt way s) ≡ s
-place-pair way s = ap (place (s .column)) (code-shift way (s .code))
 
 pub pair-place : (way : Way) (pair : Pair) → lowest way ≤ℤ pair .shift → pairAt way (placeOf way pair) ≡ pair
 pair-place way pair low = ap {B = Pair} (λ (c : ℤ). record { column = pair .column; shift = c }) (shift-code way (pair .shift) low)

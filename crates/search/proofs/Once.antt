@@ -1,15 +1,15 @@
 -- An ordered list holds each pair once: each pair of it stands before all those after it, and no pair stands before itself.
 -- Assumes nothing.
-use mathlib.Core.Path.{_≡_, sym, ap, _∙_, subst}
-use mathlib.Core.Logic.{_⊎_, inl, inr, ⊎-elim}
+use mathlib.Core.Path.{sym, _∙_, subst}
+use mathlib.Core.Logic.{inl, inr}
 use mathlib.Core.List.{List, [], _∷_, List·Memᴰ as In, List·Memᴰ·head as at-head, List·Memᴰ·tail as in-tail, List·Memᴰ·not-nil as not-nil}
-use Prim.Native.Nat.{ℕ, _<_}
+use Prim.Native.Nat.{_<_}
 use native.Mathlib.Omega.{arith}
 use lib.Dec.{ltb→lt, lt→ltb}
 use lib.IntN.{ℤ, pos, negsuc}
 use lib.Signed.{_<ℤ_, <ℤ-irrefl}
 use Rattle.asking.specs.declared.bookmark.Pair.{Pair}
-use Rattle.search.specs.Pairs.{Before, Ordered, none, one, more}
+use Rattle.search.specs.Pairs.{Before, Ordered, more}
 
 less-trans : (a b c : ℤ) → a <ℤ b → b <ℤ c → a <ℤ c
 less-trans (pos a) (pos b) (pos c) p q =

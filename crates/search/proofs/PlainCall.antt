@@ -9,7 +9,7 @@ use native.Mathlib.Omega.{arith}
 use lib.IntN.{ℤ}
 use Rattle.theory.specs.Lists.{some, first}
 use Rattle.score.specs.declared.refusals.Refusal.{Refusal}
-use Rattle.score.specs.Score.{columnsIn, scoreOf}
+use Rattle.score.specs.Score.{scoreOf}
 use Rattle.score.specs.Refusals.{badCell, row1, row2}
 use Rattle.score.specs.Refusals.{GivenBy, placeBy}
 use Rattle.asking.specs.declared.way.Way.{Way}

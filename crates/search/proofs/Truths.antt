@@ -2,20 +2,19 @@
 -- whatever sets were lent. Looks: an answer's looks are at most the bound, and they are those of the starts at or after the
 -- bookmark, by column and then shift. Then sentences that follow from the definition: a theme longer than the score has no
 -- pairs, no pair passes over a column of rests, and a finished bookmark gives the same finished page. Assumes nothing.
-use mathlib.Core.Path.{_≡_, refl, sym, ap, _∙_, subst}
-use mathlib.Core.Bool.{Bool, true, false}
-use mathlib.Core.List.{List, [], _∷_, map, List·Memᴰ as In, List·Memᴰ·head as at-head, List·Memᴰ·tail as in-tail, List·Memᴰ·not-nil as not-nil}
-use Prim.Native.Nat.{ℕ, zero, suc, _+_, _-_, _≤_, _<_}
+use mathlib.Core.Path.{_≡_, sym, ap, _∙_, subst}
+use mathlib.Core.List.{List, [], _∷_, List·Memᴰ as In, List·Memᴰ·head as at-head, List·Memᴰ·tail as in-tail, List·Memᴰ·not-nil as not-nil}
+use Prim.Native.Nat.{ℕ, zero, suc, _-_, _≤_, _<_}
 use native.Mathlib.Nat.{le-trans, le-of-eq}
 use native.Mathlib.Omega.{arith}
 use lib.Dec.{leb}
 use lib.IntN.{ℤ}
 use lib.ListN.{length, getD, take}
-use Rattle.theory.specs.Pages.{hits, from, pageLooks}
+use Rattle.theory.specs.Pages.{hits, from}
 use Rattle.theory.proofs.Hits.{hits-same, from-keys}
 use Rattle.theory.proofs.Members.{in-hits}
 use Rattle.score.specs.declared.quantities.Pitch.{Pitch}
-use Rattle.score.specs.Score.{columnsIn, scoreOf, onward, pitches}
+use Rattle.score.specs.Score.{scoreOf, onward, pitches}
 use Rattle.asking.specs.declared.way.Way.{Way}
 use Rattle.asking.specs.declared.way.Way.the-variants.{Exact, Octave}
 use Rattle.asking.specs.declared.bookmark.Pair.{Pair}
@@ -23,10 +22,10 @@ use Rattle.asking.specs.declared.bookmark.Bookmark.{Bookmark}
 use Rattle.search.specs.declared.page.Turn.{Turn}
 use Rattle.search.specs.declared.page.Page.{Page}
 use Rattle.search.specs.declared.page.Page.the-variants.{Turned, Refused}
-use Rattle.asking.specs.Way.{Holds, HoldsExact, HoldsOctave, span}
+use Rattle.asking.specs.Way.{Holds}
 use Rattle.search.specs.Definition.{Stands}
 use Rattle.score.specs.Score.{note}
-use Rattle.walking.specs.Starts.{Place, key, starts, hit, looks}
+use Rattle.walking.specs.Starts.{Place, key, starts, looks}
 use Rattle.search.specs.Pairs.{pairAt, pairs}
 use Rattle.filter.specs.Table.{themeTable}
 use Rattle.walking.specs.Candidates.{candidate}
@@ -35,13 +34,12 @@ use Rattle.search.specs.Page.{Leaf, QuickLeaf, plainPage, quickPage}
 use Rattle.walking.specs.Candidates.{quickStarts}
 use Rattle.walking.specs.Found.{spent}
 use Rattle.search.specs.Reading.{readPairs}
-use Rattle.asking.specs.Asking.{Accepted, AcceptedSets, InRange, PlainAsks, QuickAsks}
-use Rattle.search.specs.OnePage.{PageOf, firstPairs, atOrAfter}
+use Rattle.asking.specs.Asking.{AcceptedSets, InRange, PlainAsks}
+use Rattle.search.specs.OnePage.{firstPairs, atOrAfter}
 use Rattle.search.specs.Demands.{mostLooks, candidatePairs}
 use Rattle.walking.proofs.Order.{starts-rising, in-starts}
 use Rattle.search.proofs.Listed.{listed-stands}
 use Rattle.search.proofs.AtOrAfter.{key-order}
-use Rattle.search.proofs.Turning.{Found}
 use Rattle.search.proofs.PlainCall.{plain-turned, plain-leaf}
 use Rattle.search.proofs.QuickCall.{quick-turned, quick-leaf}
 use Rattle.search.proofs.Demands.{plain-page, quick-page, plain-page-le, quick-page-le}

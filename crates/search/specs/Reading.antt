@@ -2,8 +2,8 @@
 -- going on from the bookmark last returned, up to the first page that is finished. `Reading` says which pairs the
 -- pages hold, which bookmarks they return and how many looks they take. Assumes nothing.
 use mathlib.Core.Path.{_≡_}
-use mathlib.Core.Bool.{Bool, true, false}
-use mathlib.Core.List.{List, [], _∷_, map}
+use mathlib.Core.Bool.{true, false}
+use mathlib.Core.List.{List, [], _∷_}
 use Prim.Native.Nat.{ℕ, zero, suc}
 use lib.IntN.{ℤ}
 use lib.ListN.{length}
@@ -11,8 +11,7 @@ use Rattle.score.specs.Score.{columnAt}
 use Rattle.asking.specs.declared.bookmark.Pair.{Pair}
 use Rattle.asking.specs.declared.bookmark.Bookmark.{Bookmark}
 use Rattle.search.specs.declared.page.Turn.{Turn}
-use Rattle.search.specs.declared.page.Page.{Page}
-use Rattle.search.specs.declared.page.Page.the-variants.{Turned, Refused}
+use Rattle.search.specs.declared.page.Page.the-variants.{Turned}
 use Rattle.search.specs.Page.{Leaf}
 
 -- the first k pairs of the two buffers

@@ -5,7 +5,7 @@ use Prim.Native.Nat.{ℕ, zero, suc, _+_, _-_, _*_, _/_, _%_, _^_, _≤_, _<_, z
 use native.Mathlib.Nat.{mod-lt, mul-mod-left, pow-suc, zero-lt-suc, div-eq-of-lt, lt-of-lt-of-le, div-one, not-suc-le-zero, le-of-suc-le-suc}
 use native.Mathlib.Numerals.{one-add}
 use native.Mathlib.Omega.{arith}
-use lib.Bits.{bitOr, bitAnd, or-shr, and-shr, or-mod, and-mod, or-lt}
+use lib.Bits.{bitOr, bitAnd, or-shr, and-shr, or-mod, and-mod}
 use lib.Pow.{pow-mono, field, shl-shr, shr-shr, mod-mod-pow, ones-split, ones-lt, high, low}
 use lib.Arith.{lt-one}
 use Rattle.theory.specs.Bits.{bit, number}
@@ -187,13 +187,3 @@ module _ where
   unfolding number
   number-same zero f g h = refl
   number-same (suc w) f g h = ap₂ (λ (a n : ℕ). a + 2 * n) (h 0) (number-same w (λ q. f (suc q)) (λ q. g (suc q)) (λ q. h (suc q)))
-
-  pub number-ones : (w : ℕ) (f : ℕ → ℕ) → ((q : ℕ) → f q ≡ 1) → number w f ≡ 2 ^ w - 1
-  number-ones w f h = sym (number-unique w f (λ q. omega (arith, h q)) (2 ^ w - 1) (ones-lt w) (λ q k. bit-ones q w k ∙ sym (h q)))
-
-  pub number-or : (w : ℕ) (f g : ℕ → ℕ) → ((q : ℕ) → f q < 2) → ((q : ℕ) → g q < 2)
-      → number w (λ q. max (f q) (g q)) ≡ bitOr (number w f) (number w g)
-  number-or w f g b c =
-      sym (number-unique w (λ q. max (f q) (g q)) (λ q. omega (arith, b q, c q)) (bitOr (number w f) (number w g))
-      (or-lt w (number w f) (number w g) (number-lt w f b) (number-lt w g c))
-      (λ q k. bit-or (number w f) (number w g) q ∙ ap₂ max (bit-number w f b q k) (bit-number w g c q k)))

@@ -8,7 +8,7 @@ use Prim.Native.Nat.{ℕ, zero, suc, _+_, _-_, _≤_, _<_, zero-le, suc-le-suc}
 use native.Mathlib.Nat.{eq-or-lt-of-le, lt-irrefl, le-refl, not-suc-le-zero, le-of-suc-le-suc, add-zero}
 use native.Mathlib.Numerals.{add-one}
 use native.Mathlib.Omega.{arith}
-use lib.ListN.{length, take, drop, getD, set, length-append, length-drop, length-map}
+use lib.ListN.{length, drop, getD, set, length-append, length-drop, length-map}
 use lib.Seq.{drop-cons, drop-at, set-at, getD-set-same, getD-set-other, sets}
 use Rattle.theory.specs.Lists.{over, count, some, first, join}
 

@@ -1,9 +1,9 @@
 -- The looks of a page: with the looks of what is left they are those of the whole list, a bound on each look bounds
 -- them all, and a part of the list takes no more than the whole. Assumes nothing.
-use mathlib.Core.Path.{_≡_, refl, sym, ap, _∙_}
+use mathlib.Core.Path.{_≡_, refl, sym, _∙_}
 use mathlib.Core.Bool.{Bool, true, false, cond}
 use mathlib.Core.List.{List, [], _∷_, _++_, map}
-use Prim.Native.Nat.{ℕ, zero, suc, _+_, _*_, _≤_, _<_, zero-le}
+use Prim.Native.Nat.{ℕ, zero, suc, _+_, _*_, _≤_, zero-le}
 use native.Mathlib.Nat.{zero-add, suc-mul, le-trans}
 use native.Mathlib.Omega.{arith}
 use lib.Dec.{ltb}

@@ -1,6 +1,6 @@
 -- What a word marks: how many numbers, which of them pass a test that a second word says, and the lowest one with those
 -- after it. Assumes nothing.
-use mathlib.Core.Path.{_≡_, refl, sym, ap, _∙_, subst}
+use mathlib.Core.Path.{_≡_, refl, sym, ap, _∙_}
 use mathlib.Core.Bool.{Bool, true, false, cond}
 use mathlib.Core.List.{List, [], _∷_, _++_, append-nil}
 use Prim.Native.Nat.{ℕ, zero, suc, _+_, _-_, _*_, _/_, _%_, _^_, _≤_, _<_, min}
@@ -11,13 +11,13 @@ use lib.Dec.{eqb}
 use lib.ListN.{length}
 use lib.Bits.{bitAnd, and-shr}
 use lib.Pow.{shr-shr}
-use lib.Count.{ones, ones-step, ones-le, trailingZeros, under}
+use lib.Count.{ones, ones-step, ones-le, trailingZeros}
 use borrow.Author.Tests.{eqb-true, eqb-false, ne-eqb}
 use Rattle.theory.specs.Lists.{count}
 use Rattle.theory.specs.Pages.{hits}
 use Rattle.theory.specs.Bits.{bit}
 use Rattle.theory.specs.Marks.{marks}
-use Rattle.theory.proofs.Bits.{bit-lt, bit-zero, bit-suc, bit-and}
+use Rattle.theory.proofs.Bits.{bit-zero, bit-suc, bit-and}
 
 -- what the bits say of each number is what the word marks
 pub marks-is : (f : ℕ → Bool) (w z x : ℕ) → ((i : ℕ) → i < w → eqb (bit x i) 1 ≡ f (z + i)) → marks w z x ≡ hits f (count z w)

@@ -1,15 +1,15 @@
 -- Page after page, each from what the one before left, up to the first that is not full: joined the pages are the hits
 -- of the whole list, there are length / room + 1 of them, and their looks are those of all starts. Assumes nothing.
-use mathlib.Core.Path.{_≡_, refl, sym, ap, _∙_}
+use mathlib.Core.Path.{_≡_, ap, _∙_}
 use mathlib.Core.Bool.{Bool, true, false}
-use mathlib.Core.List.{List, [], _∷_, _++_, map, append-nil}
-use Prim.Native.Nat.{ℕ, zero, suc, _+_, _-_, _/_, _≤_, _<_}
-use native.Mathlib.Nat.{not-suc-le-zero, div-eq-of-lt, div-eq-sub-div}
+use mathlib.Core.List.{List, [], _∷_, map, append-nil}
+use Prim.Native.Nat.{ℕ, _+_, _-_, _/_, _<_}
+use native.Mathlib.Nat.{div-eq-of-lt, div-eq-sub-div}
 use native.Mathlib.Omega.{arith}
-use lib.ListN.{length, take, drop, length-drop, take-append-drop}
+use lib.ListN.{length, length-drop, take-append-drop}
 use Rattle.theory.specs.Lists.{sum, join}
 use Rattle.theory.specs.Pages.{hits, pageHits, pageLooks, rest, full}
-use Rattle.theory.proofs.Pages.{page-take, rest-drop, rest-nil, length-page, length-last, page-last, rest-less}
+use Rattle.theory.proofs.Pages.{page-take, rest-drop, rest-nil, length-page, length-last, page-last}
 use Rattle.theory.proofs.Looks.{looks-split}
 
 module _ {A : Type 0} (hit : A → Bool) (looks : A → ℕ) (r : ℕ) where

@@ -4,23 +4,17 @@
 use mathlib.Core.Path.{_≡_, refl, sym, ap, _∙_, subst}
 use mathlib.Core.Logic.{⊎-elim, _↔_}
 use Prim.Native.Nat.{ℕ, zero, suc, _+_, _-_, _%_, _^_, _≤_, _<_, zero-le, max}
-use native.Mathlib.Nat.{not-suc-le-zero, le-of-suc-le-suc, eq-or-lt-of-le, add-suc, add-zero, le-refl, mod-lt, mod-eq-of-lt, lt-of-lt-of-le}
+use native.Mathlib.Nat.{not-suc-le-zero, le-of-suc-le-suc, eq-or-lt-of-le, add-suc, add-zero, le-refl}
 use native.Mathlib.Numerals.{add-one}
 use native.Mathlib.Decide.{decLe}
 use native.Mathlib.Omega.{arith}
-use lib.Bits.{bitOr, or-lt}
-use lib.Pow.{pow-pos, pow-mono}
-use Rattle.theory.specs.Bits.{bit, number}
+use Rattle.theory.specs.Bits.{bit}
 use Rattle.theory.specs.Register.{step, register, regFrom}
-use Rattle.theory.proofs.Bits.{bit-lt, bit-zero, bit-high, bit-or, bit-ones, bit-double-suc, bit-double-zero, bit-number, number-unique}
+use Rattle.theory.proofs.Bits.{bit-lt, bit-or, bit-ones, bit-double-suc, bit-double-zero}
 
 -- the words from s on have zeros on the diagonal: bit i of word s + i, for each i to q
 abbrev pub Diagonal : (ℕ → ℕ) → ℕ → ℕ → Type 0
 Diagonal f s q = (i : ℕ) → i ≤ q → bit (f (s + i)) i ≡ 0
-
-pub step-lt : (w r x : ℕ) → x < 2 ^ w → step w r x < 2 ^ w
-unfolding step
-step-lt w r x h = or-lt w ((r + r) % 2 ^ w) x (mod-lt (r + r) (pow-pos w)) h
 
 pub step-suc : (w r x q : ℕ) → suc q < w → bit (step w r x) (suc q) ≡ max (bit r q) (bit x (suc q))
 unfolding step
@@ -35,28 +29,6 @@ step-zero w r x h =
     zero-max′ : (n : ℕ) → max 0 n ≡ n
     zero-max′ n = omega arith
 
--- a word of one digit is put in at the bottom, and moves the others up
-pub step-digit-zero : (w r x : ℕ) → 0 < w → x < 2 → bit (step w r x) 0 ≡ x
-step-digit-zero w r x h k = step-zero w r x h ∙ bit-zero x ∙ mod-eq-of-lt k
-
-pub step-digit-suc : (w r x q : ℕ) → x < 2 → suc q < w → bit (step w r x) (suc q) ≡ bit r q
-step-digit-suc w r x q k h =
-    let e : bit x (suc q) ≡ 0 = bit-high x (suc q) 1 k (omega arith) in
-    step-suc w r x q h ∙ max-zero′ (bit r q) (bit x (suc q)) e
-  where
-    max-zero′ : (a b : ℕ) → b ≡ 0 → max a b ≡ a
-    max-zero′ a b e = omega arith
-
--- so a number is had from its bits, the highest first
-pub step-number : (w : ℕ) (f : ℕ → ℕ) → ((q : ℕ) → f q < 2) → 0 < w → step w (number w (λ q. f (suc q))) (f 0) ≡ number w f
-step-number w f b h = number-unique w f b (step w (number w (λ q. f (suc q))) (f 0)) (step-lt w _ (f 0) (lt-of-lt-of-le (b 0) (pow-mono h))) bits
-  where
-    bits : (q : ℕ) → q < w → bit (step w (number w (λ q. f (suc q))) (f 0)) q ≡ f q
-    bits zero k = step-digit-zero w (number w (λ q. f (suc q))) (f 0) k (b 0)
-    bits (suc q) k =
-        step-digit-suc w (number w (λ q. f (suc q))) (f 0) q (b 0) k
-        ∙ bit-number w (λ q. f (suc q)) (λ q. b (suc q)) q (omega arith)
-
 pub register-none : (w : ℕ) (f : ℕ → ℕ) → register w f 0 ≡ 2 ^ w - 1
 unfolding register
 register-none w f = refl
@@ -64,10 +36,6 @@ register-none w f = refl
 pub register-suc : (w : ℕ) (f : ℕ → ℕ) (n : ℕ) → register w f (suc n) ≡ step w (register w f n) (f n)
 unfolding register
 register-suc w f n = refl
-
--- in the code's form
-pub register-more : (w : ℕ) (f : ℕ → ℕ) (n : ℕ) → register w f (n + 1) ≡ step w (register w f n) (f n)
-register-more w f n = ap (register w f) (add-one n) ∙ register-suc w f n
 
 module _ (w : ℕ) (f : ℕ → ℕ) where
   bit-register-suc : (n q : ℕ) → suc q < w → bit (register w f (suc n)) (suc q) ≡ max (bit (register w f n) q) (bit (f n) (suc q))

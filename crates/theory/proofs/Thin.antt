@@ -1,11 +1,11 @@
 -- Starts that are no hits may be left out: the pages are the same, and none has more looks. Assumes nothing.
-use mathlib.Core.Path.{_≡_, refl, sym, ap, _∙_}
+use mathlib.Core.Path.{_≡_, refl, ap}
 use mathlib.Core.Bool.{Bool, true, false, cond}
 use mathlib.Core.List.{List, [], _∷_, List·Memᴰ as In, List·Memᴰ·head as here, List·Memᴰ·tail as later}
 use Prim.Native.Nat.{ℕ, zero, suc, _+_, _≤_}
 use native.Mathlib.Nat.{le-refl}
 use native.Mathlib.Omega.{arith}
-use Rattle.theory.specs.Pages.{hits, pageHits, pageLooks, rest, full}
+use Rattle.theory.specs.Pages.{hits, pageHits, pageLooks, rest}
 
 module _ {A : Type 0} (hit : A → Bool) where
   -- ys is xs with some of the starts that are no hits left out

@@ -1,7 +1,7 @@
 -- Pages over any list of starts. `hit` says which starts are hits, and `looks` what trying a start costs.
 -- A page with room r walks the list, keeps the hits until it has r of them or the list ends, and adds up the looks
 -- of every start that it walked. A bookmark is a key, and keys rise along the list. Assumes nothing.
-use mathlib.Core.Bool.{Bool, true, false, cond}
+use mathlib.Core.Bool.{Bool, cond}
 use mathlib.Core.List.{List, [], _∷_}
 use Prim.Native.Nat.{ℕ, zero, suc, _+_, _≤_}
 use lib.Dec.{leb, ltb}

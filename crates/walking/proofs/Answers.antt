@@ -1,6 +1,6 @@
 -- The two walks of a page. What is accepted is what a walk asks for; each way out of a call is what its definition says;
 -- and what an answer tells: a refused call is refused by its rows, and one that is done was asked right. Assumes nothing.
-use mathlib.Core.Path.{_≡_, refl, sym, ap, _∙_, subst}
+use mathlib.Core.Path.{_≡_, sym, ap, _∙_, subst}
 use mathlib.Core.Bool.{Bool, true, false, true≢false}
 use mathlib.Core.List.{List, []}
 use Prim.Native.Nat.{ℕ, _+_, _≤_, _<_, zero-le}

@@ -116,10 +116,6 @@ module _ (way : Way) (score : List (List ℕ)) (theme : List ℕ) (h : ℕ) (wid
       let z : sum (map (looks way score theme) (starts way score theme)) ≤ 0 * h * (length theme - 1) = rw e at sum-looks-le in
       omega (arith, z)
 
-  pub reached-looks-le : (keep : Place → Bool)
-      → sum (map (looks way score theme) (hits keep (starts way score theme))) ≤ (length score + 1 - length theme) * h * (length theme - 1)
-  reached-looks-le keep = le-trans (sum-hits (looks way score theme) keep (starts way score theme)) sum-looks-le
-
 -- a page from any bookmark takes no more than all starts: plain, and of the starts that pass a test
 module _ (way : Way) (score : List (List ℕ)) (theme : List ℕ) (r b : ℕ) where
   pub page-looks-within : pageLooks (hit way score theme) (looks way score theme) r (from key b (starts way score theme))

@@ -2,7 +2,7 @@
 -- first that is missing, or to the last. The definitions that matter are `starts`, `hit` and `looks`. Assumes nothing.
 use mathlib.Core.Bool.{Bool, true, false, cond}
 use mathlib.Core.List.{List, [], _∷_, _++_, map}
-use Prim.Native.Nat.{ℕ, zero, suc, _+_, _*_, _-_}
+use Prim.Native.Nat.{ℕ, suc, _+_, _*_, _-_}
 use lib.Dec.{leb}
 use lib.ListN.{length, getD, drop}
 use Rattle.theory.specs.Lists.{count}

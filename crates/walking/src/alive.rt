@@ -10,7 +10,7 @@ use hits::put_hits;
 use score::Column;
 use score::Pitch;
 ghost use mathlib.Core.Path.{_≡_};
-ghost use Prim.Native.Nat.{_+_, _*_, _≤_, _<_};
+ghost use Prim.Native.Nat.{_+_, _≤_, _<_};
 ghost use lib.ListN.{length};
 ghost use Rattle.score.specs.Score.{columnsIn, scoreOf};
 ghost use Rattle.asking.specs.Way.{span};

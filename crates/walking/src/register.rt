@@ -4,9 +4,7 @@ use filter::marks;
 use filter::step;
 ghost use mathlib.Core.Path.{_≡_};
 ghost use Prim.Native.Nat.{ℕ, _+_, _≤_, _<_};
-ghost use lib.Dec.{eqb};
 ghost use lib.ListN.{length, getD};
-ghost use Rattle.theory.specs.Bits.{bit};
 ghost use Rattle.theory.specs.Register as Register;
 ghost use Rattle.walking.specs.Scan.{entryWord, Seeks};
 

@@ -2,19 +2,18 @@
 -- there is room for all its hits. Assumes nothing.
 use mathlib.Core.Path.{_≡_, refl, sym, ap, _∙_}
 use mathlib.Core.Bool.{Bool, true, false, _&&_}
-use mathlib.Core.List.{List, [], _∷_, map, _++_, append-nil, append-assoc}
-use Prim.Native.Nat.{ℕ, zero, suc, _+_, _-_, _*_, _%_, _^_, _≤_, _<_, zero-le}
-use native.Mathlib.Nat.{div-eq-of-lt, lt-of-le-of-lt}
+use mathlib.Core.List.{List, [], map, _++_, append-nil}
+use Prim.Native.Nat.{ℕ, suc, _+_, _-_, _*_, _^_, _≤_, _<_, zero-le}
+use native.Mathlib.Nat.{lt-of-le-of-lt}
 use native.Mathlib.Numerals.{add-one}
 use native.Mathlib.Decide.{decLt}
 use native.Mathlib.Omega.{arith}
-use lib.Dec.{eqb}
 use lib.Bits.{bitAnd, and-le-l}
 use lib.Count.{ones, ones-ones}
 use lib.ListN.{length, getD, take, drop, drop-of-length-le}
 use lib.Seq.{drop-cons, drop-drop, getD-drop}
 use borrow.Author.Tests.{eq-eqb}
-use Rattle.theory.specs.Lists.{count, some, sum}
+use Rattle.theory.specs.Lists.{count, sum}
 use Rattle.theory.specs.Pages.{hits}
 use Rattle.theory.specs.Bits.{bit}
 use Rattle.theory.specs.Marks.{marks}
@@ -25,14 +24,14 @@ use Rattle.theory.proofs.Pages.{hits-append}
 use Rattle.theory.proofs.Hits.{hits-part, hits-all}
 use Rattle.theory.proofs.Looks.{sum-part, sum-none}
 use Rattle.score.specs.declared.quantities.Pitch.{Pitch}
-use Rattle.score.specs.Score.{pitch, pitches, columnAt, column, columnsIn, scoreOf}
+use Rattle.score.specs.Score.{pitch, columnAt, column, columnsIn, scoreOf}
 use Rattle.asking.specs.declared.way.Way.{Way}
 use Rattle.asking.specs.declared.way.Way.the-variants.{Exact, Octave}
-use Rattle.asking.specs.Way.{span, holds}
+use Rattle.asking.specs.Way.{holds}
 use Rattle.hits.specs.Writing.{lowCode, codesOf}
 use Rattle.hits.proofs.Fitting.{ones-few, codes-none, codes-length}
 use Rattle.score.specs.Score.{note}
-use Rattle.walking.specs.Starts.{place, codes, follows, looked, hit, looks}
+use Rattle.walking.specs.Starts.{codes, follows, looked, hit, looks}
 use Rattle.walking.specs.Walk.{Ready, Fits}
 use Rattle.walking.specs.Alive.{width, Small, allLow, allHigh, Says, Followed}
 use Rattle.walking.proofs.starts.Laws.{holds-below, holds-above}

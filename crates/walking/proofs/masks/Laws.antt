@@ -3,7 +3,7 @@
 use mathlib.Core.Path.{_≡_, refl, sym, ap, _∙_}
 use mathlib.Core.Bool.{Bool, true, false, cond}
 use mathlib.Core.List.{List, [], _∷_}
-use Prim.Native.Nat.{ℕ, zero, suc, _+_, _-_, _*_, _/_, _%_, _^_, _≤_, _<_, zero-le, min, max}
+use Prim.Native.Nat.{ℕ, _+_, _-_, _*_, _/_, _%_, _^_, _≤_, _<_, zero-le, max}
 use native.Mathlib.Nat.{add-comm}
 use native.Mathlib.Numerals.{add-one}
 use native.Mathlib.Decide.{decLt}
@@ -15,18 +15,16 @@ use lib.ListN.{length, getD, take, drop, set, replicate, length-set, length-repl
 use lib.Seq.{drop-cons, getD-set-same, getD-set-other}
 use borrow.Author.Tests.{le-leb, lt-leb, lt-ltb, le-ltb, eqb-true, eqb-false, eq-eqb, ne-eqb}
 use Rattle.theory.specs.Bits.{bit}
-use Rattle.theory.specs.Lists.{some}
 use Rattle.theory.proofs.Bits.{bit-high, bit-mod, bit-or}
 use Rattle.theory.proofs.Masks.{put-same, put-other, one-shl}
 use Rattle.score.specs.declared.quantities.Pitch.{Pitch}
-use Rattle.score.specs.Score.{pitch, pitches}
 use Rattle.preparing.specs.Classes.{classSet}
 use Rattle.preparing.proofs.ClassSets.{present, present-lt, class-bit, class-lt}
 use Rattle.preparing.proofs.Turning.{turned-bit}
 use Rattle.asking.specs.declared.way.Way.{Way}
 use Rattle.asking.specs.declared.way.Way.the-variants.{Exact, Octave}
 use Rattle.asking.specs.Way.{holds}
-use Rattle.walking.specs.Alive.{width, Small, has, bitAt, WordOf, Says, Down, Up, Turned, Moves, Cached}
+use Rattle.walking.specs.Alive.{has, bitAt, WordOf, Says, Down, Up, Turned, Moves, Cached}
 use Rattle.walking.proofs.starts.Laws.{holds-exact, holds-below, holds-above, holds-octave}
 use Rattle.walking.proofs.masks.Moving.{bit-lower, bit-upper}
 

@@ -1,8 +1,8 @@
 -- A word of 128 bits in two halves, moved down or up by shifts of the halves: each bit comes from the place it is moved from,
 -- and what comes from outside is 0. Assumes nothing.
-use mathlib.Core.Path.{_≡_, refl, sym, ap, _∙_}
+use mathlib.Core.Path.{_≡_, ap, _∙_}
 use mathlib.Core.Bool.{cond}
-use Prim.Native.Nat.{ℕ, suc, _+_, _-_, _*_, _/_, _%_, _^_, _≤_, _<_, zero-le, min, max}
+use Prim.Native.Nat.{ℕ, _+_, _-_, _*_, _/_, _%_, _^_, _≤_, _<_, zero-le, max}
 use native.Mathlib.Nat.{mod-lt, add-comm, lt-of-le-of-lt}
 use native.Mathlib.Decide.{decLt}
 use native.Mathlib.Omega.{arith}
@@ -11,7 +11,7 @@ use lib.Bits.{bitOr, or-lt}
 use lib.Pow.{pow-pos, shr-le}
 use borrow.Author.Tests.{lt-ltb, le-ltb, le-leb, lt-leb}
 use Rattle.theory.specs.Bits.{bit}
-use Rattle.theory.proofs.Bits.{bit-lt, bit-or, bit-shr, bit-high}
+use Rattle.theory.proofs.Bits.{bit-or, bit-shr, bit-high}
 use Rattle.theory.proofs.Masks.{shl-high, shl-low}
 use Rattle.walking.specs.Alive.{bitAt, Down, Up}
 

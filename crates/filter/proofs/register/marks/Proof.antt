@@ -1,6 +1,5 @@
 -- `filter::register::marks` meets its contract: the lowest bit of the register shifted down is its bit `top`.
 -- Assumes nothing.
-use borrow.Author.Needs.{needs}
 use mathlib.Core.Path.{ap}
 use Prim.Native.Nat.{ℕ, _%_}
 use native.Mathlib.Omega.{arith}

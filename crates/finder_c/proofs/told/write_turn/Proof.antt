@@ -6,7 +6,6 @@ use mir.Facts.{toZ-pos, toZ-ofZ}
 use mathlib.Core.Path.{ap, _∙_}
 use mathlib.Core.Logic.{⊎-elim}
 use Rattle.finder_c.proofs.Five.{five-same}
-use native.Mathlib.Omega.{arith}
 use Rattle.finder_c.proofs.told.write_turn.Statement.{statement}
 use Rattle.finder_c.proofs.told.write_turn.Tie as tie
 

@@ -1,7 +1,6 @@
 -- `search::page::plain_page` meets its contract: a walk that is turned away, or the answer that is read off the buffers of one
 -- that is done. Assumes nothing.
 use borrow.Author.Needs.{needs}
-use mathlib.Core.Path.{_∙_}
 use native.Mathlib.Omega.{arith}
 use Rattle.search.proofs.page.Calls.{plain-away, plain-room, plain-turns}
 use Rattle.search.proofs.page.plain_page.Statement.{statement}
