@@ -1,8 +1,8 @@
 -- Judging by rows: rows in two parts, what a verdict says of any answer that is made by the same rows, and the rows that
 -- apply where there are no tracks. The idea: the first row that applies decides. Assumes nothing.
-use mathlib.Core.Path.{_≡_, refl, ap}
+use mathlib.Core.Path.{_≡_, refl, ap, subst}
 use mathlib.Core.Bool.{Bool, true, false, cond, not, _||_}
-use mathlib.Core.List.{List, [], _∷_, _++_}
+use mathlib.Core.List.{List, [], _∷_, _++_, append-nil}
 use Prim.Native.Nat.{ℕ, _%_}
 use native.Mathlib.Nat.{div-zero}
 use native.Mathlib.Omega.{arith}
@@ -36,6 +36,9 @@ module _ {A : Type 0} (f : Refusal → A) (a : A) where
           → cond b (f (x .given)) (judge (rows ++ more) f a) ≡ f r
       step true k ih = let given : x .given ≡ r = cc in ap f given
       step false k ih = ih k
+
+  pub judge-away : (rows : List Row) {r : Refusal} → verdict rows ≡ Refused r → judge rows f a ≡ f r
+  judge-away rows {r} e = subst (λ (rs : List Row). judge rs f a ≡ f r) (append-nil rows) (judge-refused rows [] e)
 
   pub judge-accepted : (rows more : List Row) → verdict rows ≡ Accepted → judge (rows ++ more) f a ≡ judge more f a
   judge-accepted [] more e = refl

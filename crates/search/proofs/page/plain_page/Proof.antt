@@ -17,7 +17,8 @@ columns-in-requires c κs = search needs
 
 turned-requires : tie.Need-turned-requires
 turned-requires c κs =
-    let r = plain-room _ _ _ _ _ _ _ (rw (c .before .before .before .before .w .given .1) at (c .before .before .before .before .before .before .before .before .before .walk-plain .ensures)) in
+    let a = c .before .before .before .before .before .before .before .before .before .before .before .before .before .before .before .args in
+    let r = plain-room (a .cells .now) (a .tracks) (a .theme .now) (a .way) (a .bookmark) (a .columns .now) (a .shifts .now) (rw (c .before .before .before .before .w .given .1) at (c .before .before .before .before .before .before .before .before .before .walk-plain .ensures)) in
     (r .0, r .1, omega (arith, c .before .before .columns-in .ensures, r .2))
 
 enum-known-e : tie.Need-enum-known-e

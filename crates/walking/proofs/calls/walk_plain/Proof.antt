@@ -6,7 +6,8 @@ use mir.Syntax.{w16}
 use mir.Val.{toZ, ofZ}
 use mir.Facts.{toZ-ofZ}
 use Rattle.asking.specs.Way.{codeOf}
-use Rattle.walking.proofs.Answers.{accepted-ready, plain-away, plain-asks, plain-begins, plain-done}
+use Rattle.asking.proofs.Rows.{plain-clear}
+use Rattle.walking.proofs.Answers.{accepted-ready, finds-away, finds-done, plain-asks, plain-begins}
 use Rattle.walking.proofs.masks.Laws.{cached-none}
 use Rattle.walking.proofs.calls.walk_plain.Statement.{statement}
 use Rattle.walking.proofs.calls.walk_plain.Tie as tie
@@ -18,7 +19,7 @@ enum-known-e : tie.Need-enum-known-e
 enum-known-e c = search needs
 
 returns : tie.Need-returns
-returns c = plain-away _ _ _ _ _ _ _ _ (c .before .before .before .check-plain .ensures) (c .before .e .given .1)
+returns c = finds-away _ _ _ _ _ _ _ _ (c .before .before .before .check-plain .ensures) (c .before .e .given .1)
 
 enum-told : tie.Need-enum-told
 enum-told c = search needs
@@ -63,7 +64,7 @@ returns-2 c =
     let a = e .before .before .before .before .before .before .args in
     let q = plain-asks (a .cells .now) (a .tracks) (a .theme .now) (a .way) (a .bookmark) (a .columns .now) (a .shifts .now) (e .before .before .check-plain .ensures) (e .enum-told .given .1) in
     let k : c .before .before .before .before .before .before .before .before .before .before .code-of .result ≡ codeOf (a .way) (a .bookmark .shift) = c .before .before .before .before .before .before .before .before .before .before .code-of .ensures ∙ ap (codeOf (a .way)) (read (c .before .before .before .before .before .before .before .before .before .before .before)) in
-    plain-done _ _ _ _ _ _ _ q (rw k at (c .before .before .before .before .walk .ensures))
+    finds-done _ _ _ _ _ _ _ _ (plain-clear _ _ _ _ _ _ _ .0 q) (rw k at (c .before .before .before .before .walk .ensures))
 
 pub walk-plain-spec : {M : Type 1} → statement M
 walk-plain-spec =

@@ -1,15 +1,16 @@
 -- `walking::calls::walk_quick` meets its contract: the checks turn away, or the table is filled and the walk along
 -- candidates begins at the bookmark. Assumes nothing.
 use borrow.Author.Needs.{needs}
-use mathlib.Core.Path.{_≡_, ap, _∙_}
+use mathlib.Core.Path.{_≡_, sym, ap, _∙_}
 use native.Mathlib.Omega.{arith}
 use lib.ListN.{length}
 use mir.Syntax.{w16}
 use mir.Val.{toZ, ofZ}
 use mir.Facts.{toZ-ofZ}
 use Rattle.asking.specs.Way.{codeOf}
+use Rattle.asking.proofs.Rows.{quick-clear}
 use Rattle.filter.proofs.Words.{table-length, after-filled}
-use Rattle.walking.proofs.Answers.{accepted-ready, accepted-lent, plain-begins, quick-away, quick-asks, quick-done}
+use Rattle.walking.proofs.Answers.{accepted-ready, accepted-lent, finds-away, finds-done, plain-begins, quick-asks, table-kept, table-filled}
 use Rattle.walking.proofs.masks.Laws.{cached-none}
 use Rattle.walking.proofs.calls.walk_quick.Statement.{statement}
 use Rattle.walking.proofs.calls.walk_quick.Tie as tie
@@ -21,7 +22,13 @@ enum-known-e : tie.Need-enum-known-e
 enum-known-e c = search needs
 
 returns : tie.Need-returns
-returns c = quick-away _ _ _ _ _ _ _ _ _ _ (c .before .before .before .check-quick .ensures) (c .before .e .given .1)
+returns c =
+    let a = c .before .before .before .before .before .before .before .before .before .args in
+    let v = c .before .before .before .check-quick .ensures in
+    record {
+      finds = finds-away _ _ _ _ _ _ _ _ v (c .before .e .given .1);
+      fills-table = table-kept (a .cells .now) (a .tracks) (a .theme .now) (a .way) (a .bookmark) (a .sets .now) (a .table .now) (a .columns .now) (a .shifts .now) v (c .before .e .given .1);
+    }
 
 enum-told : tie.Need-enum-told
 enum-told c = search needs
@@ -68,7 +75,11 @@ returns-2 c =
     let q = quick-asks (a .cells .now) (a .tracks) (a .theme .now) (a .way) (a .bookmark) (a .sets .now) (a .table .now) (a .columns .now) (a .shifts .now) (e .before .before .check-quick .ensures) (e .enum-told .given .1) in
     let k : c .before .before .before .before .before .before .before .before .before .before .before .before .before .code-of .result ≡ codeOf (a .way) (a .bookmark .shift) = c .before .before .before .before .before .before .before .before .before .before .before .before .before .code-of .ensures ∙ ap (codeOf (a .way)) (read (c .before .before .before .before .before .before .before .before .before .before .before .before .before .before)) in
     let f = c .before .before .before .before .before .before .before .before .before .before .before .fill-table .ensures ∙ after-filled (a .theme .now) (a .table .now) (λ z. omega (arith, q .plain .accepted .notes-some)) (q .table-long) in
-    quick-done _ _ _ _ _ _ _ _ _ q f (rw (k, f) at (c .before .before .before .before .walk .ensures))
+    let z = quick-clear (a .cells .now) (a .tracks) (a .theme .now) (a .way) (a .bookmark) (a .sets .now) (a .table .now) (a .columns .now) (a .shifts .now) .0 q in
+    record {
+      finds = finds-done _ _ _ _ _ _ _ _ z (rw (k, f) at (c .before .before .before .before .walk .ensures));
+      fills-table = f ∙ sym (table-filled (a .cells .now) (a .tracks) (a .theme .now) (a .way) (a .bookmark) (a .sets .now) (a .table .now) (a .columns .now) (a .shifts .now) z);
+    }
 
 pub walk-quick-spec : {M : Type 1} → statement M
 walk-quick-spec =
