@@ -15,7 +15,8 @@ use Rattle.reading.specs.declared.lines.Line.{Line}
 use Rattle.reading.specs.declared.lines.Line.the-variants.{Read as Lined, Bad}
 use Rattle.reading.specs.declared.lines.ThemeLine.{ThemeLine}
 use Rattle.reading.specs.declared.lines.ThemeLine.the-variants as Themes
-use Rattle.reading.specs.Reading.{themeWord, exactWord, octaveWord, chordWord, Read, got, bad, next, begins, fields, counted, tracksRight, chordLine, Theme, notesOf, themeLine}
+use Rattle.words.specs.Words.{Read, got, bad, next, begins}
+use Rattle.reading.specs.Reading.{themeWord, exactWord, octaveWord, chordWord, fields, counted, tracksRight, chordLine, Theme, notesOf, themeLine}
 use Rattle.reading.specs.Steps.{lineRead, lineNext, lineCount, Filled, Themed}
 
 pub begins-length : (word text : List ℕ) → begins word text ≡ true → length word ≤ length text

@@ -1,9 +1,9 @@
 // Theme and chord lines at a place of the input.
 
-use crate::bytes::stands;
-use crate::numbers::Numeral;
-use crate::numbers::cell;
 use asking::Way;
+use words::Numeral;
+use words::cell;
+use words::stands;
 ghost use Prim.Native.Nat.{_+_, _≤_};
 ghost use lib.ListN.{length, drop};
 ghost use Rattle.reading.specs.Reading.{fields as fieldsOf, chordLine, notesOf, themeLine};

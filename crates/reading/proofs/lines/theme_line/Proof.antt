@@ -2,7 +2,8 @@
 use mathlib.Core.Path.{_≡_, sym, _∙_}
 use mathlib.Core.Bool.{true}
 use borrow.Author.Tests.{not-true, not-false}
-use Rattle.reading.specs.Reading.{themeWord, exactWord, octaveWord, begins}
+use Rattle.words.specs.Words.{begins}
+use Rattle.reading.specs.Reading.{themeWord, exactWord, octaveWord}
 use Rattle.reading.proofs.Lining.{begins-length, begins-within, theme-none, theme-exact, theme-octave, theme-neither}
 use borrow.Author.Needs.{needs}
 use Rattle.reading.proofs.lines.theme_line.Statement.{statement}
@@ -24,10 +25,7 @@ slice-aggregate-stands-2 : tie.Need-slice-aggregate-stands-2
 slice-aggregate-stands-2 c = search needs
 
 stands-requires-2 : tie.Need-stands-requires-2
-stands-requires-2 c κs =
-    let e = c .before in
-    let a = e .before .before .before .before .before in
-    begins-length themeWord (a .args .text .now) (begun e)
+stands-requires-2 c κs = search needs
 
 notes-requires : tie.Need-notes-requires
 notes-requires c κs =
@@ -53,10 +51,7 @@ slice-aggregate-stands-3 : tie.Need-slice-aggregate-stands-3
 slice-aggregate-stands-3 c = search needs
 
 stands-requires-3 : tie.Need-stands-requires-3
-stands-requires-3 c κs =
-    let e = c .before .before .before .before in
-    let a = e .before .before .before .before .before in
-    begins-length themeWord (a .args .text .now) (begun e)
+stands-requires-3 c κs = search needs
 
 notes-requires-2 : tie.Need-notes-requires-2
 notes-requires-2 c κs =
