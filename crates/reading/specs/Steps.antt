@@ -1,4 +1,5 @@
--- What the inner functions promise: what is read at a place of the input, as what `Reading` reads of the text from there on. Assumes nothing.
+-- What the inner functions promise: what is read at a place of the input, as what `Reading` reads of the text from there on;
+-- and what a whole input leaves in the buffers. Assumes nothing.
 use mathlib.Core.Path.{_≡_}
 use mathlib.Core.List.{List, _++_}
 use Prim.Native.Nat.{ℕ, _-_, _*_, _≤_}
