@@ -11,11 +11,12 @@ use lib.Dec.{eqb}
 use lib.ListN.{length, take, drop, length-append, take-append-drop}
 use Rattle.asking.specs.declared.way.Way.{Way}
 use Rattle.asking.specs.declared.way.Way.the-variants.{Exact, Octave}
-use Rattle.reading.specs.Reading.{themeWord, chordWord, Read, got, bad, chordLine, Theme, themeLine}
+use Rattle.words.specs.Words.{Read, got, bad}
+use Rattle.reading.specs.Reading.{themeWord, chordWord, chordLine, Theme, themeLine}
 use Rattle.reading.specs.Request.{Chords, all, above, onChord, chords, withChords, withTheme, meaning}
 use Rattle.listing.specs.Texts.{wayWord, cellText, fieldsText, chordText, themeText, Each, IsNote, IsCell, IsTheme}
 use Rattle.listing.specs.Answer.{answer, output}
-use Rattle.reading.proofs.Scoring.{bad-got}
+use Rattle.words.proofs.Places.{bad-got}
 use Rattle.telling.proofs.Widths.{decimal-le}
 use Rattle.listing.proofs.RightLines.{chord-is, theme-is}
 use Rattle.listing.proofs.Texts.{note-text, some-text, chord-text, theme-text}

@@ -13,7 +13,8 @@ use lib.Seq.{take-at, drop-at}
 use Rattle.theory.specs.Lists.{join}
 use Rattle.score.specs.Score.{cut, scoreOf}
 use Rattle.asking.specs.Asking.{Accepted}
-use Rattle.reading.specs.Reading.{Read, got, bad, Theme, chordLine, themeLine}
+use Rattle.words.specs.Words.{Read, got, bad}
+use Rattle.reading.specs.Reading.{Theme, chordLine, themeLine}
 use Rattle.reading.specs.Request.{Request, Chords, all, fault, above, onChord, chords, Meaning, right, faulty, withChords, withTheme, meaning}
 use Rattle.listing.specs.Texts.{textOf, themeText, Each, IsChord, Right}
 use Rattle.telling.specs.Telling.{room}

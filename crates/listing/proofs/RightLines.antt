@@ -13,11 +13,13 @@ use borrow.Author.Tests.{leb-true, eqb-true}
 use Rattle.theory.specs.Lists.{join}
 use Rattle.asking.specs.declared.way.Way.{Way}
 use Rattle.asking.specs.declared.way.Way.the-variants.{Exact, Octave}
-use Rattle.reading.specs.Reading.{themeWord, exactWord, octaveWord, chordWord, Read, got, bad, next, begins, fields, counted, tracksRight, chordLine, Theme, notesOf, themeLine}
+use Rattle.words.specs.Words.{Read, got, bad, next, begins}
+use Rattle.reading.specs.Reading.{themeWord, exactWord, octaveWord, chordWord, fields, counted, tracksRight, chordLine, Theme, notesOf, themeLine}
 use Rattle.reading.specs.Request.{Chords, all, fault, above, onChord, chords}
 use Rattle.listing.specs.Texts.{chordText, themeText, wayWord, fieldsText, Each, IsChord, IsTheme}
-use Rattle.reading.proofs.Scoring.{bad-got, tracks-some, tracks-same}
-use Rattle.listing.proofs.Rights.{Fielded, fields-right, got-value, got-rest}
+use Rattle.words.proofs.Places.{bad-got, got-value, got-rest}
+use Rattle.reading.proofs.Scoring.{tracks-some, tracks-same}
+use Rattle.listing.proofs.Rights.{Fielded, fields-right}
 
 -- a word that begins the text is its front
 pub begins-is : (word text : List ℕ) → begins word text ≡ true → text ≡ word ++ drop (length word) text

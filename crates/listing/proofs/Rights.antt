@@ -10,21 +10,15 @@ use lib.Dec.{leb, eqb}
 use lib.ListN.{length, drop}
 use borrow.Author.Tests.{leb-true, eqb-true, eqb-false, ne-eqb}
 use Rattle.telling.specs.Text.{decimal}
-use Rattle.reading.specs.Reading.{Read, got, bad, next, front, isDigit, moreDigits, number, cell, fields}
+use Rattle.words.specs.Words.{Read, got, bad, next, front, isDigit, moreDigits, number, cell}
+use Rattle.reading.specs.Reading.{fields}
 use Rattle.listing.specs.Texts.{cellText, fieldsText, Each, IsNote, IsCell}
-use Rattle.reading.proofs.Places.{digit-some}
+use Rattle.words.proofs.Places.{digit-some, bad-got, got-value, got-rest}
 use Rattle.telling.proofs.Decimals.{decimal-small, decimal-more}
-use Rattle.reading.proofs.Scoring.{bad-got}
 
 pub front-cons : (text : List ℕ) → 1 ≤ front text → text ≡ front text ∷ drop 1 text
 front-cons [] h = absurd (omega arith)
 front-cons (b ∷ text) h = refl
-
-pub got-value : {A : Type 0} {a b : A} {r s : List ℕ} → got a r ≡ got b s → a ≡ b
-got-value e = cc
-
-pub got-rest : {A : Type 0} {a b : A} {r s : List ℕ} → got a r ≡ got b s → r ≡ s
-got-rest e = cc
 
 -- ---- numbers
 

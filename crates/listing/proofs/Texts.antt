@@ -13,12 +13,12 @@ use Rattle.theory.specs.Lists.{join}
 use Rattle.asking.specs.declared.way.Way.{Way}
 use Rattle.asking.specs.declared.way.Way.the-variants.{Exact, Octave}
 use Rattle.telling.specs.Text.{decimal}
-use Rattle.reading.specs.Reading.{got, bad, next, front, isDigit, moreDigits, number, cell, fields, tracksRight, chordLine, Theme, themeLine}
+use Rattle.words.specs.Words.{got, bad, next, front, isDigit, moreDigits, number, cell}
+use Rattle.reading.specs.Reading.{fields, tracksRight, chordLine, Theme, themeLine}
 use Rattle.reading.specs.Request.{Request, all, chords, right, withChords, meaning}
 use Rattle.listing.specs.Texts.{cellText, fieldsText, chordText, themeText, textOf, Each, IsNote, IsCell, IsChord, IsTheme, Right}
-use Rattle.reading.proofs.Places.{digit-some}
+use Rattle.words.proofs.Places.{digit-some, bad-got}
 use Rattle.telling.proofs.Decimals.{decimal-small, decimal-more}
-use Rattle.reading.proofs.Scoring.{bad-got}
 use Rattle.listing.proofs.Rights.{IsValue}
 
 below-or : (n top : ℕ) → (n < top) ⊎ (top ≤ n)

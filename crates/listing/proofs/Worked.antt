@@ -12,7 +12,8 @@ use Rattle.filter.specs.Table.{word, themeTable}
 use Rattle.walking.specs.Candidates.{candidate}
 use Rattle.walking.specs.Candidates.{quickStarts}
 use Rattle.telling.specs.Text.{digits}
-use Rattle.reading.specs.Reading.{moreDigits, number, cell, fields, chordLine, themeLine}
+use Rattle.words.specs.Words.{moreDigits, number, cell}
+use Rattle.reading.specs.Reading.{fields, chordLine, themeLine}
 use Rattle.reading.specs.Request.{Request, chords, meaning}
 use Rattle.listing.specs.Texts.{fieldsText, textOf}
 use Rattle.telling.specs.Lines.{hitLine, endLine, refusedLine, linesOf}

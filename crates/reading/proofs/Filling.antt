@@ -12,12 +12,14 @@ use lib.Dec.{eqb}
 use lib.ListN.{length, getD, take, drop, set, length-set, length-drop, drop-of-length-le}
 use lib.Seq.{take-set-le, drop-set-add, take-suc-set}
 use borrow.Author.Tests.{eq-eqb, ne-eqb, eqb-true, eqb-false}
-use Rattle.reading.specs.declared.numbers.Numeral.{Numeral}
-use Rattle.reading.specs.declared.numbers.Numeral.the-variants.{At, Bad}
+use Rattle.words.specs.declared.numbers.Numeral.{Numeral}
+use Rattle.words.specs.declared.numbers.Numeral.the-variants.{At, Bad}
 use Rattle.reading.specs.declared.lines.Line.the-variants as Line
-use Rattle.reading.specs.Reading.{Read, got, bad, next, front, cell, fields}
-use Rattle.reading.specs.Steps.{Numbered, Filled}
-use Rattle.reading.proofs.Places.{front-at, drop-more, number-within}
+use Rattle.words.specs.Words.{Read, got, bad, next, front, cell}
+use Rattle.reading.specs.Reading.{fields}
+use Rattle.words.specs.Places.{Numbered}
+use Rattle.reading.specs.Steps.{Filled}
+use Rattle.words.proofs.Places.{front-at, drop-more, number-within}
 
 -- values before what is read
 abbrev pub prepend : List ℕ → Read (List ℕ) → Read (List ℕ)

@@ -1,7 +1,5 @@
--- Laws of this crate's definitions. Of what is read at a place: `Places`, `Standing`, `Filling`, `Lining`, `Scoring`; of a whole
--- input and of the call: `Clearing`, `Wholes`, `Takings`.
-pub mod Places
-mod Standing
+-- Laws of this crate's definitions. Of lines: `Filling`, `Lining`, `Scoring`; of a whole input and of the call: `Clearing`,
+-- `Wholes`, `Takings`.
 mod Filling
 mod Lining
 pub mod Scoring

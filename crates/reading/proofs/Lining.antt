@@ -2,7 +2,7 @@
 -- Assumes nothing.
 use mathlib.Core.Path.{_≡_, refl, sym, ap, _∙_}
 use mathlib.Core.Bool.{Bool, true, false, cond, true≢false}
-use mathlib.Core.List.{List, [], _∷_}
+use mathlib.Core.List.{List, [], _∷_, _++_}
 use Prim.Native.Nat.{ℕ, suc, _+_, _≤_, _<_, suc-le-suc, zero-le}
 use native.Mathlib.Omega.{arith}
 use lib.Dec.{leb, eqb}
@@ -15,7 +15,8 @@ use Rattle.reading.specs.declared.lines.Line.{Line}
 use Rattle.reading.specs.declared.lines.Line.the-variants.{Read as Lined, Bad}
 use Rattle.reading.specs.declared.lines.ThemeLine.{ThemeLine}
 use Rattle.reading.specs.declared.lines.ThemeLine.the-variants as Themes
-use Rattle.reading.specs.Reading.{themeWord, exactWord, octaveWord, chordWord, Read, got, bad, next, begins, fields, counted, tracksRight, chordLine, Theme, notesOf, themeLine}
+use Rattle.words.specs.Words.{Read, got, bad, next, begins}
+use Rattle.reading.specs.Reading.{themeWord, exactWord, octaveWord, chordWord, fields, counted, tracksRight, chordLine, Theme, notesOf, themeLine}
 use Rattle.reading.specs.Steps.{lineRead, lineNext, lineCount, Filled, Themed}
 
 pub begins-length : (word text : List ℕ) → begins word text ≡ true → length word ≤ length text
@@ -113,21 +114,46 @@ module _ (text : List ℕ) (from : ℕ) (way : Way) (into : List ℕ) (room : 32
 
 -- ---- a theme line
 
+-- two words, one behind the other
+begins-append : (word more text : List ℕ) → begins (word ++ more) text ≡ cond (begins word text) (begins more (drop (length word) text)) false
+begins-append [] more text = refl
+begins-append (w ∷ word) more [] = refl
+begins-append (w ∷ word) more (b ∷ text) = step (eqb w b) (begins-append word more text)
+  where
+    step : (t : Bool) → begins (word ++ more) text ≡ cond (begins word text) (begins more (drop (length word) text)) false
+        → cond t (begins (word ++ more) text) false ≡ cond (cond t (begins word text) false) (begins more (drop (length word) text)) false
+    step true ih = ih
+    step false ih = refl
+
 module _ (text theme : List ℕ) where
-  pub theme-none : begins themeWord text ≡ false → Themed text Themes.Bad theme (themeLine text)
+  -- `theme`, and then a way's word
+  abbrev Begins : List ℕ → Bool
+  Begins word = begins (themeWord ++ word) text
+
+  begins-both : (word : List ℕ) → Begins word ≡ true → (begins themeWord text ≡ true) × (begins word (drop 6 text) ≡ true)
+  begins-both word e = step (begins themeWord text) (begins word (drop 6 text)) refl refl (sym (begins-append themeWord word text) ∙ e)
+    where
+      step : (s t : Bool) → begins themeWord text ≡ s → begins word (drop 6 text) ≡ t → cond s t false ≡ true → (begins themeWord text ≡ true) × (begins word (drop 6 text) ≡ true)
+      step true true p q k = (p, q)
+      step true false p q k = absurd (true≢false (sym k))
+      step false t p q k = absurd (true≢false (sym k))
+
+  begins-not : (word : List ℕ) → Begins word ≡ false → begins themeWord text ≡ true → begins word (drop 6 text) ≡ false
+  begins-not word n e = ap (λ (s : Bool). cond s (begins word (drop 6 text)) false) (sym e) ∙ sym (begins-append themeWord word text) ∙ n
+
+  pub theme-exact : Begins exactWord ≡ true → {r : ThemeLine} → Themed text r theme (notesOf Exact (drop 11 text)) → Themed text r theme (themeLine text)
   unfolding themeLine
-  theme-none e = record { is = rw e; within = omega arith; few = omega arith }
+  theme-exact e t = let b = begins-both exactWord e in rw (b .0, b .1) t
 
-  module _ (e : begins themeWord text ≡ true) where
-    pub theme-exact : begins exactWord (drop 6 text) ≡ true → {r : ThemeLine} → Themed text r theme (notesOf Exact (drop 11 text)) → Themed text r theme (themeLine text)
+  module _ (n : Begins exactWord ≡ false) where
+    pub theme-octave : Begins octaveWord ≡ true → {r : ThemeLine} → Themed text r theme (notesOf Octave (drop 12 text)) → Themed text r theme (themeLine text)
     unfolding themeLine
-    theme-exact f t = rw (e, f) t
+    theme-octave e t = let b = begins-both octaveWord e in rw (b .0, begins-not exactWord n (b .0), b .1) t
 
-    module _ (n : begins exactWord (drop 6 text) ≡ false) where
-      pub theme-octave : begins octaveWord (drop 6 text) ≡ true → {r : ThemeLine} → Themed text r theme (notesOf Octave (drop 12 text)) → Themed text r theme (themeLine text)
-      unfolding themeLine
-      theme-octave f t = rw (e, n, f) t
-
-      pub theme-neither : begins octaveWord (drop 6 text) ≡ false → Themed text Themes.Bad theme (themeLine text)
-      unfolding themeLine
-      theme-neither f = record { is = rw (e, n, f); within = omega arith; few = omega arith }
+    pub theme-neither : Begins octaveWord ≡ false → Themed text Themes.Bad theme (themeLine text)
+    unfolding themeLine
+    theme-neither o = record { is = step (begins themeWord text) refl; within = omega arith; few = omega arith }
+      where
+        step : (s : Bool) → begins themeWord text ≡ s → bad ≡ themeLine text
+        step true e = rw (e, begins-not exactWord n e, begins-not octaveWord o e)
+        step false e = rw e

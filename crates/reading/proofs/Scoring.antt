@@ -17,9 +17,11 @@ use Rattle.score.proofs.Columns.{cut-length}
 use Rattle.reading.specs.declared.lines.Line.{Line}
 use Rattle.reading.specs.declared.lines.Line.the-variants.{Read as Lined, Bad}
 use Rattle.reading.specs.declared.lines.ChordLines.the-variants as Chord
-use Rattle.reading.specs.Reading.{chordWord, Read, got, bad, begins, fields, counted, tracksRight, chordLine}
+use Rattle.words.specs.Words.{Read, got, bad, begins}
+use Rattle.reading.specs.Reading.{chordWord, fields, counted, tracksRight, chordLine}
 use Rattle.reading.specs.Request.{Chords, all, fault, above, onChord, chords}
 use Rattle.reading.specs.Steps.{Filled, Scored}
+use Rattle.words.proofs.Places.{bad-got}
 use Rattle.reading.proofs.Lining.{filled-bad, filled-within, filled-few, filled-is, filled-length}
 
 -- columns before what is read
@@ -73,9 +75,6 @@ chords-on : (left h : ℕ) (text : List ℕ) → (length text ≡ 0 → ⊥)
     → chords (suc left) h text ≡ onChord (chordLine h text) (λ c rest. above c (chords left (length c) rest))
 unfolding chords
 chords-on left h text n = rw (ne-eqb (length text) 0 n)
-
-pub bad-got : {A : Type 0} {a : A} {rest : List ℕ} → bad ≡ got a rest → ⊥
-bad-got e = let z : _≡_ {A = ℕ} 0 1 = cc in omega arith
 
 -- a line of which the values are counted has as many as the tracks ask for
 counted-right : (allowed : ℕ → Bool) (r : Read (List ℕ)) {vs rest : List ℕ} → counted allowed r ≡ got vs rest → allowed (length vs) ≡ true

@@ -91,7 +91,7 @@ module _ (input theme cells : List ℕ) where
           columns = t .columns ∙ ap (λ (t : Take). t .cells) taken-is;
         }
 
-    -- what was read is within the buffers
+    -- the lines were read, and the buffers are as long as they were
     module _ {r : Reading} {theme₁ cells₁ : List ℕ} (w : Held input r theme₁ cells₁) (as-theme : length theme₁ ≡ length theme) (as-cells : length cells₁ ≡ length cells) where
       pub held-within : Within r theme₁ cells₁
       held-within = step r (w .is)

@@ -11,7 +11,8 @@ use Rattle.reading.specs.declared.lines.ThemeLine.{ThemeLine}
 use Rattle.reading.specs.declared.lines.ThemeLine.the-variants as ThemeLine
 use Rattle.reading.specs.declared.lines.ChordLines.{ChordLines}
 use Rattle.reading.specs.declared.lines.ChordLines.the-variants as ChordLines
-use Rattle.reading.specs.Reading.{Read, got, Theme, themeLine}
+use Rattle.words.specs.Words.{Read, got}
+use Rattle.reading.specs.Reading.{Theme, themeLine}
 use Rattle.reading.specs.Request.{Chords, all, fault, chords, right, faulty, withChords, withTheme, meaning}
 use Rattle.reading.specs.Steps.{themeRead, themeNext, themeCount, Themed, chordsRead, chordsTracks, chordsCount, Scored, Stood}
 

@@ -5,7 +5,8 @@ use mathlib.Core.List.{List, [], _∷_}
 use Prim.Native.Nat.{ℕ, zero, suc, _+_}
 use lib.Dec.{eqb}
 use lib.ListN.{length}
-use Rattle.reading.specs.Reading.{Read, got, bad, Theme, themeLine, chordLine}
+use Rattle.words.specs.Words.{Read, got, bad}
+use Rattle.reading.specs.Reading.{Theme, themeLine, chordLine}
 
 -- a theme and a score, column after column
 pub record Request : Type 0 where

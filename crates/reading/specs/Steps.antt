@@ -1,11 +1,9 @@
--- What the inner functions promise: what is seen and read at a place of the input, as what `Reading` reads of the text from
--- there on. Assumes nothing.
+-- What the inner functions promise: what is read at a place of the input, as what `Reading` reads of the text from there on;
+-- and what a whole input leaves in the buffers. Assumes nothing.
 use mathlib.Core.Path.{_≡_}
 use mathlib.Core.List.{List, _++_}
-use Prim.Native.Nat.{ℕ, _-_, _*_, _≤_, _<_}
+use Prim.Native.Nat.{ℕ, _-_, _*_, _≤_}
 use lib.ListN.{length, take, drop, replicate}
-use Rattle.reading.specs.declared.numbers.Numeral.{Numeral}
-use Rattle.reading.specs.declared.numbers.Numeral.the-variants as Number
 use Rattle.reading.specs.declared.lines.Line.{Line}
 use Rattle.reading.specs.declared.lines.Line.the-variants as Line
 use Rattle.reading.specs.declared.lines.ThemeLine.{ThemeLine}
@@ -16,31 +14,11 @@ use Rattle.reading.specs.declared.request.Reading.{Reading}
 use Rattle.reading.specs.declared.request.Reading.the-variants as Reading
 use Rattle.asking.specs.declared.way.Way.{Way}
 use Rattle.score.specs.Score.{cut}
-use Rattle.reading.specs.Reading.{Read, got, bad, front, Theme}
+use Rattle.words.specs.Words.{Read, got, bad}
+use Rattle.reading.specs.Reading.{Theme}
 use Rattle.reading.specs.Request.{Chords, all, fault, right, faulty, meaning}
 
--- the byte at a place; one that is not 0 stands within the text
-pub record Seen (text : List ℕ) (at b : ℕ) : Type 0 where
-  pub byte : b ≡ front (drop at text)
-  pub within : 1 ≤ b → at < length text
-
 -- ---- what an answer stands for: the value, and what is left of the text
-
-abbrev pub numberRead : (text : List ℕ) → Numeral → Read ℕ
-numberRead text (Number.At value next) = got value (drop next text)
-numberRead text Number.Bad = bad
-
-abbrev pub numberNext : Numeral → ℕ
-numberNext (Number.At value next) = next
-numberNext Number.Bad = 0
-
-abbrev pub numberValue : Numeral → ℕ
-numberValue (Number.At value next) = value
-numberValue Number.Bad = 0
-
-pub record Numbered (text : List ℕ) (r : Numeral) (want : Read ℕ) : Type 0 where
-  pub is : numberRead text r ≡ want
-  pub within : numberNext r ≤ length text
 
 abbrev pub lineRead : (text : List ℕ) (base : ℕ) (into : List ℕ) → Line → Read (List ℕ)
 lineRead text base into (Line.Read count next) = got (take count (drop base into)) (drop next text)

@@ -1,9 +1,9 @@
 // Theme and chord lines at a place of the input.
 
-use crate::bytes::stands;
-use crate::numbers::Numeral;
-use crate::numbers::cell;
 use asking::Way;
+use words::Numeral;
+use words::cell;
+use words::stands;
 ghost use Prim.Native.Nat.{_+_, _≤_};
 ghost use lib.ListN.{length, drop};
 ghost use Rattle.reading.specs.Reading.{fields as fieldsOf, chordLine, notesOf, themeLine};
@@ -130,13 +130,10 @@ pub fn theme_line(text: &[u8], theme: &mut [u8]) -> ThemeLine
     requires { ⌜ 32 ≤ length (now theme) ⌝ }
     ensures { λ r. ⌜ Themed (now (text .entry)) r (now (theme .exit)) (themeLine (now (text .entry))) ⌝ }
 {
-    if !stands(text, 0, b"theme\t") {
-        return ThemeLine::Bad;
-    }
-    if stands(text, 6, b"exact") {
+    if stands(text, 0, b"theme\texact") {
         return notes(text, 11, Way::Exact, theme);
     }
-    if stands(text, 6, b"octave") {
+    if stands(text, 0, b"theme\toctave") {
         return notes(text, 12, Way::Octave, theme);
     }
     ThemeLine::Bad

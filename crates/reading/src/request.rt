@@ -27,7 +27,8 @@ pub enum Reading {
 }
 
 // Reads the notes to the front of a buffer of 32 bytes or more and the cells, column after column, to the front of one of 32,768
-// or more. All places behind them are 0 afterwards, and all places are where a line is faulty. No input needs more room.
+// or more. All places behind them are 0 afterwards, and all places are where a line is faulty. No input needs more room;
+// where a buffer is shorter, the call is turned away.
 pub fn read(input: &[u8], theme: &mut [u8], cells: &mut [u8]) -> Reading
     ensures { λ r. ⌜ Takes (now (input .entry)) (now (theme .entry)) (now (cells .entry)) r (now (theme .exit)) (now (cells .exit)) ⌝ }
 {

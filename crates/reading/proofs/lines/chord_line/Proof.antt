@@ -3,7 +3,8 @@ use mathlib.Core.Path.{_≡_, sym, _∙_}
 use mathlib.Core.Bool.{true}
 use lib.ListN.{drop}
 use borrow.Author.Tests.{not-true, not-false}
-use Rattle.reading.specs.Reading.{chordWord, begins}
+use Rattle.words.specs.Words.{begins}
+use Rattle.reading.specs.Reading.{chordWord}
 use Rattle.reading.proofs.Lining.{begins-within, chord-none, chord-bad, chord-right, chord-wrong}
 use borrow.Author.Needs.{needs}
 use Rattle.reading.proofs.lines.chord_line.Statement.{statement}

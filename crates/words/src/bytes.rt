@@ -1,10 +1,9 @@
-// What stands at a place of the input. Places only go forward.
+// What stands at a place of a text.
 
 ghost use mathlib.Core.Path.{_≡_};
-ghost use Prim.Native.Nat.{_≤_};
-ghost use lib.ListN.{length, drop};
-ghost use Rattle.reading.specs.Reading.{begins};
-ghost use Rattle.reading.specs.Steps.{Seen};
+ghost use lib.ListN.{drop};
+ghost use Rattle.words.specs.Words.{begins};
+ghost use Rattle.words.specs.Places.{Seen};
 
 // The byte at the place, and 0 behind the last byte.
 pub fn byte_at(text: &[u8], at: usize) -> u8
@@ -15,7 +14,6 @@ pub fn byte_at(text: &[u8], at: usize) -> u8
 
 // Whether the word stands at the place.
 pub fn stands(text: &[u8], from: usize, word: &[u8]) -> bool
-    requires { ⌜ from ≤ length (now text) ⌝ }
     ensures { λ r. ⌜ r ≡ begins (now (word .entry)) (drop from (now (text .entry))) ⌝ }
 {
     let mut at = from;

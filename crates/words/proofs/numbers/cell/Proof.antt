@@ -1,13 +1,20 @@
+-- `words::numbers::cell` meets its contract. Assumes nothing.
 use borrow.Author.Needs.{needs}
-use Rattle.reading.proofs.Places.{cell-rest, cell-number}
-use Rattle.reading.proofs.numbers.cell.Statement.{statement}
-use Rattle.reading.proofs.numbers.cell.Tie as tie
+use Prim.Native.Nat.{_<_}
+use native.Mathlib.Omega.{arith}
+use lib.ListN.{length}
+use Rattle.words.proofs.Places.{at-rest, cell-rest, cell-number}
+use Rattle.words.proofs.numbers.cell.Statement.{statement}
+use Rattle.words.proofs.numbers.cell.Tie as tie
 
 byte-at-requires : tie.Need-byte-at-requires
 byte-at-requires c κs = search needs
 
 add-t7 : tie.Need-add-t7
-add-t7 c = search needs
+add-t7 c =
+    let a = c .before .before .before in
+    let h : a .args .at < length (a .args .text .now) = at-rest _ _ _ (c .before .byte-at .ensures) (a .args .rests) (c .if1 .taken) in
+    omega arith
 
 returns : tie.Need-returns
 returns c = cell-rest _ _ _ (c .before .byte-at .ensures) _ (c .if1 .taken)

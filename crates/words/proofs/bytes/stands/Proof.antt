@@ -1,11 +1,11 @@
--- `reading::bytes::stands` meets its contract. The invariant: the word begins at the place exactly where what is left of it
+-- `words::bytes::stands` meets its contract. The invariant: the word begins at the place exactly where what is left of it
 -- begins at what is left of the text. The measure is what is left of the word. Assumes nothing.
 use borrow.Author.Needs.{needs}
 use Prim.Native.Nat.{_-_}
 use lib.ListN.{length}
-use Rattle.reading.proofs.Standing.{Standing, standing-start, standing-end, standing-short, standing-miss, standing-more}
-use Rattle.reading.proofs.bytes.stands.Statement.{statement}
-use Rattle.reading.proofs.bytes.stands.Tie as tie
+use Rattle.words.proofs.Standing.{Standing, standing-start, standing-end, standing-short, standing-miss, standing-more}
+use Rattle.words.proofs.bytes.stands.Statement.{statement}
+use Rattle.words.proofs.bytes.stands.Tie as tie
 
 abbrev Inv-loop : tie.InvT-loop
 Inv-loop text from word at₀ i₀ at i = Standing text from word at i
@@ -14,7 +14,7 @@ abbrev μ-loop : tie.MeasureT-loop
 μ-loop text from word at₀ i₀ at i = length word - i
 
 loop-holds : tie.Need-loop-holds Inv-loop μ-loop
-loop-holds c = standing-start _ _ _ (c .pre)
+loop-holds c = standing-start _ _ _
 
 returns : tie.Need-returns Inv-loop μ-loop
 returns c = standing-short _ _ _ _ _ (c .before .before .loop .inv) (c .before .loop-test .taken) (c .if1 .taken)

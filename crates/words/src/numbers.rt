@@ -1,11 +1,11 @@
-// A number or a cell at a place of the input.
+// A number or a cell at a place of a text.
 
 use crate::bytes::byte_at;
 ghost use mathlib.Core.Path.{_≡_};
 ghost use Prim.Native.Nat.{_≤_};
 ghost use lib.ListN.{length, drop};
-ghost use Rattle.reading.specs.Reading.{isDigit, moreDigits, number as numberOf, cell as cellOf};
-ghost use Rattle.reading.specs.Steps.{Numbered};
+ghost use Rattle.words.specs.Words.{isDigit, moreDigits, number as numberOf, cell as cellOf};
+ghost use Rattle.words.specs.Places.{Numbered};
 
 // A value, and the place behind it; or bad text.
 pub enum Numeral {
@@ -39,7 +39,6 @@ fn more_digits(text: &[u8], at: usize, value: u8) -> Numeral
 
 // A number 0 to 127 without leading zeros.
 fn number(text: &[u8], at: usize) -> Numeral
-    requires { ⌜ at ≤ length (now text) ⌝ }
     ensures { λ r. ⌜ Numbered (now (text .entry)) r (numberOf (drop at (now (text .entry)))) ⌝ }
 {
     let b = byte_at(text, at);
@@ -60,7 +59,6 @@ fn number(text: &[u8], at: usize) -> Numeral
 
 // A number, or `-` where rests may stand.
 pub fn cell(text: &[u8], at: usize, rests: bool) -> Numeral
-    requires { ⌜ at ≤ length (now text) ⌝ }
     ensures { λ r. ⌜ Numbered (now (text .entry)) r (cellOf rests (drop at (now (text .entry)))) ⌝ }
 {
     if rests & (byte_at(text, at) == 45) {

@@ -5,19 +5,17 @@ use mathlib.Core.Bool.{true, false}
 use mathlib.Core.List.{List}
 use Prim.Native.Nat.{ℕ, _+_, _≤_, _<_}
 use native.Mathlib.Numerals.{add-one}
-use native.Mathlib.Omega.{arith}
 use lib.ListN.{length, getD, drop, drop-of-length-le}
 use lib.Seq.{drop-cons}
 use borrow.Author.Tests.{eq-eqb, ne-eqb}
-use Rattle.reading.specs.Reading.{begins}
+use Rattle.words.specs.Words.{begins}
 
 pub record Standing (text : List ℕ) (from : ℕ) (word : List ℕ) (at i : ℕ) : Type 0 where
   pub so-far : begins word (drop from text) ≡ begins (drop i word) (drop at text)
-  pub within : at ≤ length text
 
 module _ (text : List ℕ) (from : ℕ) (word : List ℕ) where
-  pub standing-start : from ≤ length text → Standing text from word from 0
-  standing-start h = record { so-far = refl; within = h }
+  pub standing-start : Standing text from word from 0
+  standing-start = record { so-far = refl }
 
   module _ (at i : ℕ) (s : Standing text from word at i) where
     pub standing-end : length word ≤ i → true ≡ begins word (drop from text)
@@ -35,5 +33,4 @@ module _ (text : List ℕ) (from : ℕ) (word : List ℕ) where
         standing-more e =
             record {
               so-far = s .so-far ∙ rw (drop-cons text at 0 there, drop-cons word i 0 more, eq-eqb (getD word i 0) (getD text at 0) e, add-one at, add-one i);
-              within = omega arith;
             }

@@ -1,12 +1,13 @@
+-- `words::numbers::number` meets its contract. Assumes nothing.
 use borrow.Author.Needs.{needs}
 use mathlib.Core.Path.{sym, _∙_}
 use native.Mathlib.Omega.{arith}
 use Prim.Native.Nat.{_<_}
 use lib.ListN.{length}
 use borrow.Author.Tests.{not-true, not-false}
-use Rattle.reading.proofs.Places.{digit-some, at-digit, number-bad, number-zero, number-stop, number-more, number-within}
-use Rattle.reading.proofs.numbers.number.Statement.{statement}
-use Rattle.reading.proofs.numbers.number.Tie as tie
+use Rattle.words.proofs.Places.{digit-some, at-digit, number-bad, number-zero, number-stop, number-more, number-within}
+use Rattle.words.proofs.numbers.number.Statement.{statement}
+use Rattle.words.proofs.numbers.number.Tie as tie
 
 byte-at-requires : tie.Need-byte-at-requires
 byte-at-requires c κs = search needs
@@ -17,24 +18,24 @@ is-digit-requires c κs = search needs
 returns : tie.Need-returns
 returns c = number-bad _ _ _ (c .before .before .byte-at .ensures) (sym (c .before .is-digit .ensures) ∙ not-true _ (c .if1 .taken))
 
+-- a digit stands within the text
+within : (e : tie.Else1) → let a = e .before .before .before .before in a .args .at < length (a .args .text .now)
+within e = at-digit _ _ (e .before .before .byte-at .result) (e .before .before .byte-at .ensures) (sym (e .before .is-digit .ensures) ∙ not-false _ (e .if1 .left))
+
 add-t8 : tie.Need-add-t8
-add-t8 c = search needs
+add-t8 c = omega (arith, within (c .before))
 
 returns-2 : tie.Need-returns-2
 returns-2 c = number-zero _ _ _ (c .before .before .before .byte-at .ensures) (sym (c .before .before .is-digit .ensures) ∙ not-false _ (c .before .if1 .left)) (c .if2 .taken)
 
 add-more-digits : tie.Need-add-more-digits
-add-more-digits c = search needs
+add-more-digits c = omega (arith, within (c .before))
 
 sub-more-digits : tie.Need-sub-more-digits
 sub-more-digits c = omega (arith, digit-some (c .before .before .before .byte-at .result) (sym (c .before .before .is-digit .ensures) ∙ not-false _ (c .before .if1 .left)) .0)
 
 more-digits-requires : tie.Need-more-digits-requires
-more-digits-requires c κs =
-    let e = c .before in
-    let h : e .before .before .before .before .args .at < length (e .before .before .before .before .args .text .now)
-    = at-digit _ _ (e .before .before .byte-at .result) (e .before .before .byte-at .ensures) (sym (e .before .is-digit .ensures) ∙ not-false _ (e .if1 .left)) in
-    omega arith
+more-digits-requires c κs = omega (arith, within (c .before))
 
 enum-known-value : tie.Need-enum-known-value
 enum-known-value c = search needs

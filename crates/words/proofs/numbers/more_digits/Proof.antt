@@ -1,9 +1,10 @@
+-- `words::numbers::more_digits` meets its contract. Assumes nothing.
 use borrow.Author.Needs.{needs}
 use mathlib.Core.Path.{sym, _∙_}
 use native.Mathlib.Omega.{arith}
-use Rattle.reading.proofs.Places.{digit-some, digits-none, digits-large, digits-one}
-use Rattle.reading.proofs.numbers.more_digits.Statement.{statement}
-use Rattle.reading.proofs.numbers.more_digits.Tie as tie
+use Rattle.words.proofs.Places.{digit-some, digits-none, digits-large, digits-one}
+use Rattle.words.proofs.numbers.more_digits.Statement.{statement}
+use Rattle.words.proofs.numbers.more_digits.Tie as tie
 
 byte-at-requires : tie.Need-byte-at-requires
 byte-at-requires c κs = search needs

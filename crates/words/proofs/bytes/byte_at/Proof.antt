@@ -1,8 +1,8 @@
--- `reading::bytes::byte_at` meets its contract. Assumes nothing.
+-- `words::bytes::byte_at` meets its contract. Assumes nothing.
 use borrow.Author.Needs.{needs}
-use Rattle.reading.proofs.Places.{seen-in, seen-past}
-use Rattle.reading.proofs.bytes.byte_at.Statement.{statement}
-use Rattle.reading.proofs.bytes.byte_at.Tie as tie
+use Rattle.words.proofs.Places.{seen-in, seen-past}
+use Rattle.words.proofs.bytes.byte_at.Statement.{statement}
+use Rattle.words.proofs.bytes.byte_at.Tie as tie
 
 shared-slice-read-result : tie.Need-shared-slice-read-result
 shared-slice-read-result c = search needs

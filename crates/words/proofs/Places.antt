@@ -8,13 +8,24 @@ use Prim.Native.Nat.{ℕ, _+_, _-_, _*_, _≤_, _<_}
 use native.Mathlib.Nat.{add-zero}
 use native.Mathlib.Omega.{arith}
 use lib.Dec.{leb, eqb}
-use lib.ListN.{length, getD, drop, drop-of-length-le}
+use lib.ListN.{length, getD, drop, length-drop, drop-of-length-le}
 use lib.Seq.{drop-drop, getD-drop}
 use borrow.Author.Tests.{le-leb, lt-leb, eq-eqb, ne-eqb, leb-true, eqb-true}
-use Rattle.reading.specs.declared.numbers.Numeral.{Numeral}
-use Rattle.reading.specs.declared.numbers.Numeral.the-variants.{At, Bad}
-use Rattle.reading.specs.Reading.{Read, next, front, isDigit, moreDigits, number, cell}
-use Rattle.reading.specs.Steps.{Seen, Numbered, numberRead, numberNext}
+use Rattle.words.specs.declared.numbers.Numeral.{Numeral}
+use Rattle.words.specs.declared.numbers.Numeral.the-variants.{At, Bad}
+use Rattle.words.specs.Words.{Read, got, bad, next, front, isDigit, moreDigits, number, cell}
+use Rattle.words.specs.Places.{Seen, Numbered, numberRead, numberNext}
+
+-- ---- what was read
+
+pub bad-got : {A : Type 0} {a : A} {rest : List ℕ} → bad ≡ got a rest → ⊥
+bad-got e = let z : _≡_ {A = ℕ} 0 1 = cc in omega arith
+
+pub got-value : {A : Type 0} {a b : A} {r s : List ℕ} → got a r ≡ got b s → a ≡ b
+got-value e = cc
+
+pub got-rest : {A : Type 0} {a b : A} {r s : List ℕ} → got a r ≡ got b s → r ≡ s
+got-rest e = cc
 
 -- ---- one byte
 
@@ -93,7 +104,7 @@ pub number-within : {text : List ℕ} {r : Numeral} {want : Read ℕ} {v here : 
 number-within {text} {r} {want} {v} {here} n e = rw (ap numberNext e) at (n .within)
 
 module _ (text : List ℕ) (at b : ℕ) (s : Seen text at b) where
-  at-rest : (rests : Bool) → (rests && eqb b 45) ≡ true → at < length text
+  pub at-rest : (rests : Bool) → (rests && eqb b 45) ≡ true → at < length text
   at-rest true e = s .within (omega (arith, eqb-true b 45 e))
   at-rest false e = absurd (true≢false (sym e))
 
@@ -104,3 +115,15 @@ module _ (text : List ℕ) (at b : ℕ) (s : Seen text at b) where
   pub cell-number : (rests : Bool) {r : Numeral} → (rests && eqb b 45) ≡ false → Numbered text r (number (drop at text)) → Numbered text r (cell rests (drop at text))
   unfolding cell
   cell-number rests e n = record { is = n .is ∙ rw (← s .byte, e); within = n .within }
+
+-- ---- one answer meets the promise
+
+pub numbered-unique : {text : List ℕ} {want : Read ℕ} (r s : Numeral) → Numbered text r want → Numbered text s want → r ≡ s
+numbered-unique Bad Bad p q = refl
+numbered-unique Bad (At w m) p q = absurd (bad-got (p .is ∙ sym (q .is)))
+numbered-unique (At v n) Bad p q = absurd (bad-got (q .is ∙ sym (p .is)))
+numbered-unique {text} (At v n) (At w m) p q =
+    let e : got v (drop n text) ≡ got w (drop m text) = p .is ∙ sym (q .is) in
+    let same : n ≡ m = omega (arith, ap length (got-rest e), length-drop n text, length-drop m text, p .within, q .within) in
+    let value : v ≡ w = got-value e in
+    rw (value, same)
