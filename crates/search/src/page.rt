@@ -67,7 +67,15 @@ pub fn quick_page(
     ensures { λ r. ⌜ QuickPages (now (cells .entry)) tracks (now (theme .entry)) way bookmark (now (sets .entry)) (now (table .entry)) (now (columns .entry)) (now (shifts .entry)) r (now (table .exit)) (now (columns .exit)) (now (shifts .exit)) ⌝ }
 {
     match walk_quick(
-        cells, tracks, theme, way, bookmark, sets, table, columns, shifts,
+        cells,
+        tracks,
+        theme,
+        way,
+        bookmark,
+        sets,
+        table,
+        columns,
+        shifts,
     ) {
         Walk::Done(w) => {
             let n = columns_in(cells, tracks);
