@@ -23,6 +23,6 @@ afterPair pair = record { column = pair .column; shift = cond (ltZ (pair .shift)
 abbrev pub finishedBookmark : Way → Column → Bookmark
 finishedBookmark way n = record { column = columnAt (cond (ltb (n .0) 65535) (n .0 + 1) 65535); shift = lowest way }
 
--- where the bookmark stands among the places (`Starts.key`)
+-- where the bookmark stands among the places (`key` of `walking`)
 abbrev pub keyOf : Way → Bookmark → ℕ
 keyOf way b = b .column .0 * 256 + codeOf way (b .shift)

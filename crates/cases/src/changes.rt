@@ -26,7 +26,7 @@ pub fn none() -> Change {
     }
 }
 
-// What can be changed. Tracks: with three columns. Columns: with their sets.
+// What can be changed. Where it is the tracks, there are three columns of them; where it is the columns, their sets change with them.
 pub const TRACKS: u16 = 1;
 
 pub const COLUMNS: u16 = 2;

@@ -193,7 +193,8 @@ pub fn end_job(k: usize) -> Job {
     j
 }
 
-// Each refusal alone, twice, and each two together, each by each of its faults, both ways; the first faults are written out.
+// Each refusal by itself, which stands here as a pair of twice the same, and each two together, each by each of its faults, both ways; the
+// first faults are written out.
 pub fn due_job(k: usize) -> Job {
     let pair = k % 3267 / 27;
     let variant = k % 27 / 3;

@@ -1,7 +1,7 @@
 // The filter: which columns a theme's intervals may begin at, by the sets alone.
 //
-// The `table` has a word for each set, and the `register` takes a word for each column: its bits say how many intervals of
-// the theme the last columns have.
+// The `table` has a word for each set, and the `register` takes a word for each column: a bit of it is zero where
+// the last columns have the theme's first intervals, one each.
 
 pub mod register;
 pub mod table;

@@ -1,4 +1,4 @@
--- From the calls of `score` and `search` to the exported ones: what was answered, told in numbers, is what the contract
+-- From the calls of `preparing` and `search` to the exported ones: what was answered, told in numbers, is what the contract
 -- says; a call that is none changes nothing. Assumes nothing.
 use mathlib.Core.Path.{_≡_, sym, ap, _∙_, subst}
 use mathlib.Core.Bool.{Bool, true, false, cond, not, _||_, true≢false}

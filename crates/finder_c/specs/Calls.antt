@@ -1,4 +1,4 @@
--- What each exported call leaves: its result, and every lent buffer. All is said by the definitions of `score` and `search`
+-- What each exported call leaves: its result, and every lent buffer. All is said by the definitions of `preparing` and `search`
 -- and by `Numbers`; equations settle it, so there is one answer. Assumes nothing.
 use mathlib.Core.Path.{_≡_}
 use mathlib.Core.Bool.{cond}

@@ -30,7 +30,7 @@ codesOf way first low high = marks 64 (lowCode way first) low ++ marks 64 (lowCo
 abbrev pub wordCodes : Way → (first : Pitch) → (low high : ℕ) → List ℕ
 wordCodes way first low high = cond (leb (first .0) 127) (codesOf way first low high) []
 
--- the code of one start: none where it is no hit, or where the code is no way's
+-- the code of one start: none where it is no hit, or where the code is above 255
 abbrev pub startCodes : (hit : Bool) (code : ℕ) → List ℕ
 startCodes hit code = cond (hit && leb code 255) (code ∷ []) []
 

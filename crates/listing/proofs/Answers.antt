@@ -14,7 +14,7 @@ pub output-right : (q : Request) → Right q → output (textOf q) ≡ linesOf (
 unfolding output
 output-right q h = ap answer (meaning-text q h)
 
--- only a refused line, with the number of the first faulty line
+-- only a refused line, with the number of a line
 pub record Refused (input : List ℕ) : Type 0 where
   pub line : ℕ
   pub line-some : 1 ≤ line

@@ -2,4 +2,5 @@
 pub mod Reading
 pub mod Request
 pub mod Taking
+-- contracts of inner functions, which no public call promises
 pub mod Steps

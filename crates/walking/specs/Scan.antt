@@ -1,4 +1,4 @@
--- What the inner functions of the filter promise: the word that the register takes for an entry of the sets, the entry at
+-- What the inner functions of the register promise: the word that the register takes for an entry of the sets, the entry at
 -- which it marks a candidate, and the column that a walk goes on to. Assumes nothing.
 use mathlib.Core.Path.{_≡_}
 use mathlib.Core.Bool.{Bool, true, false}

@@ -54,7 +54,7 @@ fn word_of(way: Way, column: &[u8]) -> Word
     }
 }
 
-// The word turned down by d places, 0 to 127.
+// The word moved down by d places, 0 to 127.
 fn down(w: Word, d: u8) -> Word
     requires { ⌜ d ≤ 127 ⌝ }
     ensures { λ r. ⌜ Down (w .low) (w .high) d (r .low) (r .high) ⌝ }
@@ -73,7 +73,7 @@ fn down(w: Word, d: u8) -> Word
     }
 }
 
-// The word turned up by d places, 0 to 127.
+// The word moved up by d places, 0 to 127.
 fn up(w: Word, d: u8) -> Word
     requires { ⌜ d ≤ 127 ⌝ }
     ensures { λ r. ⌜ Up (w .low) (w .high) d (r .low) (r .high) ⌝ }

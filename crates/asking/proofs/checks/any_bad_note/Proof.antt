@@ -1,4 +1,4 @@
--- `search::checks::any_bad_note` meets its contract. The invariant: the flag says whether some note passed is bad. The
+-- `asking::checks::any_bad_note` meets its contract. The invariant: the flag says whether some note passed is bad. The
 -- measure is the notes left. Assumes nothing.
 use borrow.Author.Needs.{needs}
 use mathlib.Core.Path.{refl}

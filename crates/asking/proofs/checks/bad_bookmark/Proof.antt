@@ -1,4 +1,4 @@
--- `search::checks::bad_bookmark` meets its contract: the two parts of row 10, the column's and the shift's. Assumes
+-- `asking::checks::bad_bookmark` meets its contract: the two parts of row 10, the column's and the shift's. Assumes
 -- nothing.
 use borrow.Author.Needs.{needs}
 use mathlib.Core.Bool.{or-assoc}

@@ -1,4 +1,4 @@
--- `search::checks::check_page` meets its contract: each way out is a row. Assumes nothing.
+-- `asking::checks::check_page` meets its contract: each way out is a row. Assumes nothing.
 use borrow.Author.Needs.{needs}
 use mathlib.Core.Path.{_∙_}
 use Rattle.asking.proofs.checks.check_page.Statement.{statement}

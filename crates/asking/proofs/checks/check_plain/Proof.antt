@@ -1,7 +1,7 @@
-use Rattle.asking.proofs.checks.Laws.{plain-score, plain-theme, plain-page}
--- `search::checks::check_plain` meets its contract: the rows in parts: the score's, the theme's, the page's. Assumes
+-- `asking::checks::check_plain` meets its contract: the rows in parts: the score's, the theme's, the page's. Assumes
 -- nothing.
 use borrow.Author.Needs.{needs}
+use Rattle.asking.proofs.checks.Laws.{plain-score, plain-theme, plain-page}
 use Rattle.asking.proofs.checks.check_plain.Statement.{statement}
 use Rattle.asking.proofs.checks.check_plain.Tie as tie
 

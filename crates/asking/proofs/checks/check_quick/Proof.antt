@@ -1,7 +1,7 @@
-use Rattle.asking.proofs.checks.Laws.{quick-score, quick-theme, quick-sets, quick-table, quick-page}
--- `search::checks::check_quick` meets its contract: the rows in parts: the score's, the theme's, the sets', the
+-- `asking::checks::check_quick` meets its contract: the rows in parts: the score's, the theme's, the sets', the
 -- table's, the page's. Assumes nothing.
 use borrow.Author.Needs.{needs}
+use Rattle.asking.proofs.checks.Laws.{quick-score, quick-theme, quick-sets, quick-table, quick-page}
 use Rattle.asking.proofs.checks.check_quick.Statement.{statement}
 use Rattle.asking.proofs.checks.check_quick.Tie as tie
 

@@ -1,4 +1,4 @@
--- `search::checks::first_bad_note` meets its contract. The invariant: no note passed is bad. The measure is the notes
+-- `asking::checks::first_bad_note` meets its contract. The invariant: no note passed is bad. The measure is the notes
 -- left. Assumes nothing.
 use borrow.Author.Needs.{needs}
 use Prim.Native.Nat.{_-_}

@@ -1,4 +1,4 @@
--- `search::checks::outside` meets its contract: a column past n + 1, without the sum. Assumes nothing.
+-- `asking::checks::outside` meets its contract: a column past n + 1, without the sum. Assumes nothing.
 use borrow.Author.Needs.{needs}
 use borrow.Author.Tests.{eq-eqb}
 use Rattle.asking.proofs.checks.Laws.{past-column}

@@ -1,4 +1,4 @@
--- `search::signs::lowest_of` meets its contract: by cases on the way. Assumes nothing.
+-- `asking::signs::lowest_of` meets its contract: by cases on the way. Assumes nothing.
 use borrow.Author.Needs.{needs}
 use mathlib.Core.Path.{sym, ap}
 use Rattle.asking.specs.Way.{lowest}

@@ -1,4 +1,4 @@
--- `search::signs::out_of_range` meets its contract: by cases on the way. Assumes nothing.
+-- `asking::signs::out_of_range` meets its contract: by cases on the way. Assumes nothing.
 use borrow.Author.Needs.{needs}
 use mathlib.Core.Path.{_∙_}
 use mir.Facts.{toZ-ofZ}

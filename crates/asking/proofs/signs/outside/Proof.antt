@@ -1,4 +1,4 @@
--- `search::signs::outside` meets its contract: the tests read the shifts back from their bits. Assumes nothing.
+-- `asking::signs::outside` meets its contract: the tests read the shifts back from their bits. Assumes nothing.
 use mathlib.Core.Path.{subst₂, _≡_}
 use mathlib.Core.Bool.{true, false}
 use lib.IntN.{ℤ}

@@ -1,4 +1,4 @@
--- `search::signs::raised` meets its contract: below the highest number a sum by one fits. Assumes nothing.
+-- `asking::signs::raised` meets its contract: below the highest number a sum by one fits. Assumes nothing.
 use mathlib.Core.Path.{subst, _≡_, _∙_}
 use mathlib.Core.Bool.{true, false}
 use lib.IntN.{ℤ, pos}

@@ -1,4 +1,4 @@
--- `score::classes::class_bits` meets its contract. The invariant: the bits below the cell are made. The measure is the
+-- `preparing::classes::class_bits` meets its contract. The invariant: the bits below the cell are made. The measure is the
 -- pitches left. Assumes nothing.
 use borrow.Author.Needs.{needs}
 use Prim.Native.Nat.{_-_}

@@ -1,4 +1,4 @@
--- `score::classes::classes_of` meets its contract. The invariant: the mask has the classes of the cells passed. The measure is
+-- `preparing::classes::classes_of` meets its contract. The invariant: the mask has the classes of the cells passed. The measure is
 -- the cells left. Assumes nothing.
 use borrow.Author.Needs.{needs}
 use mathlib.Core.Logic.{⊎-elim}

@@ -1,4 +1,4 @@
--- `score::classes::gather` meets its contract. The invariant: the class sets of the columns after the first, up to k, are
+-- `preparing::classes::gather` meets its contract. The invariant: the class sets of the columns after the first, up to k, are
 -- stored. The measure is the columns left. Assumes nothing.
 use borrow.Author.Needs.{needs}
 use mathlib.Core.Path.{refl}

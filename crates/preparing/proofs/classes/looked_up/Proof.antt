@@ -1,4 +1,4 @@
--- `score::classes::looked_up` meets its contract. The invariant: the mask has the classes of the cells passed. The measure
+-- `preparing::classes::looked_up` meets its contract. The invariant: the mask has the classes of the cells passed. The measure
 -- is the cells left. Assumes nothing.
 use borrow.Author.Needs.{needs}
 use native.Mathlib.Omega.{arith}

@@ -1,4 +1,4 @@
--- `score::sets::fill` meets its contract: the class sets that are gathered are those of the score, so they turn to its sets.
+-- `preparing::sets::fill` meets its contract: the class sets that are gathered are those of the score, so they turn to its sets.
 -- Assumes nothing.
 use borrow.Author.Needs.{needs}
 use Rattle.preparing.proofs.sets.fill.Statement.{statement}

@@ -1,4 +1,4 @@
--- `score::sets::prepare` meets its contract: each way out is a row of the call. Assumes nothing.
+-- `preparing::sets::prepare` meets its contract: each way out is a row of the call. Assumes nothing.
 use borrow.Author.Needs.{needs}
 use mathlib.Core.Path.{sym, _∙_}
 use Rattle.preparing.proofs.Preparing.{prepares-refused, prepares-long, prepares-room, prepares-filled}

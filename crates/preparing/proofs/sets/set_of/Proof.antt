@@ -1,4 +1,4 @@
--- `score::sets::set_of` meets its contract. The invariant: what is reached from the classes below k. The measure is the
+-- `preparing::sets::set_of` meets its contract. The invariant: what is reached from the classes below k. The measure is the
 -- classes left. Assumes nothing.
 use borrow.Author.Needs.{needs}
 use mathlib.Core.Path.{sym, _∙_}

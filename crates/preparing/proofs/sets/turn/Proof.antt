@@ -1,4 +1,4 @@
--- `score::sets::turn` meets its contract. The invariant: the first k are sets, the others still class sets, and the class
+-- `preparing::sets::turn` meets its contract. The invariant: the first k are sets, the others still class sets, and the class
 -- set before them is at hand. The measure is the class sets left. Assumes nothing.
 use borrow.Author.Needs.{needs}
 use Prim.Native.Nat.{_-_}

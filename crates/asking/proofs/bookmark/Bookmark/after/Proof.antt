@@ -1,4 +1,4 @@
--- `search::bookmark::Bookmark::after` meets its contract: the raised shift is read back from its bits. Assumes
+-- `asking::bookmark::Bookmark::after` meets its contract: the raised shift is read back from its bits. Assumes
 -- nothing.
 use borrow.Author.Needs.{needs}
 use mir.Syntax.{w16}

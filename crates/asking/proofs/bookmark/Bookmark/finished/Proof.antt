@@ -1,4 +1,4 @@
--- `search::bookmark::Bookmark::finished` meets its contract: the test picks the column. Assumes nothing.
+-- `asking::bookmark::Bookmark::finished` meets its contract: the test picks the column. Assumes nothing.
 use borrow.Author.Needs.{needs}
 use borrow.Author.Tests.{lt-ltb, le-ltb}
 use mir.Syntax.{w16}

@@ -1,4 +1,4 @@
--- `search::bookmark::Bookmark::first` meets its contract: the way's lowest shift is read back from its bits. Assumes
+-- `asking::bookmark::Bookmark::first` meets its contract: the way's lowest shift is read back from its bits. Assumes
 -- nothing.
 use borrow.Author.Needs.{needs}
 use mir.Syntax.{w16}
