@@ -1,6 +1,7 @@
 // Numbers and lines put into the output at a place. Each call needs room for just what it puts, and answers the place behind
 // it.
 
+use score::Column;
 ghost use mathlib.Core.Path.{_≡_};
 ghost use mathlib.Core.List.{[], _∷_};
 ghost use Prim.Native.Nat.{_+_, _%_, _≤_, _<_};
@@ -87,12 +88,12 @@ fn put_shift(out: &mut [u8], at: usize, shift: i16) -> usize
 }
 
 // The line of one pair.
-fn hit_line(out: &mut [u8], at: usize, column: u16, shift: i16) -> usize
-    requires { ⌜ at + length (hitLine (pairOf column shift)) ≤ length (now out) ⌝ }
-    ensures { λ r. ⌜ Wrote (hitLine (pairOf column shift)) at (now (out .entry)) r (now (out .exit)) ⌝ }
+fn hit_line(out: &mut [u8], at: usize, column: Column, shift: i16) -> usize
+    requires { ⌜ at + length (hitLine (pairOf (column .0) shift)) ≤ length (now out) ⌝ }
+    ensures { λ r. ⌜ Wrote (hitLine (pairOf (column .0) shift)) at (now (out .entry)) r (now (out .exit)) ⌝ }
 {
     let a = put_word(out, at, b"hit");
-    let b = put_field(out, a, column as u32);
+    let b = put_field(out, a, column.0 as u32);
     let c = put_shift(out, b, shift);
     put(out, c, 10)
 }
@@ -112,7 +113,7 @@ pub fn hit_lines(
     let mut at = from;
     let mut i = 0;
     while i < found {
-        at = hit_line(out, at, columns[i], shifts[i]);
+        at = hit_line(out, at, Column(columns[i]), shifts[i]);
         i += 1;
     }
     at

@@ -63,19 +63,19 @@ pub fn try_column(
 // Where a walk goes on: the register, and the column.
 pub struct Next {
     pub register: u32,
-    pub column: usize,
+    pub column: Column,
 }
 
-// The register of a walk along candidates that begins at column j; of one along every column, none is needed.
-fn begun(every: bool, sets: &[u16], table: &[u32], m: usize, j: usize) -> u32
-    requires { ⌜ (2 ≤ m) × (m ≤ 32) × (1 ≤ j) × (j ≤ 2048) ⌝ }
-    requires { ⌜ BeginsAt every (now sets) (now table) m j ⌝ }
-    ensures { λ r. ⌜ Filters every (now (table .entry)) (now (sets .entry)) m j r j ⌝ }
+// The register of a walk along candidates from its first column on; of one along every column, none is needed.
+fn begun(every: bool, sets: &[u16], table: &[u32], m: usize, first: Column) -> u32
+    requires { ⌜ (2 ≤ m) × (m ≤ 32) × (1 ≤ first .0) × (first .0 ≤ 2048) ⌝ }
+    requires { ⌜ BeginsAt every (now sets) (now table) m (first .0) ⌝ }
+    ensures { λ r. ⌜ Filters every (now (table .entry)) (now (sets .entry)) m (first .0) r (first .0) ⌝ }
 {
     if every {
         return 0;
     }
-    warmed(sets, table, j - 1, m - 2)
+    warmed(sets, table, first.0 as usize - 1, m - 2)
 }
 
 // The first column from j on that is kept, or the one past the last that a theme of m notes has room in.
@@ -86,11 +86,11 @@ fn next_column(
     table: &[u32],
     n: usize,
     m: usize,
-    j: usize,
+    j: Column,
 ) -> Next
-    requires { ⌜ (2 ≤ m) × (m ≤ 32) × (1 ≤ j) × (j + m ≤ n + 1) × (n ≤ 2048) ⌝ }
+    requires { ⌜ (2 ≤ m) × (m ≤ 32) × (1 ≤ j .0) × (j .0 + m ≤ n + 1) × (n ≤ 2048) ⌝ }
     requires { ⌜ LentFor every n (now sets) (now table) ⌝ }
-    ensures { λ r. ⌜ Comes every (now (table .entry)) (now (sets .entry)) n m j register (r .register) (r .column) ⌝ }
+    ensures { λ r. ⌜ Comes every (now (table .entry)) (now (sets .entry)) n m (j .0) register (r .register) (r .column .0) ⌝ }
 {
     if every {
         return Next {
@@ -98,10 +98,10 @@ fn next_column(
             column: j,
         };
     }
-    let s = seek(register, sets, table, j + m - 3, (m - 2) as u32);
+    let s = seek(register, sets, table, j.0 as usize + m - 3, (m - 2) as u32);
     Next {
         register: s.register,
-        column: s.at + 3 - m,
+        column: Column((s.at + 3 - m) as u16),
     }
 }
 
@@ -136,10 +136,10 @@ pub fn walk(
     if n + 1 < j + m {
         return Walked { found, looks };
     }
-    let mut register = begun(every, sets, table, m, j);
+    let mut register = begun(every, sets, table, m, first);
     while j + m <= n + 1 {
-        let to = next_column(every, register, sets, table, n, m, j);
-        let next = to.column;
+        let to = next_column(every, register, sets, table, n, m, Column(j as u16));
+        let next = to.column.0 as usize;
         register = to.register;
         if n + 1 < next + m {
             return Walked { found, looks };
@@ -152,7 +152,7 @@ pub fn walk(
             h,
             theme,
             way,
-            Column(next as u16),
+            to.column,
             code,
             found,
             columns,

@@ -16,14 +16,14 @@ abbrev μ-loop : tie.MeasureT-loop
 loop-holds : tie.Need-loop-holds Inv-loop μ-loop
 loop-holds c = hitting-start _ _ _ _ _ (c .before .before .pre .1)
 
+mul-t11 : tie.Need-mul-t11 Inv-loop μ-loop
+mul-t11 c = search needs
+
+shared-slice-read-t13 : tie.Need-shared-slice-read-t13 Inv-loop μ-loop
+shared-slice-read-t13 c = search needs
+
 mul-hit-line : tie.Need-mul-hit-line Inv-loop μ-loop
 mul-hit-line c = search needs
-
-shared-slice-read-hit-line : tie.Need-shared-slice-read-hit-line Inv-loop μ-loop
-shared-slice-read-hit-line c = search needs
-
-mul-hit-line-2 : tie.Need-mul-hit-line-2 Inv-loop μ-loop
-mul-hit-line-2 c = search needs
 
 shared-slice-copy-out-hit-line : tie.Need-shared-slice-copy-out-hit-line Inv-loop μ-loop
 shared-slice-copy-out-hit-line c = search needs
@@ -62,9 +62,9 @@ hit-lines-spec =
     Inv-loop
     μ-loop
     loop-holds
+    mul-t11
+    shared-slice-read-t13
     mul-hit-line
-    shared-slice-read-hit-line
-    mul-hit-line-2
     shared-slice-copy-out-hit-line
     hit-line-requires
     add-i

@@ -62,6 +62,9 @@ add-loop c = let s = c .before .before .before .before .before .before .before .
 add-loop-2 : tie.Need-add-loop-2 Inv-loop μ-loop
 add-loop-2 c = let s = c .before .before .before .before .before .before .before .before .before .before .before in omega (arith, c .before .before .before .before .columns-in .ensures, s .pre .0 .columns-most)
 
+cast-t29 : tie.Need-cast-t29 Inv-loop μ-loop
+cast-t29 c = let s = c .before .before .before .before .before .before .before .before .before .before .before .before in omega (arith, c .loop-test .taken, c .before .before .before .before .before .columns-in .ensures, s .pre .0 .columns-most, s .pre .0 .notes)
+
 next-column-requires : tie.Need-next-column-requires Inv-loop μ-loop
 next-column-requires c κs =
     let l = c .before in
@@ -71,82 +74,82 @@ next-column-requires c κs =
       subst (λ (n : ℕ). LentFor (s .args .every) n (s .args .sets .now) (s .args .table .now)) (sym e) (s .pre .1 .0),
     )
 
+cast-next : tie.Need-cast-next Inv-loop μ-loop
+cast-next c = search needs
+
 add-if2 : tie.Need-add-if2 Inv-loop μ-loop
-add-if2 c = let s = c .before .before .before .before .before .before .before .before .before .before .before .before .before in omega (arith, c .before .before .before .before .before .before .columns-in .ensures, s .pre .0 .columns-most)
+add-if2 c = let s = c .before .before .before .before .before .before .before .before .before .before .before .before .before .before in omega (arith, c .before .before .before .before .before .before .before .columns-in .ensures, s .pre .0 .columns-most)
 
 add-if2-2 : tie.Need-add-if2-2 Inv-loop μ-loop
-add-if2-2 c = let s = c .before .before .before .before .before .before .before .before .before .before .before .before .before in omega (arith, c .next-column .ensures .within, c .before .before .before .before .before .before .columns-in .ensures, s .pre .0 .columns-most)
+add-if2-2 c = let s = c .before .before .before .before .before .before .before .before .before .before .before .before .before .before in omega (arith, c .before .next-column .ensures .within, c .before .before .before .before .before .before .before .columns-in .ensures, s .pre .0 .columns-most)
 
 same-length : tie.Need-same-length Inv-loop μ-loop
-same-length c = c .before .before .before .loop .inv .0 .walking .long
+same-length c = c .before .before .before .before .loop .inv .0 .walking .long
 
 same-length-2 : tie.Need-same-length-2 Inv-loop μ-loop
-same-length-2 c = let s = c .before .before .before .before .before .before .before .before .before .before .before .before .before .before in c .before .before .before .loop .inv .0 .walking .long-shifts ∙ sym (s .pre .1 .1 .0 .3)
+same-length-2 c = let s = c .before .before .before .before .before .before .before .before .before .before .before .before .before .before .before in c .before .before .before .before .loop .inv .0 .walking .long-shifts ∙ sym (s .pre .1 .1 .0 .3)
 
 same-length-3 : tie.Need-same-length-3 Inv-loop μ-loop
-same-length-3 c = let s = c .before .before .before .before .before .before .before .before .before .before .before .before .before .before in c .before .before .before .loop .inv .1 .long ∙ sym (s .pre .1 .1 .1 .long)
+same-length-3 c = let s = c .before .before .before .before .before .before .before .before .before .before .before .before .before .before .before in c .before .before .before .before .loop .inv .1 .long ∙ sym (s .pre .1 .1 .1 .long)
 
 returns-2 : tie.Need-returns-2 Inv-loop μ-loop
 returns-2 c =
-    let l = c .before .before .before in
-    let s = c .before .before .before .before .before .before .before .before .before .before .before .before .before .before in
-    let e = c .before .before .before .before .before .before .before .columns-in .ensures in
-    rw (← kept-reached _ _ _ _ _ (s .args .table .now) (s .args .sets .now) (s .args .every)) (scan-none _ _ _ _ _ _ _ _ _ _ _ (s .pre .0) (s .pre .1 .1 .0 .0) _ _ _ _ _ _ _ (l .loop .inv .0) _ _ _ e (c .before .next-column .ensures) (omega (arith, c .if2 .taken, e)))
-
-cast-t29 : tie.Need-cast-t29 Inv-loop μ-loop
-cast-t29 c = let s = c .before .before .before .before .before .before .before .before .before .before .before .before .before .before .before in omega (arith, c .before .before .next-column .ensures .within, c .before .before .before .before .before .before .before .before .columns-in .ensures, s .pre .0 .columns-most, s .pre .0 .notes)
+    let l = c .before .before .before .before in
+    let s = c .before .before .before .before .before .before .before .before .before .before .before .before .before .before .before in
+    let e = c .before .before .before .before .before .before .before .before .columns-in .ensures in
+    rw (← kept-reached _ _ _ _ _ (s .args .table .now) (s .args .sets .now) (s .args .every)) (scan-none _ _ _ _ _ _ _ _ _ _ _ (s .pre .0) (s .pre .1 .1 .0 .0) _ _ _ _ _ _ _ (l .loop .inv .0) _ _ _ e (c .before .before .next-column .ensures) (omega (arith, c .if2 .taken, e)))
 
 try-all-requires : tie.Need-try-all-requires Inv-loop μ-loop
 try-all-requires c κs =
-    let l = c .before .before .before .before .before .before .before in
-    let s = c .before .before .before .before .before .before .before .before .before .before .before .before .before .before .before .before .before .before in
-    let e = c .before .before .before .before .before .before .before .before .before .before .before .columns-in .ensures in
-    let w = scan-stands _ _ _ _ _ _ _ _ _ _ _ (s .pre .0) (s .pre .1 .1 .0 .0) _ _ _ _ _ _ _ (l .loop .inv .0) _ _ _ e (c .before .before .before .before .before .next-column .ensures) (omega (arith, c .before .before .before .before .if2 .left, e)) _ (⊎-elim (λ w. w .1 ∙ code-further _ _ _ (w .0 .taken)) (λ w. w .1 ∙ code-same _ _ _ (w .0 .left)) (c .before .before .before .if3 .came)) in
+    let l = c .before .before .before .before .before .before .before .before in
+    let s = c .before .before .before .before .before .before .before .before .before .before .before .before .before .before .before .before .before .before .before in
+    let e = c .before .before .before .before .before .before .before .before .before .before .before .before .columns-in .ensures in
+    let w = scan-stands _ _ _ _ _ _ _ _ _ _ _ (s .pre .0) (s .pre .1 .1 .0 .0) _ _ _ _ _ _ _ (l .loop .inv .0) _ _ _ e (c .before .before .before .before .before .before .next-column .ensures) (omega (arith, c .before .before .before .before .if2 .left, e)) _ (⊎-elim (λ w. w .1 ∙ code-further _ _ _ (w .0 .taken)) (λ w. w .1 ∙ code-same _ _ _ (w .0 .left)) (c .before .before .before .if3 .came)) in
     (s .pre .0, (record { from-first = omega (arith, s .pre .1 .1 .0 .0, w .forward); to-last = omega (arith, c .before .before .before .before .if2 .left, e) }, ((w .low, omega (arith, w .room, w .long), w .long-shifts ∙ sym (w .long)), l .loop .inv .1)))
 
 add-looks : tie.Need-add-looks Inv-loop μ-loop
 add-looks c =
-    let l = c .before .before .before .before .before .before .before .before .before .before .before .before .before .before in
-    let s = c .before .before .before .before .before .before .before .before .before .before .before .before .before .before .before .before .before .before .before .before .before .before .before .before .before in
-    let e = c .before .before .before .before .before .before .before .before .before .before .before .before .before .before .before .before .before .before .columns-in .ensures in
-    omega (arith, scan-bound _ _ _ _ _ _ _ _ _ _ _ (s .pre .0) (s .pre .1 .1 .0 .0) _ _ _ _ _ _ _ (l .loop .inv .0) _ _ _ e (c .before .before .before .before .before .before .before .before .before .before .before .before .next-column .ensures) (omega (arith, c .before .before .before .before .before .before .before .before .before .before .before .if2 .left, e)) _ (⊎-elim (λ w. w .1 ∙ code-further _ _ _ (w .0 .taken)) (λ w. w .1 ∙ code-same _ _ _ (w .0 .left)) (c .before .before .before .before .before .before .before .before .before .before .if3 .came)) _ _ _ _ (c .before .before .before .before .before .before .try-all .ensures .0))
+    let l = c .before .before .before .before .before .before .before .before .before .before .before .before .before .before .before in
+    let s = c .before .before .before .before .before .before .before .before .before .before .before .before .before .before .before .before .before .before .before .before .before .before .before .before .before .before in
+    let e = c .before .before .before .before .before .before .before .before .before .before .before .before .before .before .before .before .before .before .before .columns-in .ensures in
+    omega (arith, scan-bound _ _ _ _ _ _ _ _ _ _ _ (s .pre .0) (s .pre .1 .1 .0 .0) _ _ _ _ _ _ _ (l .loop .inv .0) _ _ _ e (c .before .before .before .before .before .before .before .before .before .before .before .before .before .next-column .ensures) (omega (arith, c .before .before .before .before .before .before .before .before .before .before .before .if2 .left, e)) _ (⊎-elim (λ w. w .1 ∙ code-further _ _ _ (w .0 .taken)) (λ w. w .1 ∙ code-same _ _ _ (w .0 .left)) (c .before .before .before .before .before .before .before .before .before .before .if3 .came)) _ _ _ _ (c .before .before .before .before .before .before .try-all .ensures .0))
 
 same-length-4 : tie.Need-same-length-4 Inv-loop μ-loop
 same-length-4 c =
-    let l = c .before .before .before .before .before .before .before .before .before .before .before .before .before .before .before in
-    let s = c .before .before .before .before .before .before .before .before .before .before .before .before .before .before .before .before .before .before .before .before .before .before .before .before .before .before in
-    let e = c .before .before .before .before .before .before .before .before .before .before .before .before .before .before .before .before .before .before .before .columns-in .ensures in
-    (scan-turn _ _ _ _ _ _ _ _ _ _ _ (s .pre .0) (s .pre .1 .1 .0 .0) _ _ _ _ _ _ _ (l .loop .inv .0) _ _ _ e (c .before .before .before .before .before .before .before .before .before .before .before .before .before .next-column .ensures) (omega (arith, c .before .before .before .before .before .before .before .before .before .before .before .before .if2 .left, e)) _ (⊎-elim (λ w. w .1 ∙ code-further _ _ _ (w .0 .taken)) (λ w. w .1 ∙ code-same _ _ _ (w .0 .left)) (c .before .before .before .before .before .before .before .before .before .before .before .if3 .came)) _ _ _ _ (c .before .before .before .before .before .before .before .try-all .ensures .0)) .walking .long
+    let l = c .before .before .before .before .before .before .before .before .before .before .before .before .before .before .before .before in
+    let s = c .before .before .before .before .before .before .before .before .before .before .before .before .before .before .before .before .before .before .before .before .before .before .before .before .before .before .before in
+    let e = c .before .before .before .before .before .before .before .before .before .before .before .before .before .before .before .before .before .before .before .before .columns-in .ensures in
+    (scan-turn _ _ _ _ _ _ _ _ _ _ _ (s .pre .0) (s .pre .1 .1 .0 .0) _ _ _ _ _ _ _ (l .loop .inv .0) _ _ _ e (c .before .before .before .before .before .before .before .before .before .before .before .before .before .before .next-column .ensures) (omega (arith, c .before .before .before .before .before .before .before .before .before .before .before .before .if2 .left, e)) _ (⊎-elim (λ w. w .1 ∙ code-further _ _ _ (w .0 .taken)) (λ w. w .1 ∙ code-same _ _ _ (w .0 .left)) (c .before .before .before .before .before .before .before .before .before .before .before .if3 .came)) _ _ _ _ (c .before .before .before .before .before .before .before .try-all .ensures .0)) .walking .long
 
 same-length-5 : tie.Need-same-length-5 Inv-loop μ-loop
 same-length-5 c =
-    let l = c .before .before .before .before .before .before .before .before .before .before .before .before .before .before .before in
-    let s = c .before .before .before .before .before .before .before .before .before .before .before .before .before .before .before .before .before .before .before .before .before .before .before .before .before .before in
-    let e = c .before .before .before .before .before .before .before .before .before .before .before .before .before .before .before .before .before .before .before .columns-in .ensures in
-    (scan-turn _ _ _ _ _ _ _ _ _ _ _ (s .pre .0) (s .pre .1 .1 .0 .0) _ _ _ _ _ _ _ (l .loop .inv .0) _ _ _ e (c .before .before .before .before .before .before .before .before .before .before .before .before .before .next-column .ensures) (omega (arith, c .before .before .before .before .before .before .before .before .before .before .before .before .if2 .left, e)) _ (⊎-elim (λ w. w .1 ∙ code-further _ _ _ (w .0 .taken)) (λ w. w .1 ∙ code-same _ _ _ (w .0 .left)) (c .before .before .before .before .before .before .before .before .before .before .before .if3 .came)) _ _ _ _ (c .before .before .before .before .before .before .before .try-all .ensures .0)) .walking .long-shifts ∙ sym (s .pre .1 .1 .0 .3)
+    let l = c .before .before .before .before .before .before .before .before .before .before .before .before .before .before .before .before in
+    let s = c .before .before .before .before .before .before .before .before .before .before .before .before .before .before .before .before .before .before .before .before .before .before .before .before .before .before .before in
+    let e = c .before .before .before .before .before .before .before .before .before .before .before .before .before .before .before .before .before .before .before .before .columns-in .ensures in
+    (scan-turn _ _ _ _ _ _ _ _ _ _ _ (s .pre .0) (s .pre .1 .1 .0 .0) _ _ _ _ _ _ _ (l .loop .inv .0) _ _ _ e (c .before .before .before .before .before .before .before .before .before .before .before .before .before .before .next-column .ensures) (omega (arith, c .before .before .before .before .before .before .before .before .before .before .before .before .if2 .left, e)) _ (⊎-elim (λ w. w .1 ∙ code-further _ _ _ (w .0 .taken)) (λ w. w .1 ∙ code-same _ _ _ (w .0 .left)) (c .before .before .before .before .before .before .before .before .before .before .before .if3 .came)) _ _ _ _ (c .before .before .before .before .before .before .before .try-all .ensures .0)) .walking .long-shifts ∙ sym (s .pre .1 .1 .0 .3)
 
 same-length-6 : tie.Need-same-length-6 Inv-loop μ-loop
-same-length-6 c = let s = c .before .before .before .before .before .before .before .before .before .before .before .before .before .before .before .before .before .before .before .before .before .before .before .before .before .before in c .before .before .before .before .before .before .before .try-all .ensures .1 .long ∙ sym (s .pre .1 .1 .1 .long)
+same-length-6 c = let s = c .before .before .before .before .before .before .before .before .before .before .before .before .before .before .before .before .before .before .before .before .before .before .before .before .before .before .before in c .before .before .before .before .before .before .before .try-all .ensures .1 .long ∙ sym (s .pre .1 .1 .1 .long)
 
 returns-3 : tie.Need-returns-3 Inv-loop μ-loop
 returns-3 c =
-    let l = c .before .before .before .before .before .before .before .before .before .before .before .before .before .before .before in
-    let s = c .before .before .before .before .before .before .before .before .before .before .before .before .before .before .before .before .before .before .before .before .before .before .before .before .before .before in
-    let e = c .before .before .before .before .before .before .before .before .before .before .before .before .before .before .before .before .before .before .before .columns-in .ensures in
-    rw (← kept-reached _ _ _ _ _ (s .args .table .now) (s .args .sets .now) (s .args .every)) (walk-full _ _ _ _ _ _ _ _ _ (s .pre .0) (s .pre .1 .1 .0 .0) _ _ _ _ _ _ ((scan-turn _ _ _ _ _ _ _ _ _ _ _ (s .pre .0) (s .pre .1 .1 .0 .0) _ _ _ _ _ _ _ (l .loop .inv .0) _ _ _ e (c .before .before .before .before .before .before .before .before .before .before .before .before .before .next-column .ensures) (omega (arith, c .before .before .before .before .before .before .before .before .before .before .before .before .if2 .left, e)) _ (⊎-elim (λ w. w .1 ∙ code-further _ _ _ (w .0 .taken)) (λ w. w .1 ∙ code-same _ _ _ (w .0 .left)) (c .before .before .before .before .before .before .before .before .before .before .before .if3 .came)) _ _ _ _ (c .before .before .before .before .before .before .before .try-all .ensures .0)) .walking) (c .if4 .taken))
+    let l = c .before .before .before .before .before .before .before .before .before .before .before .before .before .before .before .before in
+    let s = c .before .before .before .before .before .before .before .before .before .before .before .before .before .before .before .before .before .before .before .before .before .before .before .before .before .before .before in
+    let e = c .before .before .before .before .before .before .before .before .before .before .before .before .before .before .before .before .before .before .before .before .columns-in .ensures in
+    rw (← kept-reached _ _ _ _ _ (s .args .table .now) (s .args .sets .now) (s .args .every)) (walk-full _ _ _ _ _ _ _ _ _ (s .pre .0) (s .pre .1 .1 .0 .0) _ _ _ _ _ _ ((scan-turn _ _ _ _ _ _ _ _ _ _ _ (s .pre .0) (s .pre .1 .1 .0 .0) _ _ _ _ _ _ _ (l .loop .inv .0) _ _ _ e (c .before .before .before .before .before .before .before .before .before .before .before .before .before .before .next-column .ensures) (omega (arith, c .before .before .before .before .before .before .before .before .before .before .before .before .if2 .left, e)) _ (⊎-elim (λ w. w .1 ∙ code-further _ _ _ (w .0 .taken)) (λ w. w .1 ∙ code-same _ _ _ (w .0 .left)) (c .before .before .before .before .before .before .before .before .before .before .before .if3 .came)) _ _ _ _ (c .before .before .before .before .before .before .before .try-all .ensures .0)) .walking) (c .if4 .taken))
 
 add-j : tie.Need-add-j Inv-loop μ-loop
-add-j c = let s = c .before .before .before .before .before .before .before .before .before .before .before .before .before .before .before .before .before .before .before .before .before .before .before .before .before .before in omega (arith, c .before .before .before .before .before .before .before .before .before .before .before .before .before .next-column .ensures .within, c .before .before .before .before .before .before .before .before .before .before .before .before .before .before .before .before .before .before .before .columns-in .ensures, s .pre .0 .columns-most, s .pre .0 .notes)
+add-j c = let s = c .before .before .before .before .before .before .before .before .before .before .before .before .before .before .before .before .before .before .before .before .before .before .before .before .before .before .before in omega (arith, c .before .before .before .before .before .before .before .before .before .before .before .before .before .before .next-column .ensures .within, c .before .before .before .before .before .before .before .before .before .before .before .before .before .before .before .before .before .before .before .before .columns-in .ensures, s .pre .0 .columns-most, s .pre .0 .notes)
 
 loop-less : tie.Need-loop-less Inv-loop μ-loop
-loop-less c = let s = c .before .before .before .before .before .before .before .before .before .before .before .before .before .before .before .before .before .before .before .before .before .before .before .before .before .before in omega (arith, c .before .before .before .before .before .before .before .before .before .before .before .before .before .next-column .ensures .forward, c .before .before .before .before .before .before .before .before .before .before .before .before .before .before .loop-test .taken, c .before .before .before .before .before .before .before .before .before .before .before .before .if2 .left, s .pre .0 .notes)
+loop-less c = let s = c .before .before .before .before .before .before .before .before .before .before .before .before .before .before .before .before .before .before .before .before .before .before .before .before .before .before .before in omega (arith, c .before .before .before .before .before .before .before .before .before .before .before .before .before .before .next-column .ensures .forward, c .before .before .before .before .before .before .before .before .before .before .before .before .before .before .before .loop-test .taken, c .before .before .before .before .before .before .before .before .before .before .before .before .if2 .left, s .pre .0 .notes)
 
 loop-again : tie.Need-loop-again Inv-loop μ-loop
 loop-again c =
-    let l = c .before .before .before .before .before .before .before .before .before .before .before .before .before .before .before in
-    let s = c .before .before .before .before .before .before .before .before .before .before .before .before .before .before .before .before .before .before .before .before .before .before .before .before .before .before in
-    let e = c .before .before .before .before .before .before .before .before .before .before .before .before .before .before .before .before .before .before .before .columns-in .ensures in
-    (scan-turn _ _ _ _ _ _ _ _ _ _ _ (s .pre .0) (s .pre .1 .1 .0 .0) _ _ _ _ _ _ _ (l .loop .inv .0) _ _ _ e (c .before .before .before .before .before .before .before .before .before .before .before .before .before .next-column .ensures) (omega (arith, c .before .before .before .before .before .before .before .before .before .before .before .before .if2 .left, e)) _ (⊎-elim (λ w. w .1 ∙ code-further _ _ _ (w .0 .taken)) (λ w. w .1 ∙ code-same _ _ _ (w .0 .left)) (c .before .before .before .before .before .before .before .before .before .before .before .if3 .came)) _ _ _ _ (c .before .before .before .before .before .before .before .try-all .ensures .0), c .before .before .before .before .before .before .before .try-all .ensures .1, omega (arith, c .before .before .before .before .before .before .before .before .before .before .before .before .if2 .left, s .pre .0 .notes))
+    let l = c .before .before .before .before .before .before .before .before .before .before .before .before .before .before .before .before in
+    let s = c .before .before .before .before .before .before .before .before .before .before .before .before .before .before .before .before .before .before .before .before .before .before .before .before .before .before .before in
+    let e = c .before .before .before .before .before .before .before .before .before .before .before .before .before .before .before .before .before .before .before .before .columns-in .ensures in
+    (scan-turn _ _ _ _ _ _ _ _ _ _ _ (s .pre .0) (s .pre .1 .1 .0 .0) _ _ _ _ _ _ _ (l .loop .inv .0) _ _ _ e (c .before .before .before .before .before .before .before .before .before .before .before .before .before .before .next-column .ensures) (omega (arith, c .before .before .before .before .before .before .before .before .before .before .before .before .if2 .left, e)) _ (⊎-elim (λ w. w .1 ∙ code-further _ _ _ (w .0 .taken)) (λ w. w .1 ∙ code-same _ _ _ (w .0 .left)) (c .before .before .before .before .before .before .before .before .before .before .before .if3 .came)) _ _ _ _ (c .before .before .before .before .before .before .before .try-all .ensures .0), c .before .before .before .before .before .before .before .try-all .ensures .1, omega (arith, c .before .before .before .before .before .before .before .before .before .before .before .before .if2 .left, s .pre .0 .notes))
 
 same-length-7 : tie.Need-same-length-7 Inv-loop μ-loop
 same-length-7 c = c .before .loop .inv .0 .walking .long
@@ -178,14 +181,15 @@ walk-spec =
     loop-holds
     add-loop
     add-loop-2
+    cast-t29
     next-column-requires
+    cast-next
     add-if2
     add-if2-2
     same-length
     same-length-2
     same-length-3
     returns-2
-    cast-t29
     try-all-requires
     add-looks
     same-length-4
