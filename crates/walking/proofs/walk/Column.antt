@@ -7,7 +7,7 @@ use Prim.Native.Nat.{ℕ, zero, suc, _+_, _-_, _*_, _≤_, _<_, zero-le}
 use native.Mathlib.Omega.{arith}
 use lib.IntN.{ℤ}
 use lib.ListN.{length, getD, take, drop, set, length-append, length-map, length-set}
-use lib.Seq.{sets}
+use lib.Seq.{sets, length-sets}
 use Rattle.theory.specs.Lists.{count, first}
 use Rattle.theory.specs.Pages.{hits, pageHits, pageLooks}
 use Rattle.theory.proofs.Lowest.{hits-first, hits-none}
@@ -73,6 +73,15 @@ pub tries-all : (way : Way) (score : List (List ℕ)) (theme : List ℕ) (C : Li
     (found′ spent : ℕ) (columns′ : List ℕ) (shifts′ : List ℤ) → kept ≡ true → Tries way score theme C found columns shifts found′ spent columns′ shifts′
     → Tries way score theme (cond kept C []) found columns shifts found′ spent columns′ shifts′
 tries-all way score theme C found columns shifts found′ spent columns′ shifts′ e t = rw e t
+
+-- the buffers stay as long as they were
+module _ {way : Way} {score : List (List ℕ)} {theme : List ℕ} {tried : List Place} {found : ℕ} {columns : List ℕ} {shifts : List ℤ}
+    {found′ spent : ℕ} {columns′ : List ℕ} {shifts′ : List ℤ} (t : Tries way score theme tried found columns shifts found′ spent columns′ shifts′) where
+  pub tries-long : length columns′ ≡ length columns
+  tries-long = simp length-sets at (ap length (t .in-columns))
+
+  pub tries-long-shifts : length shifts′ ≡ length shifts
+  tries-long-shifts = simp length-sets at (ap length (t .in-shifts))
 
 -- ---- a column under way: `out` is what it gave so far
 

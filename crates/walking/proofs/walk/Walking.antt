@@ -9,7 +9,6 @@ use native.Mathlib.Nat.{le-refl}
 use native.Mathlib.Omega.{arith}
 use lib.IntN.{ℤ, pos}
 use lib.ListN.{length, length-append, length-map}
-use lib.Seq.{length-sets}
 use Rattle.theory.specs.Lists.{over}
 use Rattle.theory.specs.Pages.{pageHits, pageLooks, from}
 use Rattle.theory.proofs.Lists.{over-sets}
@@ -23,7 +22,7 @@ use Rattle.walking.specs.Starts.{Place, key, starts, hit, looks}
 use Rattle.walking.specs.Found.{columnsOf, shiftsOf}
 use Rattle.walking.specs.Walk.{Ready, Fits, columnStarts, Tries, Walks}
 use Rattle.walking.proofs.LookBound.{most-lt, sum-looks-le}
-use Rattle.walking.proofs.walk.Column.{tries-none}
+use Rattle.walking.proofs.walk.Column.{tries-none, tries-long, tries-long-shifts}
 use Rattle.walking.proofs.walk.Along.{keptFrom, kept-more, kept-end}
 
 pub record Walking (keep : ℕ → Bool) (way : Way) (cells : List ℕ) (h : ℕ) (theme : List ℕ) (j₀ x₀ : ℕ) (columns₀ : List ℕ) (shifts₀ : List ℤ)
@@ -135,8 +134,8 @@ module _ (keep : ℕ → Bool) (way : Way) (cells : List ℕ) (h : ℕ) (theme :
             in-shifts =
                 (rw (t .long) at (tries .in-shifts)) ∙ rw (t .in-shifts, map-append)
                 (over-sets shifts₀ (shiftsOf way (t .out)) (pos 0) (shiftsOf way tried) found (length-map (t .out) _ ∙ t .counted) (omega (arith, length-map tried (λ s. shiftOf way (s .code)), tried-le, t .room, t .same-room)));
-            long = (simp length-sets at (ap length (tries .in-columns))) ∙ t .long;
-            long-shifts = (simp length-sets at (ap length (tries .in-shifts))) ∙ t .long-shifts;
+            long = tries-long tries ∙ t .long;
+            long-shifts = tries-long-shifts tries ∙ t .long-shifts;
             same-room = t .same-room;
             room = omega (arith, step-count, tried-le, t .room);
             forward = omega (arith, t .forward);

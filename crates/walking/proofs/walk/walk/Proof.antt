@@ -11,6 +11,7 @@ use Rattle.score.specs.Score.{columnsIn}
 use Rattle.walking.specs.Alive.{Cached}
 use Rattle.walking.specs.Scan.{keepOf}
 use Rattle.walking.specs.Walk.{LentFor}
+use Rattle.walking.proofs.walk.Column.{tries-long, tries-long-shifts}
 use Rattle.walking.proofs.walk.Walking.{code-further, code-same, walk-start, walk-end, walk-full}
 use Rattle.walking.proofs.walk.Scanning.{Scanning, kept-reached, begins-at, scan-none, scan-stands, scan-bound, scan-turn}
 use Rattle.walking.proofs.walk.walk.Statement.{statement}
@@ -115,18 +116,12 @@ add-looks c =
     omega (arith, scan-bound _ _ _ _ _ _ _ _ _ _ _ (s .pre .0) (s .pre .1 .1 .0 .0) _ _ _ _ _ _ _ (l .loop .inv .0) _ _ _ e (c .before .before .before .before .before .before .before .before .before .before .before .before .before .next-column .ensures) (omega (arith, c .before .before .before .before .before .before .before .before .before .before .before .if2 .left, e)) _ (⊎-elim (λ w. w .1 ∙ code-further _ _ _ (w .0 .taken)) (λ w. w .1 ∙ code-same _ _ _ (w .0 .left)) (c .before .before .before .before .before .before .before .before .before .before .if3 .came)) _ _ _ _ (c .before .before .before .before .before .before .try-all .ensures .0))
 
 same-length-4 : tie.Need-same-length-4 Inv-loop μ-loop
-same-length-4 c =
-    let l = c .before .before .before .before .before .before .before .before .before .before .before .before .before .before .before .before in
-    let s = c .before .before .before .before .before .before .before .before .before .before .before .before .before .before .before .before .before .before .before .before .before .before .before .before .before .before .before in
-    let e = c .before .before .before .before .before .before .before .before .before .before .before .before .before .before .before .before .before .before .before .before .columns-in .ensures in
-    (scan-turn _ _ _ _ _ _ _ _ _ _ _ (s .pre .0) (s .pre .1 .1 .0 .0) _ _ _ _ _ _ _ (l .loop .inv .0) _ _ _ e (c .before .before .before .before .before .before .before .before .before .before .before .before .before .before .next-column .ensures) (omega (arith, c .before .before .before .before .before .before .before .before .before .before .before .before .if2 .left, e)) _ (⊎-elim (λ w. w .1 ∙ code-further _ _ _ (w .0 .taken)) (λ w. w .1 ∙ code-same _ _ _ (w .0 .left)) (c .before .before .before .before .before .before .before .before .before .before .before .if3 .came)) _ _ _ _ (c .before .before .before .before .before .before .before .try-all .ensures .0)) .walking .long
+same-length-4 c = tries-long (c .before .before .before .before .before .before .before .try-all .ensures .0) ∙ c .before .before .before .before .before .before .before .before .before .before .before .before .before .before .before .before .loop .inv .0 .walking .long
 
 same-length-5 : tie.Need-same-length-5 Inv-loop μ-loop
 same-length-5 c =
-    let l = c .before .before .before .before .before .before .before .before .before .before .before .before .before .before .before .before in
     let s = c .before .before .before .before .before .before .before .before .before .before .before .before .before .before .before .before .before .before .before .before .before .before .before .before .before .before .before in
-    let e = c .before .before .before .before .before .before .before .before .before .before .before .before .before .before .before .before .before .before .before .before .columns-in .ensures in
-    (scan-turn _ _ _ _ _ _ _ _ _ _ _ (s .pre .0) (s .pre .1 .1 .0 .0) _ _ _ _ _ _ _ (l .loop .inv .0) _ _ _ e (c .before .before .before .before .before .before .before .before .before .before .before .before .before .before .next-column .ensures) (omega (arith, c .before .before .before .before .before .before .before .before .before .before .before .before .if2 .left, e)) _ (⊎-elim (λ w. w .1 ∙ code-further _ _ _ (w .0 .taken)) (λ w. w .1 ∙ code-same _ _ _ (w .0 .left)) (c .before .before .before .before .before .before .before .before .before .before .before .if3 .came)) _ _ _ _ (c .before .before .before .before .before .before .before .try-all .ensures .0)) .walking .long-shifts ∙ sym (s .pre .1 .1 .0 .3)
+    tries-long-shifts (c .before .before .before .before .before .before .before .try-all .ensures .0) ∙ c .before .before .before .before .before .before .before .before .before .before .before .before .before .before .before .before .loop .inv .0 .walking .long-shifts ∙ sym (s .pre .1 .1 .0 .3)
 
 same-length-6 : tie.Need-same-length-6 Inv-loop μ-loop
 same-length-6 c = let s = c .before .before .before .before .before .before .before .before .before .before .before .before .before .before .before .before .before .before .before .before .before .before .before .before .before .before .before in c .before .before .before .before .before .before .before .try-all .ensures .1 .long ∙ sym (s .pre .1 .1 .1 .long)
