@@ -58,7 +58,7 @@ module _ {Start : Type 0} (keep : Start → Bool) (S : Search Start) where
 
     thin-left : (b : Bookmark) → Thin (S .hit) (left S b) (left (only keep S) b)
     thin-left b =
-        let test = λ (s : Start). atOrAfter b (S .shown s) in
+        let test : Start → Bool = λ s. atOrAfter b (S .shown s) in
         subst (Thin (S .hit) (left S b)) (hits-hits keep test (S .starts))
         (thin-filter (S .hit) keep (left S b) (λ s m. miss s (in-hits test (S .starts) m .0)))
 

@@ -12,6 +12,7 @@ use lib.IntN.{ℤ, pos}
 use lib.ListN.{length, getD, drop, length-map, List·getD-append}
 use borrow.Author.Tests.{lt-ltb, le-ltb, le-leb, lt-leb, ne-eqb}
 use Rattle.theory.specs.Lists.{over, last}
+use Rattle.theory.specs.Pages.{pageHits}
 use Rattle.theory.proofs.Going.{page-le}
 use Rattle.score.specs.declared.refusals.Refusal.{Refusal}
 use Rattle.score.specs.Score.{columnAt}
@@ -48,6 +49,9 @@ pub turned-page : (range : Range) (n r : ℕ) (buffers : Lent) (pairs : List Pai
     → readTurn (finishedBookmark range (columnAt n)) (length pairs) looks (written buffers pairs) ≡ turn range n r pairs looks
 turned-page range n r buffers pairs looks some room few = pick (decLt (length pairs) r)
   where
+    no-pair : Pair
+    no-pair = record { column = columnAt 0; shift = pos 0 }
+
     after : Room r (written buffers pairs)
     after = written-room buffers pairs room few
 
@@ -57,5 +61,34 @@ turned-page range n r buffers pairs looks some room few = pick (decLt (length pa
         let e : length pairs ≡ r = omega arith in
         let o : (ltb (length pairs) r || eqb r 0 || ltb r r) ≡ false =
         rw (le-ltb (length pairs) r (omega arith), ne-eqb r 0 (λ z. omega arith), le-ltb r r (omega arith)) in
-        rw (after .of-columns, after .of-shifts, o, le-leb r (length pairs) (omega arith), last-read (λ p. p .column .0) (buffers .columns) 0 _ pairs r e some)
-        (rw (last-read (λ p. p .shift) (buffers .shifts) (pos 0) _ pairs r e some))
+        rw (
+          after .of-columns,
+          after .of-shifts,
+          o,
+          le-leb r (length pairs) (omega arith),
+          last-read (λ p. p .column .0) (buffers .columns) 0 no-pair pairs r e some,
+          last-read (λ p. p .shift) (buffers .shifts) (pos 0) no-pair pairs r e some,
+        )
+
+-- ---- a call that is judged by rows, and then searches
+
+module _ {Start : Type 0} (rows : List Row) (S : Search Start) (b : Bookmark) (buffers : Lent) where
+  -- turned away
+  pub away-pages : {r : Refusal} {after : Lent} → paged rows S b buffers ≡ away buffers r → after ≡ buffers → Pages (paged rows S b buffers) (Refused r) after
+  away-pages p e = record { answers = sym (ap (λ (l : Leaf). l .answer) p); writes = e ∙ sym (ap (λ (l : Leaf). l .buffers) p) }
+
+  -- it found the page's pairs, counted its looks and wrote the pairs, and the answer was read off the buffers
+  pub went-pages : (r : ℕ) → 1 ≤ r → Room r buffers → Clear rows → {count looks : ℕ} {after : Lent} {t : Turn}
+      → count ≡ length (found S r b) → looks ≡ spent S r b → after ≡ written buffers (found S r b)
+      → t ≡ readTurn (finishedBookmark (S .range) (columnAt (S .columns))) count looks after
+      → Pages (paged rows S b buffers) (Turned t) after
+  went-pages r some room clear {count} {looks} {after} {t} c l w e =
+      let few : length (found S r b) ≤ r = omega (arith, length-map (pageHits (S .hit) r (left S b)) (S .shown), page-le (S .hit) r (left S b)) in
+      let p : t ≡ turn (S .range) (S .columns) r (found S r b) (spent S r b) =
+      e ∙ rw (c, l, w) (turned-page (S .range) (S .columns) r buffers (found S r b) (spent S r b) some room few) in
+      let q : record { answer = Turned t; buffers = after } ≡ paged rows S b buffers =
+      rw (p, w)
+      (sym
+      (paged-clear rows S b buffers clear
+      ∙ ap (λ (k : ℕ). record { answer = Turned (turn (S .range) (S .columns) k (found S k b) (spent S k b)); buffers = written buffers (found S k b) }) (room .of-columns))) in
+      record { answers = ap (λ (x : Leaf). x .answer) q; writes = ap (λ (x : Leaf). x .buffers) q }

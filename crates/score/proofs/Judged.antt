@@ -41,11 +41,12 @@ distinct-more row rows = step (Named (number row) rows)
 
 given-named : (rows : List Row) (k : ℕ) → GivenBy rows k → Named k rows ≡ true
 given-named [] k g = absurd g
-given-named (row ∷ rows) k g = step (eqb (number row) k) g
+given-named (row ∷ rows) k g = step (eqb (number row) k) g (given-named rows k)
   where
-    step : (t : Bool) → cond t (row .applies ≡ true) ((row .applies ≡ false) × GivenBy rows k) → cond t true (Named k rows) ≡ true
-    step true g = refl
-    step false g = given-named rows k (g .1)
+    step : (t : Bool) → cond t (row .applies ≡ true) ((row .applies ≡ false) × GivenBy rows k) → (GivenBy rows k → Named k rows ≡ true)
+        → cond t true (Named k rows) ≡ true
+    step true g ih = refl
+    step false g ih = ih (g .1)
 
 -- what a row after it gives is not its own number
 given-other : (row : Row) (rows : List Row) (k : ℕ) → distinct (row ∷ rows) ≡ true → GivenBy rows k → number row ≡ k → ⊥
