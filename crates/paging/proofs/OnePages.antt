@@ -3,12 +3,14 @@
 use mathlib.Core.Path.{_≡_, sym, ap, _∙_}
 use mathlib.Core.Bool.{true, false, not}
 use mathlib.Core.List.{List, map}
-use Prim.Native.Nat.{ℕ, _+_, _<_}
+use Prim.Native.Nat.{ℕ, _+_, _≤_, _<_}
+use native.Mathlib.Nat.{le-trans}
 use native.Mathlib.Omega.{arith}
 use lib.ListN.{length, length-map}
 use borrow.Author.Tests.{le-leb, lt-leb, lt-ltb}
 use Rattle.theory.specs.Pages.{hits}
 use Rattle.theory.proofs.Pages.{page-take}
+use Rattle.theory.proofs.Looks.{sum-hits, page-looks-le}
 use Rattle.theory.proofs.Hits.{hits-hits, hits-map, take-map}
 use Rattle.score.specs.Score.{columnAt}
 use Rattle.asking.specs.declared.bookmark.Pair.{Pair}
@@ -16,7 +18,7 @@ use Rattle.asking.specs.declared.bookmark.Bookmark.{Bookmark}
 use Rattle.asking.specs.Asking.{InRange}
 use Rattle.paging.specs.Lent.{Lent, Room, behind}
 use Rattle.paging.specs.Order.{atOrAfter}
-use Rattle.paging.specs.Search.{Search, listed, left, found}
+use Rattle.paging.specs.Search.{Search, listed, allLooks, left, found, spent}
 use Rattle.paging.specs.Page.{Leaf, lastPair}
 use Rattle.paging.specs.OnePage.{firstPairs, raised, PageOf}
 use Rattle.paging.proofs.Bookmarks.{after-raised, within-near}
@@ -33,13 +35,17 @@ module _ {Start : Type 0} (S : Search Start) (b : Bookmark) where
   pub first-pairs : (r : ℕ) → firstPairs r b (listed S) ≡ found S r b
   first-pairs r = rw at-or-after (take-map (S .shown) r (hits (S .hit) (left S b)) ∙ ap (map (S .shown)) (sym (page-take (S .hit) r (left S b))))
 
+-- a page has no more looks than the whole list
+pub page-within : {Start : Type 0} (S : Search Start) (r : ℕ) (b : Bookmark) → spent S r b ≤ allLooks S
+page-within {Start} S r b =
+    le-trans (page-looks-le (S .hit) (S .looks) r (left S b)) (sum-hits (S .looks) (λ (s : Start). atOrAfter b (S .shown s)) (S .starts))
+
 module _ {Start : Type 0} {S : Search Start} {r : ℕ} {call : Bookmark → Lent → Leaf} (calls : Calls S r call) (b : Bookmark) where
   -- if the room was filled, and if not
   goes : length (found S r b) ≡ r → (told calls b .finished ≡ false) × (told calls b .next ≡ raised (lastPair (found S r b)))
   goes e =
       let full = le-leb r (length (found S r b)) (omega (arith, e)) in
-      let f = sym (full-is S (calls .right) r (calls .some-room) b) ∙ full in
-      (
+      let f = sym (full-is S (calls .right) r (calls .some-room) b) ∙ full in (
         ap not full,
         next-is S (calls .right) r (calls .some-room) b f
             ∙ after-raised (within-near (calls .right .narrow) (last-within S (calls .right) r (calls .some-room) b f)),

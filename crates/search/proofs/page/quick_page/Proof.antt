@@ -1,8 +1,7 @@
 -- `search::page::quick_page` meets its contract: a walk that is turned away, or the answer that is read off the buffers of one
 -- that is done. Assumes nothing.
 use borrow.Author.Needs.{needs}
-use native.Mathlib.Omega.{arith}
-use Rattle.search.proofs.page.Calls.{quick-away, quick-room, quick-turns}
+use Rattle.search.proofs.page.Calls.{quick-away, quick-fits, quick-turns}
 use Rattle.search.proofs.page.quick_page.Statement.{statement}
 use Rattle.search.proofs.page.quick_page.Tie as tie
 
@@ -15,10 +14,16 @@ enum-known-w c = search needs
 columns-in-requires : tie.Need-columns-in-requires
 columns-in-requires c κs = search needs
 
+cast-t22 : tie.Need-cast-t22
+cast-t22 c =
+    let found = c .before .before in
+    record { fits = quick-fits _ _ _ _ _ _ _ _ _ (rw (found .w .given .1) at (found .before .before .before .before .before .before .before .walk-quick .ensures)) (c .columns-in .ensures) }
+
+finished-requires : tie.Need-finished-requires
+finished-requires c κs = search needs
+
 turned-requires : tie.Need-turned-requires
-turned-requires c κs =
-    let r = quick-room _ _ _ _ _ _ _ _ _ (rw (c .before .before .before .before .w .given .1) at (c .before .before .before .before .before .before .before .before .before .before .before .walk-quick .ensures)) in
-    (r .0, r .1, omega (arith, c .before .before .columns-in .ensures, r .2))
+turned-requires c κs = search needs
 
 enum-known-e : tie.Need-enum-known-e
 enum-known-e c = search needs
@@ -33,7 +38,11 @@ same-length-3 : tie.Need-same-length-3
 same-length-3 c = search needs
 
 returns : tie.Need-returns
-returns c = quick-turns _ _ _ _ _ _ _ _ _ (rw (c .before .before .before .before .before .w .given .1) at (c .before .before .before .before .before .before .before .before .before .before .before .before .walk-quick .ensures)) (c .before .before .before .columns-in .ensures) (c .turned .ensures)
+returns c =
+    let ended = c .before .before .before in
+    let found = ended .before .before .before in
+    quick-turns _ _ _ _ _ _ _ _ _ (rw (found .w .given .1) at (found .before .before .before .before .before .before .before .walk-quick .ensures)) (ended .before .columns-in .ensures)
+    (ended .finished .ensures) (c .turned .ensures)
 
 same-length-4 : tie.Need-same-length-4
 same-length-4 c = search needs
@@ -54,6 +63,8 @@ quick-page-spec =
     walk-quick-requires
     enum-known-w
     columns-in-requires
+    cast-t22
+    finished-requires
     turned-requires
     enum-known-e
     same-length
