@@ -57,6 +57,11 @@ row7 sets = row 7 (some badSet sets) (first badSet sets)
 
 -- ---- when a refusal is given, over any rows
 
+-- no number stands at two rows, so that a number tells its row. The order of the numbers is free
+abbrev pub distinct : List Row → Bool
+distinct [] = true
+distinct (row ∷ rows) = cond (some (λ (r : Row). eqb (r .given .number) (row .given .number)) rows) false (distinct rows)
+
 -- refusal k is given: no row before that of number k applies, and that one does
 abbrev pub GivenBy : List Row → (k : ℕ) → Type 0
 GivenBy [] k = ⊥

@@ -5,7 +5,6 @@ use mathlib.Core.Bool.{true, false}
 use mathlib.Core.Logic.{_↔_}
 use mathlib.Core.List.{List}
 use Prim.Native.Nat.{ℕ}
-use native.Mathlib.Omega.{arith}
 use lib.IntN.{ℤ}
 use Rattle.theory.specs.Lists.{some, first}
 use Rattle.score.specs.declared.refusals.Refusal.{Refusal}
@@ -48,7 +47,7 @@ module _ (cells : List ℕ) (h : ℕ) (theme : List ℕ) (way : Way) (b : Bookma
       ↔ (GivenBy (plainRows cells h theme way b columns shifts) k × (p ≡ placeBy (plainRows cells h theme way b columns shifts) k))
   unfolding plainPage
   plain-refused k p =
-      answer-refused (λ (l : Leaf). l .answer) plainRefused (λ r. refl) plainLeaf _ refl (plainRows cells h theme way b columns shifts) (omega arith) k p
+      answer-refused (λ (l : Leaf). l .answer) plainRefused (λ r. refl) plainLeaf _ refl (plainRows cells h theme way b columns shifts) refl k p
 
   -- so the answer is refusal 3 exactly where rows 1 and 2 do not apply and row 3 does, with the first bad cell; and so on
   pub plain-refused-3 : (p : ℕ) → (plainPage cells h theme way b columns shifts .answer ≡ Refused (record { number = 3; place = p }))

@@ -4,7 +4,6 @@ use mathlib.Core.Path.{_≡_, refl, sym, ap, _∙_}
 use mathlib.Core.Logic.{_↔_}
 use mathlib.Core.List.{List}
 use Prim.Native.Nat.{ℕ}
-use native.Mathlib.Omega.{arith}
 use lib.IntN.{ℤ}
 use Rattle.score.specs.declared.refusals.Refusal.{Refusal}
 use Rattle.score.specs.Score.{scoreOf}
@@ -52,7 +51,7 @@ module _ (cells : List ℕ) (h : ℕ) (theme : List ℕ) (way : Way) (b : Bookma
       ↔ (GivenBy (quickRows cells h theme way b sets table columns shifts) k × (p ≡ placeBy (quickRows cells h theme way b sets table columns shifts) k))
   unfolding quickPage
   quick-refused k p =
-      answer-refused (λ (l : QuickLeaf). l .leaf .answer) quickRefused (λ r. refl) quickLeaf _ refl (quickRows cells h theme way b sets table columns shifts) (omega arith) k p
+      answer-refused (λ (l : QuickLeaf). l .leaf .answer) quickRefused (λ r. refl) quickLeaf _ refl (quickRows cells h theme way b sets table columns shifts) refl k p
 
   pub quick-kept : (r : Refusal) → quickPage cells h theme way b sets table columns shifts .leaf .answer ≡ Refused r
       → (quickPage cells h theme way b sets table columns shifts .leaf .columns ≡ columns) × (quickPage cells h theme way b sets table columns shifts .leaf .shifts ≡ shifts)

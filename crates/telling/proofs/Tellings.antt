@@ -136,8 +136,8 @@ module _ (cells : List ℕ) (h : ℕ) (theme : List ℕ) (way : Way) where
         ↔ (GivenBy (tellRows cells h theme) k × (p ≡ placeBy (tellRows cells h theme) k))
     unfolding searchTold
     search-refused k p = (
-      judge-shown away (told lines out) (λ (t : Tale) (s : Refusal). t .answer ≡ Refused s) (λ r s e. refused-same e) (never-refused lines out) (tellRows cells h theme) 0
-          (omega arith) (record { number = k; place = p }),
+      judge-shown away (told lines out) (λ (t : Tale) (s : Refusal). t .answer ≡ Refused s) (λ r s e. refused-same e) (never-refused lines out) (tellRows cells h theme) refl
+          (record { number = k; place = p }),
       λ g. ap (λ (t : Tale). t .answer) (judge-given away (told lines out) (tellRows cells h theme) k (g .0))
           ∙ ap (λ (q : ℕ). Refused (record { number = k; place = q })) (sym (g .1)),
     )
