@@ -11,6 +11,7 @@ use lib.IntN.{ℤ}
 use lib.ListN.{length}
 use Rattle.theory.specs.Pages.{pageHits, pageLooks, from}
 use Rattle.theory.proofs.Lists.{some-first}
+use Rattle.score.specs.Limits.{mostTracks, mostColumns, mostCells}
 use Rattle.score.specs.declared.refusals.Refusal.{Refusal}
 use Rattle.score.specs.Score.{columnsIn, scoreOf}
 use Rattle.score.specs.Refusals.{Row, judge, row1, row2, row3, row6, row7, badCell, badSet}
@@ -55,11 +56,11 @@ nowhere = record { place = omega arith }
 
 -- ---- rows that name one
 
-cells-few : (cells : List ℕ) (h : ℕ) → row1 h .applies ≡ false → row2 cells h .applies ≡ false → length cells ≤ 32768
+cells-few : (cells : List ℕ) (h : ℕ) → row1 h .applies ≡ false → row2 cells h .applies ≡ false → length cells ≤ mostCells
 cells-few cells h a b =
     let one = row1-clear h .0 a in
     let two = row2-clear cells h .0 b in
-    omega (arith, columns-whole cells h (two .0 .0), mul-le-mul {n₁ = columnsIn cells h} {m₁ = h} {n₂ = 2048} {m₂ = 16} (two .1) (one .1))
+    omega (arith, columns-whole cells h (two .0 .0), mul-le-mul {n₁ = columnsIn cells h} {m₁ = h} {n₂ = mostColumns} {m₂ = mostTracks} (two .1) (one .1))
 
 score-small : (X : Type 0) (cells : List ℕ) (h : ℕ) (rows : List Row) → (row2 cells h .applies ≡ false → SmallRows X rows)
     → SmallRows X (row1 h ∷ row2 cells h ∷ row3 cells ∷ rows)

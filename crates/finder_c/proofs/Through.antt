@@ -13,7 +13,7 @@ use Rattle.preparing.specs.Preparing.{Prepares}
 use Rattle.asking.specs.declared.way.Way.{Way}
 use Rattle.search.specs.declared.page.Page.{Page}
 use Rattle.search.specs.Page.{PlainPages, QuickPages, plainPage, quickPage}
-use Rattle.finder_c.specs.Numbers.{wayOf, noCall, preparationNumber, pageNumber, pageNumbers}
+use Rattle.finder_c.specs.Numbers.{wayOf, noCall, preparationNumber, pageNumber, pageNumbers, answerNumbers, notCalled}
 use Rattle.finder_c.specs.Small.{SmallPreparation, SmallPage}
 use Rattle.finder_c.specs.Calls.{CPrepares, CPlainPages, CQuickPages, CLeaf, CQuickLeaf, bookmark, leafNumbers, quickNumbers, noLeaf}
 use Rattle.finder_c.proofs.SmallAnswers.{prepared-small, plain-small, quick-small}
@@ -35,10 +35,10 @@ quick-pages-small {cells} {h} {theme} {way} {column} {shift} {sets} {table} {col
 
 -- ---- whether it is a call
 
-pub call-long : (way len : ℕ) → noCall way len ≡ false → len ≡ 5
-call-long way len e = eqb-true len 5 (not-false (eqb len 5) (step (ltb 1 way) e))
+pub call-long : (way len : ℕ) → noCall way len ≡ false → len ≡ answerNumbers
+call-long way len e = eqb-true len answerNumbers (not-false (eqb len answerNumbers) (step (ltb 1 way) e))
   where
-    step : (b : Bool) → (b || not (eqb len 5)) ≡ false → not (eqb len 5) ≡ false
+    step : (b : Bool) → (b || not (eqb len answerNumbers)) ≡ false → not (eqb len answerNumbers) ≡ false
     step true e = absurd (true≢false e)
     step false e = e
 
@@ -50,11 +50,11 @@ prepares-through a e = record { results = e ∙ ap preparationNumber (a .answers
 
 module _ {cells : List ℕ} {h : ℕ} {theme : List ℕ} {way column : ℕ} {shift : ℤ} where
   pub plain-none : {columns : List ℕ} {shifts answer : List ℤ} → noCall way (length answer) ≡ true
-      → CPlainPages cells h theme way column shift columns shifts answer (pos 255) columns shifts answer
+      → CPlainPages cells h theme way column shift columns shifts answer (pos notCalled) columns shifts answer
   plain-none {columns} {shifts} {answer} e = record { results = rw e; writes-columns = rw e; writes-shifts = rw e; writes-answer = rw e }
 
   pub quick-none : {sets table columns : List ℕ} {shifts answer : List ℤ} → noCall way (length answer) ≡ true
-      → CQuickPages cells h theme way column shift sets table columns shifts answer (pos 255) table columns shifts answer
+      → CQuickPages cells h theme way column shift sets table columns shifts answer (pos notCalled) table columns shifts answer
   quick-none {sets} {table} {columns} {shifts} {answer} e =
       record { results = rw e; fills-table = rw e; writes-columns = rw e; writes-shifts = rw e; writes-answer = rw e }
 

@@ -10,7 +10,7 @@ use Rattle.score.specs.Score.{columnAt}
 use Rattle.preparing.specs.Preparing.{prepared}
 use Rattle.asking.specs.declared.bookmark.Bookmark.{Bookmark}
 use Rattle.search.specs.Page.{Leaf, QuickLeaf, plainPage, quickPage}
-use Rattle.finder_c.specs.Numbers.{wayOf, noCall, preparationNumber, pageNumber, pageNumbers}
+use Rattle.finder_c.specs.Numbers.{notCalled, wayOf, noCall, preparationNumber, pageNumber, pageNumbers}
 
 -- finder_prepare
 pub record CPrepares (cells : List ℕ) (h : ℕ) (sets : List ℕ) (result : ℤ) (sets′ : List ℕ) : Type 0 where
@@ -39,7 +39,7 @@ leafNumbers leaf answer =
 
 -- no call: 255, and nothing is written
 abbrev pub noLeaf : (columns : List ℕ) (shifts answer : List ℤ) → CLeaf
-noLeaf columns shifts answer = record { result = pos 255; columns = columns; shifts = shifts; answer = answer }
+noLeaf columns shifts answer = record { result = pos notCalled; columns = columns; shifts = shifts; answer = answer }
 
 abbrev pub cPlainPage : (cells : List ℕ) (h : ℕ) (theme : List ℕ) (way column : ℕ) (shift : ℤ) (columns : List ℕ) (shifts answer : List ℤ) → CLeaf
 cPlainPage cells h theme way column shift columns shifts answer =

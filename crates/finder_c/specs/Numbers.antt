@@ -14,13 +14,21 @@ use Rattle.search.specs.declared.page.Turn.{Turn}
 use Rattle.search.specs.declared.page.Page.{Page}
 use Rattle.search.specs.declared.page.Page.the-variants.{Turned, Refused}
 
+-- how many numbers the answer of a page has
+abbrev pub answerNumbers : ℕ
+answerNumbers = 5
+
+-- the result where there was no call
+abbrev pub notCalled : ℕ
+notCalled = 255
+
 -- 0 exact, 1 octave
 abbrev pub wayOf : ℕ → Way
 wayOf way = cond (eqb way 0) Exact Octave
 
 -- the number is no way, or the answer has not five places: the result is 255
 abbrev pub noCall : (way len : ℕ) → Bool
-noCall way len = ltb 1 way || not (eqb len 5)
+noCall way len = ltb 1 way || not (eqb len answerNumbers)
 
 abbrev pub refusalNumber : Refusal → ℤ
 refusalNumber r = pos (r .number + 256 * r .place)

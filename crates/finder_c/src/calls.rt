@@ -1,6 +1,7 @@
 // The exported calls. A slice is a pointer and a length in C, and a number is itself. No call asks anything of its caller
 // but that the memory lent is there: what cannot be answered is refused, and a refused call writes nothing.
 
+use crate::told::NOT_CALLED;
 use crate::told::no_call;
 use crate::told::told_page;
 use crate::told::told_preparation;
@@ -37,7 +38,7 @@ pub extern "C" fn finder_plain_page(
     ensures { λ r. ⌜ CPlainPages (now (cells .entry)) tracks (now (theme .entry)) way column shift (now (columns .entry)) (now (shifts .entry)) (now (answer .entry)) r (now (columns .exit)) (now (shifts .exit)) (now (answer .exit)) ⌝ }
 {
     if no_call(way, answer.len()) {
-        return 255;
+        return NOT_CALLED;
     }
     let bookmark = Bookmark {
         column: Column(column),
@@ -65,7 +66,7 @@ pub extern "C" fn finder_quick_page(
     ensures { λ r. ⌜ CQuickPages (now (cells .entry)) tracks (now (theme .entry)) way column shift (now (sets .entry)) (now (table .entry)) (now (columns .entry)) (now (shifts .entry)) (now (answer .entry)) r (now (table .exit)) (now (columns .exit)) (now (shifts .exit)) (now (answer .exit)) ⌝ }
 {
     if no_call(way, answer.len()) {
-        return 255;
+        return NOT_CALLED;
     }
     let bookmark = Bookmark {
         column: Column(column),

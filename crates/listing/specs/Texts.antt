@@ -8,6 +8,7 @@ use Prim.Native.Nat.{ℕ, _≤_}
 use lib.Dec.{eqb}
 use lib.ListN.{length}
 use Rattle.theory.specs.Lists.{join}
+use Rattle.score.specs.Limits.{mostTracks, mostColumns, highestPitch, restCell}
 use Rattle.asking.specs.declared.way.Way.{Way}
 use Rattle.asking.specs.declared.way.Way.the-variants.{Exact, Octave}
 use Rattle.reading.specs.Reading.{themeWord, exactWord, octaveWord, chordWord, Theme}
@@ -17,7 +18,7 @@ use Rattle.telling.specs.Text.{decimal}
 -- ---- the text of a request
 
 abbrev pub cellText : ℕ → List ℕ
-cellText value = cond (eqb value 255) (45 ∷ []) (decimal value)
+cellText value = cond (eqb value restCell) (45 ∷ []) (decimal value)
 
 unfoldable pub fieldsText : List ℕ → List ℕ
 fieldsText [] = 10 ∷ []
@@ -44,10 +45,10 @@ Each P (x ∷ xs) = P x × Each P xs
 
 -- a note is 0 to 127; a cell is that, or a rest
 abbrev pub IsNote : ℕ → Type 0
-IsNote value = value ≤ 127
+IsNote value = value ≤ highestPitch
 
 abbrev pub IsCell : ℕ → Type 0
-IsCell value = (value ≤ 127) ⊎ (value ≡ 255)
+IsCell value = (value ≤ highestPitch) ⊎ (value ≡ restCell)
 
 -- a chord of h cells
 pub record IsChord (h : ℕ) (column : List ℕ) : Type 0 where
@@ -65,7 +66,7 @@ pub record Right (q : Request) : Type 0 where
   pub theme : IsTheme (q .theme)
   pub tracks : ℕ
   pub tracks-some : 1 ≤ tracks
-  pub tracks-few : tracks ≤ 16
+  pub tracks-few : tracks ≤ mostTracks
   pub columns-some : 1 ≤ length (q .columns)
-  pub columns-few : length (q .columns) ≤ 2048
+  pub columns-few : length (q .columns) ≤ mostColumns
   pub columns : Each (IsChord tracks) (q .columns)

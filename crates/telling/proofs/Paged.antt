@@ -13,6 +13,8 @@ use Rattle.theory.specs.Pages.{hits, pageHits, rest, full}
 use Rattle.theory.proofs.Pages.{page-take, rest-drop, rest-nil, length-last, rest-less}
 use Rattle.theory.proofs.Looks.{looks-split}
 use Rattle.theory.proofs.Going.{page-le}
+use Rattle.score.specs.Limits.{tableWords}
+use Rattle.telling.specs.Telling.{room}
 use Rattle.score.specs.declared.refusals.Refusal.{Refusal}
 use Rattle.score.specs.Score.{scoreOf}
 use Rattle.score.specs.Sets.{sets as setsOf}
@@ -29,7 +31,7 @@ use Rattle.search.specs.Reading.{readPairs}
 use Rattle.search.specs.Demands.{candidateLooks}
 use Rattle.search.proofs.Paging.{Search, Calls, found as isHit, cost, inside, left, places, answer, call-answer, call-read, next-left, next-range}
 use Rattle.telling.specs.Lines.{hitLines, endLine, linesOf}
-use Rattle.telling.specs.Steps.{Wrote}
+use Rattle.telling.specs.Steps.{Wrote, pagePairs}
 use Rattle.telling.proofs.Puts.{wrote-then, wrote-room}
 use Rattle.telling.proofs.Searching.{searchOf, lines-append, pairs-few, looks-few, lines-few, leftHits, leftLooks, Paging, callOf, calls}
 
@@ -76,7 +78,7 @@ module _ (cells : List ℕ) (h : ℕ) (theme : List ℕ) (way : Way) (lent out�
 
   module _ {table columns : List ℕ} {shifts : List ℤ} {out : List ℕ} {b : Bookmark} {at found spent : ℕ}
       (p : Paging cells h theme way lent out₀ table columns shifts out b at found spent true) where
-    all-room : length (hitLines (pairs way (scoreOf cells h) theme)) ≤ 458546
+    all-room : length (hitLines (pairs way (scoreOf cells h) theme)) ≤ room
     unfolding linesOf
     all-room =
         omega (
@@ -101,8 +103,8 @@ module _ (cells : List ℕ) (h : ℕ) (theme : List ℕ) (way : Way) (lent out�
         turn-is : t ≡ answer S b
         turn-is = let d = answered in cc
 
-        pub turn-written : t .written ≤ 256
-        turn-written = omega (arith, ap (λ (u : Turn). u .written) turn-is, page-le (isHit S) 256 (left S b))
+        pub turn-written : t .written ≤ pagePairs
+        turn-written = omega (arith, ap (λ (u : Turn). u .written) turn-is, page-le (isHit S) pagePairs (left S b))
 
         turn-pairs : readPairs (t .written) columns′ shifts′ ≡ map (pairAt way) (places S b)
         turn-pairs =
@@ -114,13 +116,13 @@ module _ (cells : List ℕ) (h : ℕ) (theme : List ℕ) (way : Way) (lent out�
 
         -- the pairs that are left
         abbrev others : List Pair
-        others = map (pairAt way) (hits (isHit S) (rest (isHit S) 256 (left S b)))
+        others = map (pairAt way) (hits (isHit S) (rest (isHit S) pagePairs (left S b)))
 
         turn-parts : pairs way (scoreOf cells h) theme ≡ p .done ++ (readPairs (t .written) columns′ shifts′ ++ others)
         turn-parts =
             p .parts
-            ∙ ap (λ (l : List Place). p .done ++ map (pairAt way) l) (page-rest (isHit S) 256 (left S b))
-            ∙ ap (λ (l : List Pair). p .done ++ l) (map-append (pairAt way) (places S b) (hits (isHit S) (rest (isHit S) 256 (left S b))))
+            ∙ ap (λ (l : List Place). p .done ++ map (pairAt way) l) (page-rest (isHit S) pagePairs (left S b))
+            ∙ ap (λ (l : List Pair). p .done ++ l) (map-append (pairAt way) (places S b) (hits (isHit S) (rest (isHit S) pagePairs (left S b))))
             ∙ ap (λ (l : List Pair). p .done ++ (l ++ others)) (sym turn-pairs)
 
         turn-lines : hitLines (pairs way (scoreOf cells h) theme) ≡ hitLines (p .done) ++ (hitLines (readPairs (t .written) columns′ shifts′) ++ hitLines others)
@@ -154,8 +156,8 @@ module _ (cells : List ℕ) (h : ℕ) (theme : List ℕ) (way : Way) (lent out�
               p .counted,
             )
 
-        turn-paid : candidateLooks way (scoreOf cells h) theme lent ≡ spent + t .looks + sum (map (cost S) (rest (isHit S) 256 (left S b)))
-        turn-paid = omega (arith, p .paid, looks-split (isHit S) (cost S) 256 (left S b), ap (λ (u : Turn). u .looks) turn-is)
+        turn-paid : candidateLooks way (scoreOf cells h) theme lent ≡ spent + t .looks + sum (map (cost S) (rest (isHit S) pagePairs (left S b)))
+        turn-paid = omega (arith, p .paid, looks-split (isHit S) (cost S) pagePairs (left S b), ap (λ (u : Turn). u .looks) turn-is)
 
         pub turn-looks : spent + t .looks < 2 ^ 32
         turn-looks = omega (arith, turn-paid, looks-few cells h theme way (p .accepted) lent)
@@ -163,7 +165,7 @@ module _ (cells : List ℕ) (h : ℕ) (theme : List ℕ) (way : Way) (lent out�
         pub turn-less : turnsLeft S (t .next) (not (t .finished)) < turnsLeft S b true
         turn-less = subst (λ (u : Turn). turnsLeft S (u .next) (not (u .finished)) < turnsLeft S b true) (sym turn-is) (left-less S c b)
 
-        pub turn-more : {at′ : ℕ} {out′ : List ℕ} → length table′ ≡ 4096 → length columns′ ≡ 256 → length shifts′ ≡ 256
+        pub turn-more : {at′ : ℕ} {out′ : List ℕ} → length table′ ≡ tableWords → length columns′ ≡ pagePairs → length shifts′ ≡ pagePairs
             → Wrote (hitLines (readPairs (t .written) columns′ shifts′)) at out at′ out′
             → Paging cells h theme way lent out₀ table′ columns′ shifts′ out′ (t .next) at′ (found + t .written) (spent + t .looks) (not (t .finished))
         turn-more tl cl sl w =

@@ -13,6 +13,8 @@ use Rattle.theory.specs.Pages.{hits, from}
 use Rattle.theory.proofs.Pages.{hits-le}
 use Rattle.theory.proofs.Members.{in-hits}
 use Rattle.theory.proofs.Bookmarks.{from-all}
+use Rattle.telling.specs.Telling.{room}
+use Rattle.score.specs.Limits.{mostTracks, tableWords}
 use Rattle.preparing.specs.declared.sets.Preparation.{Preparation}
 use Rattle.preparing.specs.declared.sets.Preparation.the-variants as Preparations
 use Rattle.score.specs.Score.{columnsIn, scoreOf}
@@ -42,14 +44,14 @@ use Rattle.search.proofs.Searches.{quick-calls}
 use Rattle.search.proofs.Quicker.{own-sets, own-pairs}
 use Rattle.search.proofs.Demands.{all-looks-le, candidate-looks-le, quick-pairs}
 use Rattle.telling.specs.Lines.{hitLine, hitLines, endLine, linesOf}
-use Rattle.telling.specs.Steps.{Wrote, Room}
+use Rattle.telling.specs.Steps.{Wrote, Room, pagePairs}
 use Rattle.telling.proofs.Puts.{wrote-nil}
 use Rattle.telling.proofs.Widths.{lines-le, end-le}
 
 -- what is sought, in pages of 256
 abbrev pub searchOf : (cells : List ℕ) (h : ℕ) (theme : List ℕ) → Way → (lent : List ℕ) → Search
 searchOf cells h theme way lent =
-    record { way = way; score = scoreOf cells h; theme = theme; reached = quickStarts way (scoreOf cells h) theme (themeTable theme) lent; room = 256 }
+    record { way = way; score = scoreOf cells h; theme = theme; reached = quickStarts way (scoreOf cells h) theme (themeTable theme) lent; room = pagePairs }
 
 -- ---- the sets that are prepared are the score's own
 
@@ -87,7 +89,7 @@ module _ (cells : List ℕ) (h : ℕ) (theme : List ℕ) (way : Way) (a : Accept
         length-map (hits (hit way (scoreOf cells h) theme) (starts way (scoreOf cells h) theme)) (pairAt way),
         hits-le (hit way (scoreOf cells h) theme) (starts way (scoreOf cells h) theme),
         starts-le way (scoreOf cells h) theme h (column-le (columnsIn cells h) h cells),
-        mul-le-mul {n₁ = length (scoreOf cells h) + 1 - length theme} {m₁ = h} {n₂ = 2047} {m₂ = 16}
+        mul-le-mul {n₁ = length (scoreOf cells h) + 1 - length theme} {m₁ = h} {n₂ = 2047} {m₂ = mostTracks}
             (omega (arith, score-length cells h, a .columns-few, a .notes-some)) (a .tracks-few),
       )
 
@@ -97,13 +99,13 @@ module _ (cells : List ℕ) (h : ℕ) (theme : List ℕ) (way : Way) (a : Accept
         arith,
         candidate-looks-le cells h theme way lent,
         all-looks-le cells h theme way,
-        mul-le-mul {n₁ = (columnsIn cells h + 1 - length theme) * h} {m₁ = length theme - 1} {n₂ = 2047 * 16} {m₂ = 31}
-            (mul-le-mul {n₁ = columnsIn cells h + 1 - length theme} {m₁ = h} {n₂ = 2047} {m₂ = 16} (omega (arith, a .columns-few, a .notes-some)) (a .tracks-few))
+        mul-le-mul {n₁ = (columnsIn cells h + 1 - length theme) * h} {m₁ = length theme - 1} {n₂ = 2047 * mostTracks} {m₂ = 31}
+            (mul-le-mul {n₁ = columnsIn cells h + 1 - length theme} {m₁ = h} {n₂ = 2047} {m₂ = mostTracks} (omega (arith, a .columns-few, a .notes-some)) (a .tracks-few))
             (omega (arith, a .notes-few)),
       )
 
   -- all lines have room
-  pub lines-few : length (linesOf way (scoreOf cells h) theme) ≤ 458546
+  pub lines-few : length (linesOf way (scoreOf cells h) theme) ≤ room
   unfolding linesOf
   lines-few =
       omega (
@@ -152,8 +154,8 @@ module _ (cells : List ℕ) (h : ℕ) (theme : List ℕ) (way : Way) (lent : Lis
   lent-right : AcceptedSets cells h lent
   lent-right = subst (AcceptedSets cells h) (sym o) own-sets
 
-  pub calls : (table : List ℕ) → length table ≡ 4096 → Calls S (callOf table)
-  calls table e = quick-calls cells h theme way a 256 (omega arith) lent lent-right (λ _ _ _. table) (λ _ _ _. e)
+  pub calls : (table : List ℕ) → length table ≡ tableWords → Calls S (callOf table)
+  calls table e = quick-calls cells h theme way a pagePairs (omega arith) lent lent-right (λ _ _ _. table) (λ _ _ _. e)
 
   pub paging-start : {table columns : List ℕ} {shifts : List ℤ} {out : List ℕ} → Room table columns shifts out
       → Paging cells h theme way lent out table columns shifts out (firstBookmark (rangeOf way)) 0 0 0 true

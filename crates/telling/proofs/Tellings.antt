@@ -45,14 +45,14 @@ refused-same e = cc
 module _ (text out : List ℕ) where
   pub tells-short : length out < room → Tells (told text out) Short out
   unfolding told
-  tells-short h = record { answers = rw (lt-ltb (length out) 458546 h); writes = rw (lt-ltb (length out) 458546 h) }
+  tells-short h = record { answers = rw (lt-ltb (length out) room h); writes = rw (lt-ltb (length out) room h) }
 
   pub tells-told : length text ≤ room → room ≤ length out → {r : ℕ} {out′ : List ℕ} → Wrote text 0 out r out′ → Tells (told text out) (Told r) out′
   unfolding told
   tells-told few h w =
       record {
-        answers = rw (le-ltb (length out) 458546 h) (ap Told (w .place ∙ zero-add (length text)));
-        writes = rw (le-ltb (length out) 458546 h) (w .is ∙ over-sets out [] 0 text 0 refl (omega arith));
+        answers = rw (le-ltb (length out) room h) (ap Told (w .place ∙ zero-add (length text)));
+        writes = rw (le-ltb (length out) room h) (w .is ∙ over-sets out [] 0 text 0 refl (omega arith));
       }
 
   abbrev short : Tale

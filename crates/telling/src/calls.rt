@@ -1,5 +1,6 @@
 // The calls: the text of a search, or of a refused input, from the front of a buffer.
 
+use crate::limits::ROOM;
 use crate::pages::search_lines;
 use crate::writing::refused_line;
 use asking::Bookmark;
@@ -35,7 +36,7 @@ pub fn tell(cells: &[u8], tracks: usize, theme: &[u8], way: Way, out: &mut [u8])
     ) {
         return Telling::Refused(e);
     }
-    if out.len() < 458546 {
+    if out.len() < ROOM {
         return Telling::Short;
     }
     Telling::Told(search_lines(cells, tracks, theme, way, out))
@@ -45,7 +46,7 @@ pub fn tell(cells: &[u8], tracks: usize, theme: &[u8], way: Way, out: &mut [u8])
 pub fn refuse(line: u32, out: &mut [u8]) -> Telling
     ensures { λ r. ⌜ Tells (told (refusedLine line) (now (out .entry))) r (now (out .exit)) ⌝ }
 {
-    if out.len() < 458546 {
+    if out.len() < ROOM {
         return Telling::Short;
     }
     Telling::Told(refused_line(out, 0, line))

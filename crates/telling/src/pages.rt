@@ -1,10 +1,13 @@
 // The search: as many quick pages as there are, each written out as it comes, and the line behind them.
 
+use crate::limits::PAGE_PAIRS;
 use crate::writing::end_line;
 use crate::writing::hit_lines;
 use asking::Bookmark;
 use asking::Way;
 use preparing::prepare;
+use score::MOST_COLUMNS;
+use score::TABLE_WORDS;
 use score::columns_in;
 use search::Page;
 use search::quick_page;
@@ -13,6 +16,7 @@ ghost use lib.ListN.{length};
 ghost use Rattle.score.specs.Score.{scoreOf};
 ghost use Rattle.asking.specs.Asking.{Accepted};
 ghost use Rattle.telling.specs.Lines.{linesOf};
+ghost use Rattle.telling.specs.Telling.{room};
 ghost use Rattle.telling.specs.Steps.{Wrote, Sought, Asked};
 
 // All pages by the score's own sets, with room for some pairs in the two buffers, into the output from its front.
@@ -95,13 +99,13 @@ fn search_in(
 // The same with room of its own for all that is between.
 pub fn search_lines(cells: &[u8], tracks: usize, theme: &[u8], way: Way, out: &mut [u8]) -> usize
     requires { ⌜ Accepted (now cells) tracks (now theme) ⌝ }
-    requires { ⌜ 458546 ≤ length (now out) ⌝ }
+    requires { ⌜ room ≤ length (now out) ⌝ }
     ensures { λ r. ⌜ Wrote (linesOf way (scoreOf (now (cells .entry)) tracks) (now (theme .entry))) 0 (now (out .entry)) r (now (out .exit)) ⌝ }
 {
-    let mut sets = [0u16; 2047];
-    let mut table = [0u32; 4096];
-    let mut places = [0u16; 256];
-    let mut shifts = [0i16; 256];
+    let mut sets = [0u16; MOST_COLUMNS - 1];
+    let mut table = [0u32; TABLE_WORDS];
+    let mut places = [0u16; PAGE_PAIRS];
+    let mut shifts = [0i16; PAGE_PAIRS];
     search_in(
         cells,
         tracks,
