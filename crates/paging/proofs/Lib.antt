@@ -9,3 +9,4 @@ pub mod OnePages
 pub mod Fewer
 pub mod Answers
 pub mod Turnings
+pub mod UnderWay

@@ -27,7 +27,8 @@ use Rattle.asking.specs.Refusals.{row9, row10}
 use Rattle.asking.specs.Bookmarks.{firstBookmark}
 use Rattle.asking.specs.Asking.{Accepted}
 use Rattle.asking.proofs.Rows.{row10-clear, accepted-clear}
-use Rattle.search.proofs.Turning.{first-range}
+use Rattle.paging.proofs.Bookmarks.{first-range}
+use Rattle.search.proofs.Searches.{way-narrow}
 use Rattle.telling.specs.declared.calls.Telling.{Telling}
 use Rattle.telling.specs.declared.calls.Telling.the-variants.{Told, Refused, Short}
 use Rattle.telling.specs.Lines.{linesOf}
@@ -87,7 +88,7 @@ module _ (cells : List ℕ) (h : ℕ) (theme : List ℕ) (way : Way) where
   pageRows b = row9 1 1 ∷ row10 (rangeOf way) (columnsIn cells h) b ∷ []
 
   page-clear : Clear (pageRows (firstBookmark (rangeOf way)))
-  page-clear = (refl, (row10-clear (rangeOf way) (columnsIn cells h) (firstBookmark (rangeOf way)) .1 (first-range way (columnsIn cells h)), tt))
+  page-clear = (refl, (row10-clear (rangeOf way) (columnsIn cells h) (firstBookmark (rangeOf way)) .1 (first-range (way-narrow way) (columnsIn cells h)), tt))
 
   module _ {v : Verdict} {b : Bookmark} (first : b ≡ firstBookmark (rangeOf way)) (checked : v ≡ verdict (tellRows cells h theme ++ pageRows b)) where
     rows-are : v ≡ verdict (tellRows cells h theme)
