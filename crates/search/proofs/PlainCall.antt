@@ -56,4 +56,4 @@ module _ (cells : List ℕ) (h : ℕ) (theme : List ℕ) (way : Way) (b : Bookma
 
   -- there is one answer, and one way to leave the buffers
   pub plain-unique : {a a′ : Page} {l l′ : Lent} → PlainPages cells h theme way b buffers a l → PlainPages cells h theme way b buffers a′ l′ → (a ≡ a′) × (l ≡ l′)
-  plain-unique p q = pages-unique p q
+  plain-unique p q = pages-unique (p .pages) (q .pages)

@@ -24,8 +24,8 @@ unfoldable pub plainPage : (cells : List ℕ) (h : ℕ) (theme : List ℕ) → W
 plainPage cells h theme way b buffers = paged (rowsOfPlain cells h theme way b buffers) (plainSearch way (scoreOf cells h) theme) b buffers
 
 -- what a plain call promises: this answer, and these buffers
-abbrev pub PlainPages : (cells : List ℕ) (h : ℕ) (theme : List ℕ) → Way → Bookmark → Lent → (answer : Page) (after : Lent) → Type 0
-PlainPages cells h theme way b buffers answer after = Pages (plainPage cells h theme way b buffers) answer after
+pub record PlainPages (cells : List ℕ) (h : ℕ) (theme : List ℕ) (way : Way) (b : Bookmark) (buffers : Lent) (answer : Page) (after : Lent) : Type 0 where
+  pub pages : Pages (plainPage cells h theme way b buffers) answer after
 
 -- ---- quick: refusals 1 to 10
 

@@ -70,7 +70,10 @@ module _ (cells : List ℕ) (h : ℕ) (theme : List ℕ) (way : Way) (b : Bookma
   pub plain-away : {e : Refusal} → PlainWalks cells h theme way b columns shifts (Away e) columns′ shifts′
       → PlainPages cells h theme way b (lent columns shifts) (Refused e) (lent columns′ shifts′)
   unfolding plainPage
-  plain-away l = search-away (rowsOfPlain cells h theme way b (lent columns shifts)) way (scoreOf cells h) theme (starts way (scoreOf cells h) theme) b columns shifts l
+  plain-away l =
+      record {
+        pages = search-away (rowsOfPlain cells h theme way b (lent columns shifts)) way (scoreOf cells h) theme (starts way (scoreOf cells h) theme) b columns shifts l;
+      }
 
   module _ {w : Walked} (l : PlainWalks cells h theme way b columns shifts (Done w) columns′ shifts′) where
     asked : PlainAsks cells h theme way b columns shifts
@@ -85,8 +88,12 @@ module _ (cells : List ℕ) (h : ℕ) (theme : List ℕ) (way : Way) (b : Bookma
         → PlainPages cells h theme way b (lent columns shifts) (Turned t) (lent columns′ shifts′)
     unfolding plainPage
     plain-turns e ends r =
-        search-turns (rowsOfPlain cells h theme way b (lent columns shifts)) way (scoreOf cells h) theme (starts way (scoreOf cells h) theme) b columns shifts (asked .room) (asked .same-room)
-        (left-plain way (scoreOf cells h) theme b (rw (score-length cells h) (asked .marked))) l (e ∙ sym (score-length cells h)) ends r
+        record {
+          pages =
+              search-turns (rowsOfPlain cells h theme way b (lent columns shifts)) way (scoreOf cells h) theme (starts way (scoreOf cells h) theme) b columns shifts
+              (asked .room) (asked .same-room) (left-plain way (scoreOf cells h) theme b (rw (score-length cells h) (asked .marked))) l
+              (e ∙ sym (score-length cells h)) ends r;
+        }
 
 -- ---- quick
 
