@@ -10,6 +10,9 @@ pub mod way;
 
 pub use bookmark::Bookmark;
 pub use bookmark::Pair;
+pub use checks::check_page;
 pub use checks::check_plain;
 pub use checks::check_quick;
+pub use checks::check_request;
+pub use checks::check_theme;
 pub use way::Way;

@@ -30,7 +30,7 @@ use Rattle.search.specs.Pairs.{pairAt, pairs}
 use Rattle.filter.specs.Table.{themeTable}
 use Rattle.walking.specs.Candidates.{candidate}
 use Rattle.asking.specs.Bookmarks.{afterPair, finishedBookmark, keyOf}
-use Rattle.asking.specs.Refusals.{badNote}
+use Rattle.asking.specs.Refusals.{badNote, requestRows, setsRows, pageRows}
 use Rattle.search.specs.Page.{Leaf, QuickLeaf, leaf, plainPage, quickPage}
 use Rattle.walking.specs.Found.{columnsOf, shiftsOf, found}
 use Rattle.walking.specs.Candidates.{quickStarts}
@@ -39,7 +39,7 @@ use Rattle.search.specs.Demands.{turned, refused, SamePage, candidatePai
 use Rattle.walking.proofs.Order.{starts-rising}
 use Rattle.search.proofs.Filtered.{hit-candidate}
 use Rattle.score.proofs.Judged.{clear-append, judge-skip, judge-both}
-use Rattle.asking.proofs.Rows.{scoreRows, setsRows, pageRows, accepted-clear, sets-clear}
+use Rattle.asking.proofs.Rows.{accepted-clear, sets-clear}
 use Rattle.search.proofs.PlainCall.{plainRefused, plainLeaf}
 use Rattle.search.proofs.QuickCall.{quickRefused, quickLeaf}
 
@@ -115,19 +115,19 @@ module _ (cells : List ℕ) (h : ℕ) (theme : List ℕ) (way : Way) (a : Accept
         }
 
     plain-skip : plainPage cells h theme way b columns shifts
-        ≡ judge (pageRows (rangeOf way) (columnsIn cells h) b columns shifts) (plainRefused cells h theme way b columns shifts) (plainLeaf cells h theme way b columns shifts)
+        ≡ judge (pageRows (rangeOf way) (columnsIn cells h) b (length columns) (length shifts)) (plainRefused cells h theme way b columns shifts) (plainLeaf cells h theme way b columns shifts)
     unfolding plainPage
     plain-skip =
-        judge-skip (plainRefused cells h theme way b columns shifts) (plainLeaf cells h theme way b columns shifts) (scoreRows cells h theme)
-        (pageRows (rangeOf way) (columnsIn cells h) b columns shifts) (accepted-clear cells h theme .0 a)
+        judge-skip (plainRefused cells h theme way b columns shifts) (plainLeaf cells h theme way b columns shifts) (requestRows cells h theme)
+        (pageRows (rangeOf way) (columnsIn cells h) b (length columns) (length shifts)) (accepted-clear cells h theme .0 a)
 
     quick-skip : (table : List ℕ) → length table ≡ 4096 → quickPage cells h theme way b (sets score) table columns shifts
-        ≡ judge (pageRows (rangeOf way) (columnsIn cells h) b columns shifts) (quickRefused cells h theme way b (sets score) table columns shifts) (quickLeaf cells h theme way b (sets score) table columns shifts)
+        ≡ judge (pageRows (rangeOf way) (columnsIn cells h) b (length columns) (length shifts)) (quickRefused cells h theme way b (sets score) table columns shifts) (quickLeaf cells h theme way b (sets score) table columns shifts)
     unfolding quickPage
     quick-skip table e =
         judge-skip (quickRefused cells h theme way b (sets score) table columns shifts) (quickLeaf cells h theme way b (sets score) table columns shifts)
-        (scoreRows cells h theme ++ setsRows cells h (sets score) table) (pageRows (rangeOf way) (columnsIn cells h) b columns shifts)
-        (clear-append (scoreRows cells h theme) (setsRows cells h (sets score) table) (accepted-clear cells h theme .0 a)
+        (requestRows cells h theme ++ setsRows cells h (sets score) (length table)) (pageRows (rangeOf way) (columnsIn cells h) b (length columns) (length shifts))
+        (clear-append (requestRows cells h theme) (setsRows cells h (sets score) (length table)) (accepted-clear cells h theme .0 a)
         (sets-clear cells h (sets score) table .0 (own-sets, e)))
 
     pub quick-same : (table : List ℕ) → length table ≡ 4096
@@ -136,4 +136,4 @@ module _ (cells : List ℕ) (h : ℕ) (theme : List ℕ) (way : Way) (a : Accept
         rw (quick-skip table e, plain-skip)
         (judge-both (λ (q : QuickLeaf) (p : Leaf). SamePage (q .leaf) p) (quickRefused cells h theme way b (sets score) table columns shifts)
         (plainRefused cells h theme way b columns shifts) (quickLeaf cells h theme way b (sets score) table columns shifts) (plainLeaf cells h theme way b columns shifts)
-        (λ r. record { answers = refused; writes-columns = refl; writes-shifts = refl }) leaf-same (pageRows (rangeOf way) (columnsIn cells h) b columns shifts))
+        (λ r. record { answers = refused; writes-columns = refl; writes-shifts = refl }) leaf-same (pageRows (rangeOf way) (columnsIn cells h) b (length columns) (length shifts)))
