@@ -19,6 +19,7 @@ use Rattle.score.specs.Sets.{sets as setsOf}
 use Rattle.preparing.specs.declared.sets.Preparation.the-variants.{Prepared, Refused as Away}
 use Rattle.preparing.specs.Preparing.{Filled, prepared}
 use Rattle.score.proofs.Columns.{columns-whole}
+use Rattle.asking.specs.Limits.{mostNotes}
 use Rattle.asking.specs.declared.way.Way.{Way}
 use Rattle.asking.specs.declared.bookmark.Bookmark.{Bookmark}
 use Rattle.walking.specs.Starts.{Place, key, starts, hit, looks}
@@ -69,10 +70,10 @@ score-small X cells h rows more = (
   λ a. (λ e. nowhere, λ b. (λ e. record { place = omega (arith, some-first badCell cells e, cells-few cells h a b) }, λ d. more b)),
 )
 
-theme-small : (X : Type 0) (theme : List ℕ) (rows : List Row) → (2 ≤ length theme → SmallRows X rows) → SmallRows X (row4 theme ∷ row5 theme ∷ rows)
+theme-small : (X : Type 0) (theme : List ℕ) (rows : List Row) → (2 ≤ length theme → SmallRows X rows) → SmallRows X (row4 mostNotes theme ∷ row5 theme ∷ rows)
 theme-small X theme rows more = (
   λ e. nowhere,
-  λ a. (λ e. record { place = omega (arith, some-first badNote theme e, row4-clear theme .0 a .1) }, λ d. more (row4-clear theme .0 a .0)),
+  λ a. (λ e. record { place = omega (arith, some-first badNote theme e, row4-clear mostNotes theme .0 a .1) }, λ d. more (row4-clear mostNotes theme .0 a .0)),
 )
 
 sets-small : (X : Type 0) (cells : List ℕ) (h : ℕ) (sets : List ℕ) (rows : List Row) → row2 cells h .applies ≡ false → SmallRows X rows
@@ -124,7 +125,7 @@ module _ (cells : List ℕ) (h : ℕ) (theme : List ℕ) (way : Way) (b : Bookma
   plain-small columns shifts =
       let page = pageRows (rangeOf way) (columnsIn cells h) b (length columns) (length shifts) in
       judge-small (λ (l : Leaf). SmallPage (l .answer)) (plainRefused cells h theme way b columns shifts) (plainLeaf cells h theme way b columns shifts) (λ r s. s) (plainRows cells h theme way b columns shifts)
-      (score-small _ cells h (row4 theme ∷ row5 theme ∷ page) (λ e. theme-small _ theme page (page-small cells h theme way b (starts way (scoreOf cells h) theme) columns shifts)))
+      (score-small _ cells h (row4 mostNotes theme ∷ row5 theme ∷ page) (λ e. theme-small _ theme page (page-small cells h theme way b (starts way (scoreOf cells h) theme) columns shifts)))
 
   pub quick-small : (sets table columns : List ℕ) (shifts : List ℤ) → SmallPage (quickPage cells h theme way b sets table columns shifts .leaf .answer)
   unfolding quickPage
@@ -134,5 +135,5 @@ module _ (cells : List ℕ) (h : ℕ) (theme : List ℕ) (way : Way) (b : Bookma
       let reached = quickStarts way (scoreOf cells h) theme (themeTable theme) sets in
       judge-small (λ (q : QuickLeaf). SmallPage (q .leaf .answer)) (quickRefused cells h theme way b sets table columns shifts)
       (quickLeaf cells h theme way b sets table columns shifts) (λ r s. s) (quickRows cells h theme way b sets table columns shifts)
-      (score-small _ cells h (row4 theme ∷ row5 theme ∷ lent)
+      (score-small _ cells h (row4 mostNotes theme ∷ row5 theme ∷ lent)
       (λ e. theme-small _ theme lent (λ m. sets-small _ cells h sets (row8 (length table) ∷ page) e (λ t. nowhere, λ t. page-small cells h theme way b reached columns shifts m))))

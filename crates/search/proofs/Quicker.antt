@@ -21,6 +21,7 @@ use Rattle.score.specs.Sets.{sets}
 use Rattle.score.specs.Refusals.{badSet, judge}
 use Rattle.score.proofs.Columns.{score-length}
 use Rattle.score.proofs.IntervalSets.{sets-length, sets-lt}
+use Rattle.asking.specs.Limits.{mostNotes}
 use Rattle.asking.specs.declared.way.Way.{Way}
 use Rattle.asking.specs.Way.{rangeOf}
 use Rattle.asking.specs.declared.bookmark.Pair.{Pair}
@@ -52,7 +53,7 @@ own-sets {cells} {h} =
       sets-good = none-some badSet (sets (scoreOf cells h)) 0 (λ i l. le-ltb 4095 (getD (sets (scoreOf cells h)) i 0) (omega (arith, sets-lt (scoreOf cells h) i)));
     }
 
-note-le : {cells : List ℕ} {h : ℕ} {theme : List ℕ} → Accepted cells h theme → (i : ℕ) → getD theme i 0 ≤ 127
+note-le : {most : ℕ} {cells : List ℕ} {h : ℕ} {theme : List ℕ} → Accepted most cells h theme → (i : ℕ) → getD theme i 0 ≤ 127
 note-le {theme = theme} a i = pick (decLt i (length theme))
   where
     pick : Dec (i < length theme) → getD theme i 0 ≤ 127
@@ -61,7 +62,7 @@ note-le {theme = theme} a i = pick (decLt i (length theme))
 
 -- ---- what the candidates leave out is no hit
 
-module _ (cells : List ℕ) (h : ℕ) (theme : List ℕ) (way : Way) (a : Accepted cells h theme) where
+module _ (cells : List ℕ) (h : ℕ) (theme : List ℕ) (way : Way) (a : Accepted mostNotes cells h theme) where
   abbrev score : List (List ℕ)
   score = scoreOf cells h
 
@@ -118,16 +119,16 @@ module _ (cells : List ℕ) (h : ℕ) (theme : List ℕ) (way : Way) (a : Accept
         ≡ judge (pageRows (rangeOf way) (columnsIn cells h) b (length columns) (length shifts)) (plainRefused cells h theme way b columns shifts) (plainLeaf cells h theme way b columns shifts)
     unfolding plainPage
     plain-skip =
-        judge-skip (plainRefused cells h theme way b columns shifts) (plainLeaf cells h theme way b columns shifts) (requestRows cells h theme)
-        (pageRows (rangeOf way) (columnsIn cells h) b (length columns) (length shifts)) (accepted-clear cells h theme .0 a)
+        judge-skip (plainRefused cells h theme way b columns shifts) (plainLeaf cells h theme way b columns shifts) (requestRows mostNotes cells h theme)
+        (pageRows (rangeOf way) (columnsIn cells h) b (length columns) (length shifts)) (accepted-clear mostNotes cells h theme .0 a)
 
     quick-skip : (table : List ℕ) → length table ≡ 4096 → quickPage cells h theme way b (sets score) table columns shifts
         ≡ judge (pageRows (rangeOf way) (columnsIn cells h) b (length columns) (length shifts)) (quickRefused cells h theme way b (sets score) table columns shifts) (quickLeaf cells h theme way b (sets score) table columns shifts)
     unfolding quickPage
     quick-skip table e =
         judge-skip (quickRefused cells h theme way b (sets score) table columns shifts) (quickLeaf cells h theme way b (sets score) table columns shifts)
-        (requestRows cells h theme ++ setsRows cells h (sets score) (length table)) (pageRows (rangeOf way) (columnsIn cells h) b (length columns) (length shifts))
-        (clear-append (requestRows cells h theme) (setsRows cells h (sets score) (length table)) (accepted-clear cells h theme .0 a)
+        (requestRows mostNotes cells h theme ++ setsRows cells h (sets score) (length table)) (pageRows (rangeOf way) (columnsIn cells h) b (length columns) (length shifts))
+        (clear-append (requestRows mostNotes cells h theme) (setsRows cells h (sets score) (length table)) (accepted-clear mostNotes cells h theme .0 a)
         (sets-clear cells h (sets score) table .0 (own-sets, e)))
 
     pub quick-same : (table : List ℕ) → length table ≡ 4096

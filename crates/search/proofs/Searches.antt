@@ -10,6 +10,7 @@ use lib.ListN.{length}
 use Rattle.theory.proofs.Members.{in-hits, rising-hits}
 use Rattle.score.specs.Score.{scoreOf}
 use Rattle.score.proofs.Columns.{score-length}
+use Rattle.asking.specs.Limits.{mostNotes}
 use Rattle.asking.specs.declared.way.Way.{Way}
 use Rattle.asking.specs.Way.{rangeOf}
 use Rattle.asking.specs.declared.bookmark.Bookmark.{Bookmark}
@@ -31,7 +32,7 @@ start-found way score theme m s k =
     let t = in-starts way score theme k in
     record { from-first = t .from-first; to-last = omega (arith, t .to-last); small = t .small }
 
-module _ (cells : List ℕ) (h : ℕ) (theme : List ℕ) (way : Way) (a : Accepted cells h theme) (r : ℕ) (room : 1 ≤ r) where
+module _ (cells : List ℕ) (h : ℕ) (theme : List ℕ) (way : Way) (a : Accepted mostNotes cells h theme) (r : ℕ) (room : 1 ≤ r) where
   score-few : length (scoreOf cells h) < 65535
   score-few = omega (arith, score-length cells h, a .columns-few)
 

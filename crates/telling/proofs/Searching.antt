@@ -23,6 +23,7 @@ use Rattle.preparing.specs.Preparing.{Filled, prepareRows, Prepares}
 use Rattle.score.proofs.Judged.{judge-clear}
 use Rattle.asking.proofs.Rows.{accepted-clear, row6-clear}
 use Rattle.score.proofs.Columns.{score-length, column-le}
+use Rattle.asking.specs.Limits.{mostNotes}
 use Rattle.asking.specs.declared.way.Way.{Way}
 use Rattle.asking.specs.declared.bookmark.Pair.{Pair}
 use Rattle.asking.specs.declared.bookmark.Bookmark.{Bookmark}
@@ -55,10 +56,10 @@ searchOf cells h theme way lent =
 
 -- ---- the sets that are prepared are the score's own
 
-pub prepared-own : (cells : List ℕ) (h : ℕ) (theme : List ℕ) {lent after : List ℕ} {answer : Preparation} → Accepted cells h theme → length lent ≡ columnsIn cells h - 1
+pub prepared-own : (cells : List ℕ) (h : ℕ) (theme : List ℕ) {lent after : List ℕ} {answer : Preparation} → Accepted mostNotes cells h theme → length lent ≡ columnsIn cells h - 1
     → Prepares cells h lent answer after → after ≡ setsOf (scoreOf cells h)
 prepared-own cells h theme {lent} a l p =
-    let c = accepted-clear cells h theme .0 a in
+    let c = accepted-clear mostNotes cells h theme .0 a in
     p .fills
     ∙ ap (λ (f : Filled). f .sets)
     (judge-clear (λ r. record { answer = Preparations.Refused r; sets = lent }) (record { answer = Preparations.Prepared; sets = setsOf (scoreOf cells h) })
@@ -75,7 +76,7 @@ lines-append a b = ap join (map-append hitLine a b) ∙ join-append (map hitLine
 
 -- ---- what the starts at candidates list, with the score's own sets
 
-module _ (cells : List ℕ) (h : ℕ) (theme : List ℕ) (way : Way) (a : Accepted cells h theme) where
+module _ (cells : List ℕ) (h : ℕ) (theme : List ℕ) (way : Way) (a : Accepted mostNotes cells h theme) where
   own-hits : map (pairAt way) (hits (hit way (scoreOf cells h) theme) (quickStarts way (scoreOf cells h) theme (themeTable theme) (setsOf (scoreOf cells h))))
       ≡ pairs way (scoreOf cells h) theme
   own-hits = quick-pairs cells h theme way (setsOf (scoreOf cells h)) ∙ own-pairs cells h theme way a
@@ -134,7 +135,7 @@ leftLooks S b more = cond more (sum (map (cost S) (left S b))) 0
 
 pub record Paging (cells : List ℕ) (h : ℕ) (theme : List ℕ) (way : Way) (lent out₀ table columns : List ℕ) (shifts : List ℤ) (out : List ℕ) (b : Bookmark) (at found spent : ℕ)
     (more : Bool) : Type 0 where
-  pub accepted : Accepted cells h theme
+  pub accepted : Accepted mostNotes cells h theme
   pub own : lent ≡ setsOf (scoreOf cells h)
   pub room : Room table columns shifts out₀
   pub marked : inside (searchOf cells h theme way lent) b
@@ -144,7 +145,7 @@ pub record Paging (cells : List ℕ) (h : ℕ) (theme : List ℕ) (way : Way) (l
   pub parts : pairs way (scoreOf cells h) theme ≡ done ++ map (pairAt way) (leftHits (searchOf cells h theme way lent) b more)
   pub paid : candidateLooks way (scoreOf cells h) theme lent ≡ spent + leftLooks (searchOf cells h theme way lent) b more
 
-module _ (cells : List ℕ) (h : ℕ) (theme : List ℕ) (way : Way) (lent : List ℕ) (a : Accepted cells h theme) (o : lent ≡ setsOf (scoreOf cells h)) where
+module _ (cells : List ℕ) (h : ℕ) (theme : List ℕ) (way : Way) (lent : List ℕ) (a : Accepted mostNotes cells h theme) (o : lent ≡ setsOf (scoreOf cells h)) where
   abbrev pub S : Search
   S = searchOf cells h theme way lent
 

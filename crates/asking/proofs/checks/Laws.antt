@@ -7,12 +7,13 @@ use Prim.Native.Nat.{ℕ, _+_, _-_}
 use native.Mathlib.Omega.{arith}
 use lib.Dec.{eqb, ltb}
 use borrow.Author.Tests.{eq-eqb, ne-eqb, lt-ltb, le-ltb, ltb-true, ltb-false}
+use Rattle.score.specs.Limits.{tableWords}
 use Rattle.score.specs.declared.refusals.Refusal.{Refusal}
 use Rattle.score.specs.declared.refusals.Verdict.{Verdict}
 use Rattle.score.specs.declared.refusals.Verdict.the-variants.{Accepted, Refused}
 use Rattle.score.specs.Refusals.{Row, verdict, row1, row2, row3, row6, row7}
 use Rattle.score.proofs.Judging.{judge-refused, judge-accepted}
-use Rattle.asking.specs.Refusals.{row8, requestRows, setsRows}
+use Rattle.asking.specs.Refusals.{row8, setsRows}
 
 -- rows that a check went through, and those after them
 module _ (rows more : List Row) {v : Verdict} (checked : v ≡ verdict rows) where
@@ -29,24 +30,24 @@ scoreRows cells h = row1 h ∷ row2 cells h ∷ row3 cells ∷ []
 abbrev lentRows : (cells : List ℕ) (h : ℕ) (sets : List ℕ) → List Row
 lentRows cells h sets = row6 cells h sets ∷ row7 sets ∷ []
 
--- a quick call, which goes on from the score and the theme to the sets, and from those to the table
-module _ (cells : List ℕ) (h : ℕ) (theme sets : List ℕ) (table : ℕ) (page : List Row) {v w : Verdict}
-    (request : v ≡ verdict (requestRows cells h theme)) (passed : v ≡ Accepted) (lent : w ≡ verdict (lentRows cells h sets)) where
+-- a quick call, which goes on from the rows of the score and the theme to the sets, and from those to the table
+module _ (request : List Row) (cells : List ℕ) (h : ℕ) (sets : List ℕ) (table : ℕ) (page : List Row) {v w : Verdict} (checked : v ≡ verdict request)
+    (passed : v ≡ Accepted) (lent : w ≡ verdict (lentRows cells h sets)) where
   abbrev quickly : Verdict
-  quickly = verdict (requestRows cells h theme ++ setsRows cells h sets table ++ page)
+  quickly = verdict (request ++ (setsRows cells h sets table ++ page))
 
   pub sets-away : {e : Refusal} → w ≡ Refused e → Refused e ≡ quickly
-  sets-away k = gone-on (requestRows cells h theme) (setsRows cells h sets table ++ page) request passed (turned-away (lentRows cells h sets) (row8 table ∷ page) lent k)
+  sets-away k = gone-on request (setsRows cells h sets table ++ page) checked passed (turned-away (lentRows cells h sets) (row8 table ∷ page) lent k)
 
   pub sets-on : w ≡ Accepted → {x : Verdict} → x ≡ verdict (row8 table ∷ page) → x ≡ quickly
-  sets-on k e = gone-on (requestRows cells h theme) (setsRows cells h sets table ++ page) request passed (gone-on (lentRows cells h sets) (row8 table ∷ page) lent k e)
+  sets-on k e = gone-on request (setsRows cells h sets table ++ page) checked passed (gone-on (lentRows cells h sets) (row8 table ∷ page) lent k e)
 
 -- a table of another length, and one of the right length
-pub table-away : (table : ℕ) (more : List Row) → (table ≡ 4096 → ⊥) → {v : Verdict} → v ≡ Refused (record { number = 8; place = 0 }) → v ≡ verdict (row8 table ∷ more)
-table-away table more n e = e ∙ rw (ne-eqb table 4096 n)
+pub table-away : (table : ℕ) (more : List Row) → (table ≡ tableWords → ⊥) → {v : Verdict} → v ≡ Refused (record { number = 8; place = 0 }) → v ≡ verdict (row8 table ∷ more)
+table-away table more n e = e ∙ rw (ne-eqb table tableWords n)
 
-pub table-on : (table : ℕ) (more : List Row) → table ≡ 4096 → {v : Verdict} → v ≡ verdict more → v ≡ verdict (row8 table ∷ more)
-table-on table more q e = e ∙ rw (eq-eqb table 4096 q)
+pub table-on : (table : ℕ) (more : List Row) → table ≡ tableWords → {v : Verdict} → v ≡ verdict more → v ≡ verdict (row8 table ∷ more)
+table-on table more q e = e ∙ rw (eq-eqb table tableWords q)
 
 -- a column past n + 1, without the sum
 pub past-column : (n j : ℕ) → (j ≡ 0 → ⊥) → ltb n (j - 1) ≡ (eqb j 0 || ltb (n + 1) j)

@@ -2,6 +2,7 @@
 -- nothing.
 use borrow.Author.Needs.{needs}
 use Rattle.score.specs.Score.{columnsIn}
+use Rattle.asking.specs.Limits.{mostNotes}
 use Rattle.asking.specs.Way.{rangeOf}
 use Rattle.asking.specs.Refusals.{requestRows, pageRows}
 use Rattle.asking.proofs.checks.Laws.{turned-away, gone-on}
@@ -18,7 +19,7 @@ returns : tie.Need-returns
 returns c =
     let k = c .before .before .before in
     let a = k .before .before .before .args in
-    turned-away (requestRows (a .cells .now) (a .tracks) (a .theme .now))
+    turned-away (requestRows mostNotes (a .cells .now) (a .tracks) (a .theme .now))
     (pageRows (rangeOf (a .way)) (columnsIn (a .cells .now) (a .tracks)) (a .bookmark) (a .r) (a .other)) (k .check-request .ensures) (c .before .e .given .1)
 
 enum-told : tie.Need-enum-told
@@ -34,7 +35,7 @@ returns-2 : tie.Need-returns-2
 returns-2 c =
     let k = c .before .before .before .before in
     let a = k .before .before .before .args in
-    gone-on (requestRows (a .cells .now) (a .tracks) (a .theme .now))
+    gone-on (requestRows mostNotes (a .cells .now) (a .tracks) (a .theme .now))
     (pageRows (rangeOf (a .way)) (columnsIn (a .cells .now) (a .tracks)) (a .bookmark) (a .r) (a .other)) (k .check-request .ensures) (c .before .before .enum-told .given .1)
     (rw (c .before .columns-in .ensures) at (c .check-page .ensures))
 

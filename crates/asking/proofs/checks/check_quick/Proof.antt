@@ -3,6 +3,7 @@
 use borrow.Author.Needs.{needs}
 use mathlib.Core.List.{_++_}
 use Rattle.score.specs.Score.{columnsIn}
+use Rattle.asking.specs.Limits.{mostNotes}
 use Rattle.asking.specs.Way.{rangeOf}
 use Rattle.asking.specs.Refusals.{requestRows, setsRows, pageRows}
 use Rattle.asking.proofs.checks.Laws.{turned-away, sets-away, sets-on, table-away, table-on}
@@ -19,8 +20,9 @@ returns : tie.Need-returns
 returns c =
     let m = c .before .before .before in
     let a = m .before .before .before .before .args in
+    let request = requestRows mostNotes (a .cells .now) (a .tracks) (a .theme .now) in
     let page = pageRows (rangeOf (a .way)) (columnsIn (a .cells .now) (a .tracks)) (a .bookmark) (a .r) (a .other) in
-    turned-away (requestRows (a .cells .now) (a .tracks) (a .theme .now)) (setsRows (a .cells .now) (a .tracks) (a .sets .now) (a .table) ++ page)
+    turned-away request (setsRows (a .cells .now) (a .tracks) (a .sets .now) (a .table) ++ page)
     (m .check-request .ensures) (c .before .e .given .1)
 
 enum-told : tie.Need-enum-told
@@ -37,8 +39,9 @@ returns-2 c =
     let k = c .before .before .before in
     let m = k .before .before .before in
     let a = m .before .before .before .before .args in
+    let request = requestRows mostNotes (a .cells .now) (a .tracks) (a .theme .now) in
     let page = pageRows (rangeOf (a .way)) (columnsIn (a .cells .now) (a .tracks)) (a .bookmark) (a .r) (a .other) in
-    sets-away (a .cells .now) (a .tracks) (a .theme .now) (a .sets .now) (a .table) page (m .check-request .ensures) (k .before .enum-told .given .1)
+    sets-away request (a .cells .now) (a .tracks) (a .sets .now) (a .table) page (m .check-request .ensures) (k .before .enum-told .given .1)
     (k .check-sets .ensures) (c .before .e2 .given .1)
 
 enum-told-2 : tie.Need-enum-told-2
@@ -52,8 +55,9 @@ returns-3 c =
     let k = c .before .before .before .before in
     let m = k .before .before .before in
     let a = m .before .before .before .before .args in
+    let request = requestRows mostNotes (a .cells .now) (a .tracks) (a .theme .now) in
     let page = pageRows (rangeOf (a .way)) (columnsIn (a .cells .now) (a .tracks)) (a .bookmark) (a .r) (a .other) in
-    sets-on (a .cells .now) (a .tracks) (a .theme .now) (a .sets .now) (a .table) page (m .check-request .ensures) (k .before .enum-told .given .1)
+    sets-on request (a .cells .now) (a .tracks) (a .sets .now) (a .table) page (m .check-request .ensures) (k .before .enum-told .given .1)
     (k .check-sets .ensures) (c .before .before .enum-told2 .given .1) (table-away (a .table) page (c .before .if1 .taken) (c .refused .ensures))
 
 columns-in-requires : tie.Need-columns-in-requires
@@ -67,8 +71,9 @@ returns-4 c =
     let k = c .before .before .before .before .before in
     let m = k .before .before .before in
     let a = m .before .before .before .before .args in
+    let request = requestRows mostNotes (a .cells .now) (a .tracks) (a .theme .now) in
     let page = pageRows (rangeOf (a .way)) (columnsIn (a .cells .now) (a .tracks)) (a .bookmark) (a .r) (a .other) in
-    sets-on (a .cells .now) (a .tracks) (a .theme .now) (a .sets .now) (a .table) page (m .check-request .ensures) (k .before .enum-told .given .1)
+    sets-on request (a .cells .now) (a .tracks) (a .sets .now) (a .table) page (m .check-request .ensures) (k .before .enum-told .given .1)
     (k .check-sets .ensures) (c .before .before .before .enum-told2 .given .1)
     (table-on (a .table) page (c .before .before .if1 .left) (rw (c .before .columns-in .ensures) at (c .check-page .ensures)))
 

@@ -15,7 +15,7 @@ returns : tie.Need-returns
 returns c =
     let k = c .before .before .before in
     let a = k .before .before .before .args in
-    turned-away (scoreRows (a .cells .now) (a .tracks)) (themeRows (a .theme .now)) (k .check-score .ensures) (c .before .e .given .1)
+    turned-away (scoreRows (a .cells .now) (a .tracks)) (themeRows (a .most) (a .theme .now)) (k .check-score .ensures) (c .before .e .given .1)
 
 enum-told : tie.Need-enum-told
 enum-told c = search needs
@@ -27,7 +27,7 @@ returns-2 : tie.Need-returns-2
 returns-2 c =
     let k = c .before .before .before in
     let a = k .before .before .before .args in
-    gone-on (scoreRows (a .cells .now) (a .tracks)) (themeRows (a .theme .now)) (k .check-score .ensures) (c .before .enum-told .given .1) (c .check-theme .ensures)
+    gone-on (scoreRows (a .cells .now) (a .tracks)) (themeRows (a .most) (a .theme .now)) (k .check-score .ensures) (c .before .enum-told .given .1) (c .check-theme .ensures)
 
 pub check-request-spec : {M : Type 1} → statement M
 check-request-spec =
