@@ -18,18 +18,19 @@ use Rattle.score.specs.Sets.{sets as setsOf}
 use Rattle.preparing.specs.declared.sets.Preparation.the-variants.{Prepared, Refused as Away}
 use Rattle.preparing.specs.Preparing.{Filled, prepared}
 use Rattle.score.proofs.Columns.{columns-whole}
+use Rattle.asking.specs.Limits.{mostNotes}
 use Rattle.asking.specs.declared.way.Way.{Way}
 use Rattle.asking.specs.declared.bookmark.Bookmark.{Bookmark}
 use Rattle.walking.specs.Starts.{Place, looks}
 use Rattle.asking.specs.Way.{rangeOf}
-use Rattle.asking.specs.Refusals.{row4, row5, row8, badNote}
+use Rattle.asking.specs.Refusals.{row4, row5, row8, badNote, pageRows}
 use Rattle.filter.specs.Table.{themeTable}
 use Rattle.paging.specs.Lent.{Lent}
 use Rattle.paging.specs.Search.{Search, left}
 use Rattle.paging.specs.Page.{Leaf, leaf, away}
 use Rattle.search.specs.Pairs.{plainSearch, quickSearch}
 use Rattle.search.specs.Page.{rowsOfPlain, rowsOfQuick, plainPage, quickPage}
-use Rattle.asking.proofs.Rows.{row1-clear, row2-clear, row4-clear, row6-clear, pageRows}
+use Rattle.asking.proofs.Rows.{row1-clear, row2-clear, row4-clear, row6-clear}
 use Rattle.finder_c.specs.Small.{SmallPlace, SmallPreparation, SmallPage}
 
 -- ---- rows
@@ -67,10 +68,10 @@ score-small X cells h rows more = (
   λ a. (λ e. nowhere, λ b. (λ e. record { place = omega (arith, some-first badCell cells e, cells-few cells h a b) }, λ d. more b)),
 )
 
-theme-small : (X : Type 0) (theme : List ℕ) (rows : List Row) → (2 ≤ length theme → SmallRows X rows) → SmallRows X (row4 theme ∷ row5 theme ∷ rows)
+theme-small : (X : Type 0) (theme : List ℕ) (rows : List Row) → (2 ≤ length theme → SmallRows X rows) → SmallRows X (row4 mostNotes theme ∷ row5 theme ∷ rows)
 theme-small X theme rows more = (
   λ e. nowhere,
-  λ a. (λ e. record { place = omega (arith, some-first badNote theme e, row4-clear theme .0 a .1) }, λ d. more (row4-clear theme .0 a .0)),
+  λ a. (λ e. record { place = omega (arith, some-first badNote theme e, row4-clear mostNotes theme .0 a .1) }, λ d. more (row4-clear mostNotes theme .0 a .0)),
 )
 
 sets-small : (X : Type 0) (cells : List ℕ) (h : ℕ) (sets : List ℕ) (rows : List Row) → row2 cells h .applies ≡ false → SmallRows X rows
@@ -116,23 +117,23 @@ module _ (cells : List ℕ) (h : ℕ) (theme : List ℕ) (way : Way) (b : Bookma
 
   -- the rows of the room and of the bookmark, and then the page
   page-small : (S : Search Place) → ((s : Place) → 1 ≤ S .looks s)
-      → SmallRows (SmallPage (leaf S b buffers .answer)) (pageRows (rangeOf way) (columnsIn cells h) b (buffers .columns) (buffers .shifts))
+      → SmallRows (SmallPage (leaf S b buffers .answer)) (pageRows (rangeOf way) (columnsIn cells h) b (length (buffers .columns)) (length (buffers .shifts)))
   page-small S pays = (λ e. nowhere, λ a. (λ e. nowhere, λ d. search-pays S pays))
 
   pub plain-small : SmallPage (plainPage cells h theme way b buffers .answer)
   unfolding plainPage
   plain-small =
-      let page = pageRows (rangeOf way) (columnsIn cells h) b (buffers .columns) (buffers .shifts) in
+      let page = pageRows (rangeOf way) (columnsIn cells h) b (length (buffers .columns)) (length (buffers .shifts)) in
       let S = plainSearch way (scoreOf cells h) theme in
       judge-small (λ (l : Leaf). SmallPage (l .answer)) (away buffers) (leaf S b buffers) (λ r s. s) (rowsOfPlain cells h theme way b buffers)
-      (score-small _ cells h (row4 theme ∷ row5 theme ∷ page) (λ e. theme-small _ theme page (λ m. page-small S (looks-some way (scoreOf cells h) theme m))))
+      (score-small _ cells h (row4 mostNotes theme ∷ row5 theme ∷ page) (λ e. theme-small _ theme page (λ m. page-small S (looks-some way (scoreOf cells h) theme m))))
 
   pub quick-small : (sets table : List ℕ) → SmallPage (quickPage cells h theme way b sets table buffers .answer)
   unfolding quickPage
   quick-small sets table =
-      let page = pageRows (rangeOf way) (columnsIn cells h) b (buffers .columns) (buffers .shifts) in
+      let page = pageRows (rangeOf way) (columnsIn cells h) b (length (buffers .columns)) (length (buffers .shifts)) in
       let rows = row6 cells h sets ∷ row7 sets ∷ row8 (length table) ∷ page in
       let S = quickSearch way (scoreOf cells h) theme (themeTable theme) sets in
       judge-small (λ (l : Leaf). SmallPage (l .answer)) (away buffers) (leaf S b buffers) (λ r s. s) (rowsOfQuick cells h theme way b sets table buffers)
-      (score-small _ cells h (row4 theme ∷ row5 theme ∷ rows)
+      (score-small _ cells h (row4 mostNotes theme ∷ row5 theme ∷ rows)
       (λ e. theme-small _ theme rows (λ m. sets-small _ cells h sets (row8 (length table) ∷ page) e (λ t. nowhere, λ t. page-small S (looks-some way (scoreOf cells h) theme m)))))

@@ -7,6 +7,7 @@ use native.Mathlib.Omega.{arith}
 use lib.ListN.{length, take, replicate, length-append}
 use lib.Seq.{take-at}
 use Rattle.theory.specs.Lists.{join}
+use Rattle.asking.specs.Limits.{mostNotes}
 use Rattle.score.specs.Limits.{mostTracks, mostColumns, mostCells}
 use Rattle.asking.specs.declared.way.Way.{Way}
 use Rattle.reading.specs.declared.request.Reading.{Reading}
@@ -23,7 +24,7 @@ use Rattle.listing.proofs.Outputs.{meaning-right, cells-long, right-sco
 
 -- ---- a refused line
 
-pub out-bad : {input theme cells : List ℕ} {r : Reading} {theme′ cells′ : List ℕ} → Takes input theme cells r theme′ cells′ → 32 ≤ length theme → mostCells ≤ length cells
+pub out-bad : {input theme cells : List ℕ} {r : Reading} {theme′ cells′ : List ℕ} → Takes input theme cells r theme′ cells′ → mostNotes ≤ length theme → mostCells ≤ length cells
     → {line : ℕ} → r ≡ Bad line → output input ≡ refusedLine line
 unfolding output
 out-bad t few many e = ap answer (took-bad t few many e)

@@ -10,6 +10,7 @@ use lib.Dec.{ltb, eqb}
 use lib.ListN.{length, drop}
 use borrow.Author.Tests.{le-leb, ltb-true, ltb-false, ne-eqb, eq-eqb}
 use Rattle.theory.specs.Lists.{join}
+use Rattle.asking.specs.Limits.{mostNotes}
 use Rattle.score.specs.Limits.{mostTracks, mostColumns, highestPitch, restCell}
 use Rattle.asking.specs.declared.way.Way.{Way}
 use Rattle.asking.specs.declared.way.Way.the-variants.{Exact, Octave}
@@ -144,10 +145,10 @@ pub theme-text : (theme : Theme) (rest : List ℕ) → IsTheme theme → themeLi
 unfolding themeLine
 theme-text theme rest h = step (theme .way) (theme .notes) (h .notes-some) (h .notes-few) (h .notes)
   where
-    step : (way : Way) (notes : List ℕ) → 2 ≤ length notes → length notes ≤ 32 → Each IsNote notes
+    step : (way : Way) (notes : List ℕ) → 2 ≤ length notes → length notes ≤ mostNotes → Each IsNote notes
         → themeLine (themeText (record { way = way; notes = notes }) ++ rest) ≡ got (record { way = way; notes = notes }) rest
-    step Exact notes s f r = rw (fields-text false 32 notes rest f r, le-leb 2 (length notes) s)
-    step Octave notes s f r = rw (fields-text false 32 notes rest f r, le-leb 2 (length notes) s)
+    step Exact notes s f r = rw (fields-text false mostNotes notes rest f r, le-leb 2 (length notes) s)
+    step Octave notes s f r = rw (fields-text false mostNotes notes rest f r, le-leb 2 (length notes) s)
 
 -- as many cells as the first chord has, which is right for it and for those behind it
 tracks-first : (h : ℕ) → 1 ≤ h → tracksRight 0 h ≡ true

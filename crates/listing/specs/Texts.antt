@@ -8,6 +8,7 @@ use Prim.Native.Nat.{ℕ, _≤_}
 use lib.Dec.{eqb}
 use lib.ListN.{length}
 use Rattle.theory.specs.Lists.{join}
+use Rattle.asking.specs.Limits.{mostNotes}
 use Rattle.score.specs.Limits.{mostTracks, mostColumns, highestPitch, restCell}
 use Rattle.asking.specs.declared.way.Way.{Way}
 use Rattle.asking.specs.declared.way.Way.the-variants.{Exact, Octave}
@@ -58,7 +59,7 @@ pub record IsChord (h : ℕ) (column : List ℕ) : Type 0 where
 -- a theme of 2 to 32 notes
 pub record IsTheme (theme : Theme) : Type 0 where
   pub notes-some : 2 ≤ length (theme .notes)
-  pub notes-few : length (theme .notes) ≤ 32
+  pub notes-few : length (theme .notes) ≤ mostNotes
   pub notes : Each IsNote (theme .notes)
 
 -- within the limits: such a theme, 1 to 16 tracks, 1 to 2,048 chords that all have them

@@ -9,6 +9,7 @@ use lib.Dec.{leb, eqb}
 use lib.ListN.{length, take, drop, length-drop}
 use lib.Seq.{drop-drop, length-take-le}
 use borrow.Author.Tests.{le-leb, lt-leb}
+use Rattle.asking.specs.Limits.{mostNotes}
 use Rattle.score.specs.Limits.{mostTracks}
 use Rattle.asking.specs.declared.way.Way.{Way}
 use Rattle.asking.specs.declared.way.Way.the-variants.{Exact, Octave}
@@ -97,8 +98,8 @@ module _ (text : List ℕ) (from h base : ℕ) (into : List ℕ) (room : base + 
 
 -- ---- the notes of a theme line
 
-module _ (text : List ℕ) (from : ℕ) (way : Way) (into : List ℕ) (room : 32 ≤ length into) {r : Line} {into′ : List ℕ}
-    (f : Filled text 32 0 into r into′ (fields false 32 (drop from text))) where
+module _ (text : List ℕ) (from : ℕ) (way : Way) (into : List ℕ) (room : mostNotes ≤ length into) {r : Line} {into′ : List ℕ}
+    (f : Filled text mostNotes 0 into r into′ (fields false mostNotes (drop from text))) where
   abbrev sung : Read (List ℕ) → Read Theme
   sung q = next q (λ notes rest. got (record { way = way; notes = notes }) rest)
 

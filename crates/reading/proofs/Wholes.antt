@@ -5,6 +5,7 @@ use mathlib.Core.List.{List}
 use Prim.Native.Nat.{ℕ, zero, suc, _+_, _≤_}
 use native.Mathlib.Omega.{arith}
 use lib.ListN.{length, take, drop}
+use Rattle.asking.specs.Limits.{mostNotes}
 use Rattle.score.specs.Limits.{mostTracks, mostColumns}
 use Rattle.score.specs.Score.{cut}
 use Rattle.asking.specs.declared.way.Way.{Way}
@@ -25,7 +26,7 @@ sung way count theme = record { way = way; notes = take count theme }
 pub record ThemeGot (input theme : List ℕ) (way : Way) (count here : ℕ) : Type 0 where
   pub is : themeLine input ≡ got (sung way count theme) (drop here input)
   pub within : here ≤ length input
-  pub few : count ≤ 32
+  pub few : count ≤ mostNotes
 
 pub record ScoreGot (input : List ℕ) (here : ℕ) (cells : List ℕ) (tracks columns : ℕ) : Type 0 where
   pub is : chords mostColumns 0 (drop here input) ≡ all (cut columns tracks cells)

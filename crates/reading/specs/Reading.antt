@@ -5,6 +5,7 @@ use mathlib.Core.List.{List, [], _∷_}
 use Prim.Native.Nat.{ℕ, zero, suc}
 use lib.Dec.{leb, eqb}
 use lib.ListN.{length, drop}
+use Rattle.asking.specs.Limits.{mostNotes}
 use Rattle.score.specs.Limits.{mostTracks}
 use Rattle.asking.specs.declared.way.Way.{Way}
 use Rattle.asking.specs.declared.way.Way.the-variants.{Exact, Octave}
@@ -52,7 +53,7 @@ pub record Theme : Type 0 where
   pub notes : List ℕ
 
 abbrev pub notesOf : Way → List ℕ → Read Theme
-notesOf way text = next (counted (leb 2) (fields false 32 text)) (λ notes rest. got (record { way = way; notes = notes }) rest)
+notesOf way text = next (counted (leb 2) (fields false mostNotes text)) (λ notes rest. got (record { way = way; notes = notes }) rest)
 
 unfoldable pub themeLine : List ℕ → Read Theme
 themeLine text =

@@ -25,6 +25,7 @@ use lib.ListN.{length}
 use Rattle.score.specs.Score.{columnsIn, scoreOf}
 use Rattle.score.specs.Sets.{sets}
 use Rattle.score.proofs.Columns.{score-length, column-le}
+use Rattle.asking.specs.Limits.{mostNotes}
 use Rattle.asking.specs.declared.way.Way.{Way}
 use Rattle.asking.specs.declared.bookmark.Pair.{Pair}
 use Rattle.asking.specs.declared.bookmark.Bookmark.{Bookmark}
@@ -53,7 +54,7 @@ module _ (cells : List ℕ) (h : ℕ) (theme : List ℕ) (way : Way) where
   most-is : (length (scoreOf cells h) + 1 - length theme) * h * (length theme - 1) ≡ mostLooks cells h theme
   most-is = ap (λ (n : ℕ). (n + 1 - length theme) * h * (length theme - 1)) (score-length cells h)
 
-  pub most-fits : Accepted cells h theme → mostLooks cells h theme < 2 ^ 32
+  pub most-fits : Accepted mostNotes cells h theme → mostLooks cells h theme < 2 ^ 32
   most-fits a = most-lt (columnsIn cells h) h (length theme) (a .columns-few) (a .tracks-few) (a .notes-some) (a .notes-few)
 
   pub all-looks-le : plainLooks way (scoreOf cells h) theme ≤ mostLooks cells h theme
@@ -80,7 +81,7 @@ module _ (cells : List ℕ) (h : ℕ) (theme : List ℕ) (way : Way) where
 
 -- ---- demand 3
 
-module _ (cells : List ℕ) (h : ℕ) (theme : List ℕ) (way : Way) (a : Accepted cells h theme) (r : ℕ) (room : 1 ≤ r) where
+module _ (cells : List ℕ) (h : ℕ) (theme : List ℕ) (way : Way) (a : Accepted mostNotes cells h theme) (r : ℕ) (room : 1 ≤ r) where
   -- plain: all pairs
   pub plain-lists : Lists (plainPage cells h theme way) r (firstBookmark (rangeOf way)) (pairs way (scoreOf cells h) theme) (plainLooks way (scoreOf cells h) theme)
   plain-lists = search-lists (plain-calls cells h theme way a r room)

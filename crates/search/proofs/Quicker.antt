@@ -17,13 +17,14 @@ use Rattle.score.specs.Refusals.{Row, badSet}
 use Rattle.score.proofs.Columns.{score-length}
 use Rattle.score.proofs.IntervalSets.{sets-length, sets-lt}
 use Rattle.score.proofs.Judged.{clear-append, judge-skip}
+use Rattle.asking.specs.Limits.{mostNotes}
 use Rattle.asking.specs.declared.way.Way.{Way}
 use Rattle.asking.specs.declared.bookmark.Pair.{Pair}
 use Rattle.asking.specs.declared.bookmark.Bookmark.{Bookmark}
 use Rattle.asking.specs.Way.{rangeOf}
-use Rattle.asking.specs.Refusals.{badNote}
+use Rattle.asking.specs.Refusals.{badNote, requestRows, setsRows, pageRows}
 use Rattle.asking.specs.Asking.{Accepted, AcceptedSets}
-use Rattle.asking.proofs.Rows.{scoreRows, setsRows, pageRows, accepted-clear, sets-clear}
+use Rattle.asking.proofs.Rows.{accepted-clear, sets-clear}
 use Rattle.filter.specs.Table.{themeTable}
 use Rattle.paging.specs.Lent.{Lent}
 use Rattle.paging.specs.Search.{listed}
@@ -54,7 +55,7 @@ own-sets {cells} {h} =
       sets-good = none-some badSet (sets (scoreOf cells h)) 0 (λ i l. le-ltb 4095 (getD (sets (scoreOf cells h)) i 0) (omega (arith, sets-lt (scoreOf cells h) i)));
     }
 
-note-le : {cells : List ℕ} {h : ℕ} {theme : List ℕ} → Accepted cells h theme → (i : ℕ) → getD theme i 0 ≤ 127
+note-le : {cells : List ℕ} {h : ℕ} {theme : List ℕ} → Accepted mostNotes cells h theme → (i : ℕ) → getD theme i 0 ≤ 127
 note-le {theme = theme} a i = pick (decLt i (length theme))
   where
     pick : Dec (i < length theme) → getD theme i 0 ≤ 127
@@ -63,7 +64,7 @@ note-le {theme = theme} a i = pick (decLt i (length theme))
 
 -- ---- what the candidates leave out is no hit
 
-module _ (cells : List ℕ) (h : ℕ) (theme : List ℕ) (way : Way) (a : Accepted cells h theme) where
+module _ (cells : List ℕ) (h : ℕ) (theme : List ℕ) (way : Way) (a : Accepted mostNotes cells h theme) where
   abbrev score : List (List ℕ)
   score = scoreOf cells h
 
@@ -84,20 +85,20 @@ module _ (cells : List ℕ) (h : ℕ) (theme : List ℕ) (way : Way) (a : Accept
 
   module _ (b : Bookmark) (buffers : Lent) where
     abbrev lastRows : List Row
-    lastRows = pageRows (rangeOf way) (columnsIn cells h) b (buffers .columns) (buffers .shifts)
+    lastRows = pageRows (rangeOf way) (columnsIn cells h) b (length (buffers .columns)) (length (buffers .shifts))
 
     plain-skip : plainPage cells h theme way b buffers ≡ paged lastRows (plainSearch way score theme) b buffers
     unfolding plainPage
     plain-skip =
-        judge-skip (away buffers) (leaf (plainSearch way score theme) b buffers) (scoreRows cells h theme) lastRows (accepted-clear cells h theme .0 a)
+        judge-skip (away buffers) (leaf (plainSearch way score theme) b buffers) (requestRows mostNotes cells h theme) lastRows (accepted-clear mostNotes cells h theme .0 a)
 
     quick-skip : (table : List ℕ) → length table ≡ 4096
         → quickPage cells h theme way b (sets score) table buffers ≡ paged lastRows (quickSearch way score theme (themeTable theme) (sets score)) b buffers
     unfolding quickPage
     quick-skip table e =
         judge-skip (away buffers) (leaf (quickSearch way score theme (themeTable theme) (sets score)) b buffers)
-        (scoreRows cells h theme ++ setsRows cells h (sets score) table) lastRows
-        (clear-append (scoreRows cells h theme) (setsRows cells h (sets score) table) (accepted-clear cells h theme .0 a)
+        (requestRows mostNotes cells h theme ++ setsRows cells h (sets score) (length table)) lastRows
+        (clear-append (requestRows mostNotes cells h theme) (setsRows cells h (sets score) (length table)) (accepted-clear mostNotes cells h theme .0 a)
         (sets-clear cells h (sets score) table .0 (own-sets, e)))
 
     pub quick-same : (table : List ℕ) → length table ≡ 4096

@@ -9,6 +9,7 @@ use lib.ListN.{length}
 use lib.Signed.{leZ-yes}
 use Rattle.score.specs.Score.{scoreOf}
 use Rattle.score.proofs.Columns.{score-length}
+use Rattle.asking.specs.Limits.{mostNotes}
 use Rattle.asking.specs.declared.way.Way.{Way}
 use Rattle.asking.specs.declared.way.Way.the-variants.{Exact, Octave}
 use Rattle.asking.specs.declared.bookmark.Bookmark.{Bookmark}
@@ -57,7 +58,7 @@ module _ (way : Way) (score : List (List ℕ)) (theme : List ℕ) (notes : 2 ≤
 
 -- ---- the calls
 
-module _ (cells : List ℕ) (h : ℕ) (theme : List ℕ) (way : Way) (a : Accepted cells h theme) (r : ℕ) (room : 1 ≤ r) where
+module _ (cells : List ℕ) (h : ℕ) (theme : List ℕ) (way : Way) (a : Accepted mostNotes cells h theme) (r : ℕ) (room : 1 ≤ r) where
   score-few : length (scoreOf cells h) < 65535
   score-few = omega (arith, score-length cells h, a .columns-few)
 

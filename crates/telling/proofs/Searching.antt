@@ -20,6 +20,7 @@ use Rattle.score.specs.Score.{columnsIn, scoreOf}
 use Rattle.score.specs.Sets.{sets as setsOf}
 use Rattle.preparing.specs.Preparing.{Filled, prepareRows, Prepares}
 use Rattle.score.proofs.Judged.{judge-clear}
+use Rattle.asking.specs.Limits.{mostNotes}
 use Rattle.asking.proofs.Rows.{accepted-clear, row6-clear}
 use Rattle.score.proofs.Columns.{score-length, column-le}
 use Rattle.asking.specs.declared.way.Way.{Way}
@@ -54,10 +55,10 @@ searchOf cells h theme way lent = quickSearch way (scoreOf cells h) theme (theme
 
 -- ---- the sets that are prepared are the score's own
 
-pub prepared-own : (cells : List ℕ) (h : ℕ) (theme : List ℕ) {lent after : List ℕ} {answer : Preparation} → Accepted cells h theme → length lent ≡ columnsIn cells h - 1
+pub prepared-own : (cells : List ℕ) (h : ℕ) (theme : List ℕ) {lent after : List ℕ} {answer : Preparation} → Accepted mostNotes cells h theme → length lent ≡ columnsIn cells h - 1
     → Prepares cells h lent answer after → after ≡ setsOf (scoreOf cells h)
 prepared-own cells h theme {lent} a l p =
-    let c = accepted-clear cells h theme .0 a in
+    let c = accepted-clear mostNotes cells h theme .0 a in
     p .fills
     ∙ ap (λ (f : Filled). f .sets)
     (judge-clear (λ r. record { answer = Preparations.Refused r; sets = lent }) (record { answer = Preparations.Prepared; sets = setsOf (scoreOf cells h) })
@@ -74,7 +75,7 @@ lines-append a b = ap join (map-append hitLine a b) ∙ join-append (map hitLine
 
 -- ---- bounds
 
-module _ (cells : List ℕ) (h : ℕ) (theme : List ℕ) (way : Way) (a : Accepted cells h theme) where
+module _ (cells : List ℕ) (h : ℕ) (theme : List ℕ) (way : Way) (a : Accepted mostNotes cells h theme) where
   pub pairs-few : length (pairs way (scoreOf cells h) theme) ≤ 32752
   pairs-few =
       omega (
@@ -120,7 +121,7 @@ module _ (cells : List ℕ) (h : ℕ) (theme : List ℕ) (way : Way) (a : Accept
 
 pub record Paging (cells : List ℕ) (h : ℕ) (theme : List ℕ) (way : Way) (lent out₀ table : List ℕ) (buffers : Lent) (out : List ℕ) (b : Bookmark)
     (at found spent : ℕ) (more : Bool) : Type 0 where
-  pub accepted : Accepted cells h theme
+  pub accepted : Accepted mostNotes cells h theme
   pub own : lent ≡ setsOf (scoreOf cells h)
   pub room : Room table buffers out₀
   pub done : List Pair
@@ -128,7 +129,7 @@ pub record Paging (cells : List ℕ) (h : ℕ) (theme : List ℕ) (way : Way) (l
   pub wrote : Wrote (hitLines done) 0 out₀ at out
   pub counted : found ≡ length done
 
-module _ (cells : List ℕ) (h : ℕ) (theme : List ℕ) (way : Way) (lent : List ℕ) (a : Accepted cells h theme) (o : lent ≡ setsOf (scoreOf cells h)) where
+module _ (cells : List ℕ) (h : ℕ) (theme : List ℕ) (way : Way) (lent : List ℕ) (a : Accepted mostNotes cells h theme) (o : lent ≡ setsOf (scoreOf cells h)) where
   -- all pairs are listed
   pub own-list : listed (searchOf cells h theme way lent) ≡ pairs way (scoreOf cells h) theme
   own-list = rw o (own-listed cells h theme way a)

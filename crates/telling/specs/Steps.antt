@@ -8,6 +8,7 @@ use lib.Seq.{sets as stored}
 use Rattle.score.specs.Limits.{mostColumns, tableWords}
 use Rattle.score.specs.Score.{scoreOf}
 use Rattle.score.specs.Sets.{sets as setsOf}
+use Rattle.asking.specs.Limits.{mostNotes}
 use Rattle.asking.specs.Asking.{Accepted}
 use Rattle.paging.specs.Lent.{Lent, Room as PairsRoom}
 use Rattle.telling.specs.Telling.{room as textRoom}
@@ -29,12 +30,12 @@ pub record Room (table : List ℕ) (buffers : Lent) (out : List ℕ) : Type 0 wh
 
 -- what a search is given: an accepted score and theme, and room for all
 pub record Sought (cells : List ℕ) (h : ℕ) (theme sets table : List ℕ) (buffers : Lent) (out : List ℕ) : Type 0 where
-  pub accepted : Accepted cells h theme
+  pub accepted : Accepted mostNotes cells h theme
   pub sets-room : length sets ≡ mostColumns - 1
   pub room : Room table buffers out
 
 -- what the pages are written of: an accepted score and theme, the score's own sets, and room for all
 pub record Asked (cells : List ℕ) (h : ℕ) (theme sets table : List ℕ) (buffers : Lent) (out : List ℕ) : Type 0 where
-  pub accepted : Accepted cells h theme
+  pub accepted : Accepted mostNotes cells h theme
   pub own : sets ≡ setsOf (scoreOf cells h)
   pub room : Room table buffers out

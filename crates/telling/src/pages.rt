@@ -14,6 +14,7 @@ use search::quick_page;
 ghost use Prim.Native.Nat.{_≤_};
 ghost use lib.ListN.{length};
 ghost use Rattle.score.specs.Score.{scoreOf};
+ghost use Rattle.asking.specs.Limits.{mostNotes};
 ghost use Rattle.asking.specs.Asking.{Accepted};
 ghost use Rattle.paging.specs.Lent.{lent};
 ghost use Rattle.telling.specs.Lines.{linesOf};
@@ -99,7 +100,7 @@ fn search_in(
 
 // The same with room of its own for all that is between.
 pub fn search_lines(cells: &[u8], tracks: usize, theme: &[u8], way: Way, out: &mut [u8]) -> usize
-    requires { ⌜ Accepted (now cells) tracks (now theme) ⌝ }
+    requires { ⌜ Accepted mostNotes (now cells) tracks (now theme) ⌝ }
     requires { ⌜ room ≤ length (now out) ⌝ }
     ensures { λ r. ⌜ Wrote (linesOf way (scoreOf (now (cells .entry)) tracks) (now (theme .entry))) 0 (now (out .entry)) r (now (out .exit)) ⌝ }
 {
