@@ -3,7 +3,7 @@
 use mathlib.Core.Path.{_≡_, sym, ap, _∙_}
 use mathlib.Core.List.{_++_}
 use Prim.Native.Nat.{ℕ, _+_, _-_, _*_, _/_, _%_, _^_, _≤_, _<_}
-use native.Mathlib.Nat.{add-comm, mod-lt, zero-lt-suc}
+use native.Mathlib.Nat.{add-comm, lt-of-le-of-lt, mod-lt, zero-lt-suc}
 use native.Mathlib.Decide.{decLt}
 use native.Mathlib.Omega.{arith}
 use lib.Arith.{digits-lt}
@@ -97,6 +97,9 @@ module _ (a b c d : ℕ) (h : Halves a b) (k : Halves c d) where
   pub value-and : value (bitAnd a c) (bitAnd b d) ≡ bitAnd (value a b) (value c d)
   unfolding value
   value-and = sym (and-block 64 b d a c (h .lower) (k .lower))
+
+  pub halves-and : Halves (bitAnd a c) (bitAnd b d)
+  halves-and = record { lower = lt-of-le-of-lt (and-le-l a c) (h .lower); upper = lt-of-le-of-lt (and-le-l b d) (h .upper) }
 
   pub value-or : value (bitOr a c) (bitOr b d) ≡ bitOr (value a b) (value c d)
   unfolding value

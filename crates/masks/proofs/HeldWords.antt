@@ -8,6 +8,7 @@ use native.Mathlib.Nat.{mod-lt, zero-lt-suc}
 use native.Mathlib.Decide.{decLe, decLt}
 use native.Mathlib.Omega.{arith}
 use lib.Dec.{eqb, leb}
+use lib.Pow.{ones-lt}
 use borrow.Author.Tests.{le-leb, lt-leb, eq-eqb, ne-eqb}
 use Rattle.theory.specs.Bits.{bit, number}
 use Rattle.theory.proofs.Bits.{bit-lt, bit-high, bit-number, number-lt, number-same}
@@ -17,7 +18,12 @@ use Rattle.asking.specs.declared.way.Way.{Way}
 use Rattle.asking.specs.declared.way.Way.the-variants.{Exact, Octave}
 use Rattle.asking.specs.Way.{holds}
 use Rattle.asking.proofs.Holding.{holds-exact, holds-below, holds-above, holds-octave}
-use Rattle.masks.specs.Masks.{width, has, columnWord, lowCode, heldWord, turnedWord, shiftedWord, movedWord}
+use Rattle.masks.specs.Masks.{value, width, has, columnWord, lowCode, heldWord, allStarts, turnedWord, shiftedWord, movedWord}
+use Rattle.masks.proofs.Halves.{value-few, value-full}
+
+pub width-le : (way : Way) → width way ≤ 128
+width-le Exact = omega arith
+width-le Octave = omega arith
 
 -- ---- the word of a column
 
@@ -47,6 +53,21 @@ module _ (way : Way) (first p : Pitch) (column : List ℕ) where
   held-bit i k =
       bit-test (holds way (lowCode way first + i) p column) (bit (heldWord way first p column) i)
       (bit-number (width way) (λ j. present (holds way (lowCode way first + j) p column)) (λ j. present-lt (holds way (lowCode way first + j) p column)) i k)
+
+-- ---- every start
+
+pub all-lt : (way : Way) → allStarts way < 2 ^ width way
+unfolding allStarts
+all-lt way = ones-lt (width way)
+
+-- as code has them
+pub all-exact : value (2 ^ 64 - 1) (2 ^ 64 - 1) ≡ allStarts Exact
+unfolding allStarts
+all-exact = value-full
+
+pub all-octave : value 4095 0 ≡ allStarts Octave
+unfolding allStarts
+all-octave = value-few 4095
 
 -- ---- moved by a note
 

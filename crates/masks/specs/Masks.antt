@@ -44,7 +44,7 @@ unfoldable pub heldWord : Way → (first p : Pitch) (column : List ℕ) → ℕ
 heldWord way first p column = number (width way) (λ i. cond (holds way (lowCode way first + i) p column) 1 0)
 
 -- every start there may be
-abbrev pub allStarts : Way → ℕ
+unfoldable pub allStarts : Way → ℕ
 allStarts way = 2 ^ width way - 1
 
 -- ---- a word moved

@@ -1,4 +1,4 @@
--- `walking::masks::word_at` meets its contract. Assumes nothing.
+-- `walking::ring::word_at` meets its contract. Assumes nothing.
 use borrow.Author.Needs.{needs}
 use mathlib.Core.Path.{_≡_}
 use Prim.Native.Nat.{_+_, _-_, _*_, _%_}
@@ -6,10 +6,10 @@ use native.Mathlib.Nat.{mod-lt, zero-lt-suc}
 use native.Mathlib.Omega.{arith}
 use lib.ListN.{take, drop, length-set}
 use denote.Ref.{now}
-use Rattle.walking.specs.Alive.{WordOf}
-use Rattle.walking.proofs.masks.Laws.{cached-kept, cached-put}
-use Rattle.walking.proofs.masks.word_at.Statement.{statement}
-use Rattle.walking.proofs.masks.word_at.Tie as tie
+use Rattle.masks.specs.Masks.{value, columnWord}
+use Rattle.walking.proofs.ring.Laws.{cached-kept, cached-put}
+use Rattle.walking.proofs.ring.word_at.Statement.{statement}
+use Rattle.walking.proofs.ring.word_at.Tie as tie
 
 add-tag : tie.Need-add-tag
 add-tag c = search needs
@@ -92,7 +92,7 @@ returns-2 : tie.Need-returns-2
 returns-2 c =
     let s = c .before .before .before .before .before .before in
     let e : s .args .k * s .args .h + s .args .h - s .args .k * s .args .h ≡ s .args .h = omega arith in
-    let w : WordOf (s .args .way) (take (s .args .h) (drop (s .args .k * s .args .h) (now (s .args .cells)))) (c .word-of .result .low) (c .word-of .result .high) = rw e at (c .word-of .ensures) in
+    let w : value (c .word-of .result .low) (c .word-of .result .high) ≡ columnWord (s .args .way) (take (s .args .h) (drop (s .args .k * s .args .h) (now (s .args .cells)))) = rw e at (c .word-of .ensures) in
     (w, cached-put (s .args .way) (now (s .args .cells)) (s .args .h) (s .args .ring .now) (s .pre .1) (s .args .k % 32) (s .args .k) (mod-lt _ (zero-lt-suc 31)) _ _ w)
 
 pub word-at-spec : {M : Type 1} → statement M
