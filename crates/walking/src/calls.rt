@@ -1,5 +1,6 @@
 // The two walks of a page: plain, along every start, and quick, along the starts at candidates.
 
+use crate::ring::RING;
 use crate::signs::code_of;
 use crate::walk::walk;
 use asking::Bookmark;
@@ -50,7 +51,7 @@ pub fn walk_plain(
     let code = code_of(way, bookmark.shift);
     let none = [0u16; 1];
     let blank = [0u32; 1];
-    let mut ring = [0u64; 96];
+    let mut ring = [0u64; RING];
     Walk::Done(walk(
         true,
         cells,
@@ -96,7 +97,7 @@ pub fn walk_quick(
         return Walk::Refused(e);
     }
     let code = code_of(way, bookmark.shift);
-    let mut ring = [0u64; 96];
+    let mut ring = [0u64; RING];
     fill_table(theme, table);
     Walk::Done(walk(
         false,

@@ -8,7 +8,7 @@ use mir.Facts.{toZ-ofZ}
 use Rattle.asking.specs.Way.{codeOf}
 use Rattle.asking.proofs.Rows.{plain-clear}
 use Rattle.walking.proofs.Answers.{accepted-ready, finds-away, finds-done, plain-asks, plain-begins}
-use Rattle.walking.proofs.masks.Laws.{cached-none}
+use Rattle.walking.proofs.ring.Laws.{cached-none}
 use Rattle.walking.proofs.calls.walk_plain.Statement.{statement}
 use Rattle.walking.proofs.calls.walk_plain.Tie as tie
 
