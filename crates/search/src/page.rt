@@ -7,9 +7,16 @@ use paging::turned;
 use score::Column;
 use score::columns_in;
 use walking::Walk;
+use walking::Walked;
 use walking::walk_plain;
 use walking::walk_quick;
+ghost use mathlib.Core.Path.{_≡_};
+ghost use Prim.Native.Nat.{_<_};
+ghost use Rattle.score.specs.Score.{columnAt};
+ghost use Rattle.asking.specs.Way.{rangeOf};
+ghost use Rattle.asking.specs.Bookmarks.{finishedBookmark};
 ghost use Rattle.paging.specs.Lent.{lent};
+ghost use Rattle.paging.specs.Turning.{readTurn};
 ghost use Rattle.search.specs.Page.{PlainPages, QuickPages};
 
 // The first pairs at or after the bookmark, as many as there is room for, written from the front; places behind them keep
@@ -26,11 +33,7 @@ pub fn plain_page(
     ensures { λ r. ⌜ PlainPages (now (cells .entry)) tracks (now (theme .entry)) way bookmark (lent (now (columns .entry)) (now (shifts .entry))) r (lent (now (columns .exit)) (now (shifts .exit))) ⌝ }
 {
     match walk_plain(cells, tracks, theme, way, bookmark, columns, shifts) {
-        Walk::Done(w) => {
-            let n = columns_in(cells, tracks);
-            let end = Bookmark::finished(way, Column(n as u16));
-            Page::Turned(turned(end, w.found, w.looks, columns, shifts))
-        }
+        Walk::Done(w) => page_of(way, columns_in(cells, tracks), w, columns, shifts),
         Walk::Refused(e) => Page::Refused(e),
     }
 }
@@ -61,11 +64,16 @@ pub fn quick_page(
         columns,
         shifts,
     ) {
-        Walk::Done(w) => {
-            let n = columns_in(cells, tracks);
-            let end = Bookmark::finished(way, Column(n as u16));
-            Page::Turned(turned(end, w.found, w.looks, columns, shifts))
-        }
+        Walk::Done(w) => page_of(way, columns_in(cells, tracks), w, columns, shifts),
         Walk::Refused(e) => Page::Refused(e),
     }
+}
+
+// The answer after a walk through n columns.
+fn page_of(way: Way, n: usize, w: Walked, columns: &[u16], shifts: &[i16]) -> Page
+    requires { ⌜ n < 65536 ⌝ }
+    ensures { λ r. ⌜ r ≡ Page.Turned (readTurn (finishedBookmark (rangeOf way) (columnAt n)) (w .found) (w .looks) (lent (now (columns .entry)) (now (shifts .entry)))) ⌝ }
+{
+    let end = Bookmark::finished(way, Column(n as u16));
+    Page::Turned(turned(end, w.found, w.looks, columns, shifts))
 }

@@ -2,7 +2,7 @@
 -- done is the page's. Assumes nothing.
 use mathlib.Core.Path.{_≡_, refl, sym, ap, _∙_}
 use mathlib.Core.List.{List, [], map}
-use Prim.Native.Nat.{ℕ, _^_, _≤_, _<_}
+use Prim.Native.Nat.{ℕ, _≤_, _<_}
 use native.Mathlib.Omega.{arith}
 use lib.IntN.{ℤ}
 use lib.ListN.{length, length-map}
@@ -20,7 +20,7 @@ use Rattle.asking.specs.Bookmarks.{keyOf, finishedBookmark}
 use Rattle.asking.specs.Asking.{InRange, PlainAsks, QuickAsks}
 use Rattle.asking.proofs.Rows.{plain-clear, quick-clear}
 use Rattle.filter.specs.Table.{themeTable}
-use Rattle.paging.specs.declared.page.Turn.{Turn}
+use Rattle.paging.specs.declared.page.Page.{Page}
 use Rattle.paging.specs.declared.page.Page.the-variants.{Turned, Refused}
 use Rattle.paging.specs.Lent.{Lent, lent, Room, written}
 use Rattle.paging.specs.Search.{Search, left, found, spent}
@@ -50,19 +50,20 @@ module _ (rows : List Row) (way : Way) (score : List (List ℕ)) (theme : List �
       away-pages rows S b (lent columns shifts) (judge-away (away (lent columns shifts)) (leaf S b (lent columns shifts)) rows (f .0)) (rw (f .1, f .2))
 
   search-turns : 1 ≤ length columns → length shifts ≡ length columns → from key (keyOf way b) reached ≡ left S b → {w : Walked} {columns′ : List ℕ} {shifts′ : List ℤ}
-      → Finds rows way score theme reached b columns shifts (Done w) columns′ shifts′ → {n : ℕ} {end : Bookmark} {t : Turn} → n ≡ length score
-      → end ≡ finishedBookmark (rangeOf way) (columnAt n) → t ≡ readTurn end (w .found) (w .looks) (lent columns′ shifts′)
-      → Pages (paged rows S b (lent columns shifts)) (Turned t) (lent columns′ shifts′)
-  search-turns some same e {w} {columns′} {shifts′} l {n} {end} {t} is ends r =
+      → Finds rows way score theme reached b columns shifts (Done w) columns′ shifts′ → {n : ℕ} {page : Page} → n ≡ length score
+      → page ≡ Turned (readTurn (finishedBookmark (rangeOf way) (columnAt n)) (w .found) (w .looks) (lent columns′ shifts′))
+      → Pages (paged rows S b (lent columns shifts)) page (lent columns′ shifts′)
+  search-turns some same e {w} {columns′} {shifts′} l {n} {page} is r =
       let v = finds-went rows way score theme reached b columns shifts l in
       let places : List Place → List Place = λ xs. pageHits (hit way score theme) (length columns) xs in
-      went-pages rows S b (lent columns shifts) (length columns) some (record { of-columns = refl; of-shifts = same }) (finds-clear rows way score theme reached b columns shifts l)
+      rw r
+      (went-pages rows S b (lent columns shifts) (length columns) some (record { of-columns = refl; of-shifts = same }) (finds-clear rows way score theme reached b columns shifts l)
       (v .count ∙ ap (λ (xs : List Place). length (places xs)) e ∙ sym (length-map (places (left S b)) (pairAt way)))
       (v .costs ∙ ap (pageLooks (hit way score theme) (looks way score theme) (length columns)) e)
       (rw (v .in-columns, v .in-shifts)
       (places-written way (places (from key (keyOf way b) reached)) columns shifts
       ∙ ap (λ (xs : List Place). written (lent columns shifts) (map (pairAt way) (places xs))) e))
-      (r ∙ rw (ends, is))
+      (rw is))
 
 -- ---- plain
 
@@ -80,19 +81,19 @@ module _ (cells : List ℕ) (h : ℕ) (theme : List ℕ) (way : Way) (b : Bookma
     asked = plain-clear cells h theme way b columns shifts .1 (finds-clear _ _ _ _ _ _ _ _ l)
 
     -- the number of columns fits 16 bits
-    pub plain-fits : {n : ℕ} → n ≡ columnsIn cells h → n < 2 ^ 16
+    pub plain-fits : {n : ℕ} → n ≡ columnsIn cells h → n < 65536
     plain-fits e = omega (arith, e, asked .accepted .columns-few)
 
-    pub plain-turns : {n : ℕ} {end : Bookmark} {t : Turn} → n ≡ columnsIn cells h → end ≡ finishedBookmark (rangeOf way) (columnAt n)
-        → t ≡ readTurn end (w .found) (w .looks) (lent columns′ shifts′)
-        → PlainPages cells h theme way b (lent columns shifts) (Turned t) (lent columns′ shifts′)
+    pub plain-turns : {n : ℕ} {page : Page} → n ≡ columnsIn cells h
+        → page ≡ Turned (readTurn (finishedBookmark (rangeOf way) (columnAt n)) (w .found) (w .looks) (lent columns′ shifts′))
+        → PlainPages cells h theme way b (lent columns shifts) page (lent columns′ shifts′)
     unfolding plainPage
-    plain-turns e ends r =
+    plain-turns e r =
         record {
           pages =
               search-turns (rowsOfPlain cells h theme way b (lent columns shifts)) way (scoreOf cells h) theme (starts way (scoreOf cells h) theme) b columns shifts
               (asked .room) (asked .same-room) (left-plain way (scoreOf cells h) theme b (rw (score-length cells h) (asked .marked))) l
-              (e ∙ sym (score-length cells h)) ends r;
+              (e ∙ sym (score-length cells h)) r;
         }
 
 -- ---- quick
@@ -111,18 +112,18 @@ module _ (cells : List ℕ) (h : ℕ) (theme : List ℕ) (way : Way) (b : Bookma
     asked-quick : QuickAsks cells h theme way b sets table columns shifts
     asked-quick = quick-clear cells h theme way b sets table columns shifts .1 (finds-clear _ _ _ _ _ _ _ _ (l .finds))
 
-    pub quick-fits : {n : ℕ} → n ≡ columnsIn cells h → n < 2 ^ 16
+    pub quick-fits : {n : ℕ} → n ≡ columnsIn cells h → n < 65536
     quick-fits e = omega (arith, e, asked-quick .plain .accepted .columns-few)
 
-    pub quick-turns : {n : ℕ} {end : Bookmark} {t : Turn} → n ≡ columnsIn cells h → end ≡ finishedBookmark (rangeOf way) (columnAt n)
-        → t ≡ readTurn end (w .found) (w .looks) (lent columns′ shifts′)
-        → QuickPages cells h theme way b sets table (lent columns shifts) (Turned t) table′ (lent columns′ shifts′)
+    pub quick-turns : {n : ℕ} {page : Page} → n ≡ columnsIn cells h
+        → page ≡ Turned (readTurn (finishedBookmark (rangeOf way) (columnAt n)) (w .found) (w .looks) (lent columns′ shifts′))
+        → QuickPages cells h theme way b sets table (lent columns shifts) page table′ (lent columns′ shifts′)
     unfolding quickPage quickTable quickStarts
-    quick-turns e ends r =
+    quick-turns e r =
         let asks = asked-quick .plain in
         record {
           pages =
               search-turns (rowsOfQuick cells h theme way b sets table (lent columns shifts)) way (scoreOf cells h) theme (quickStarts way (scoreOf cells h) theme (themeTable theme) sets) b columns shifts (asks .room) (asks .same-room)
-              (left-quick way (scoreOf cells h) theme b (rw (score-length cells h) (asks .marked)) (themeTable theme) sets) (l .finds) (e ∙ sym (score-length cells h)) ends r;
+              (left-quick way (scoreOf cells h) theme b (rw (score-length cells h) (asks .marked)) (themeTable theme) sets) (l .finds) (e ∙ sym (score-length cells h)) r;
           fills-table = l .fills-table;
         }

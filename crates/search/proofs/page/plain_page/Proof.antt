@@ -14,17 +14,12 @@ enum-known-w c = search needs
 columns-in-requires : tie.Need-columns-in-requires
 columns-in-requires c κs = search needs
 
-cast-t18 : tie.Need-cast-t18
-cast-t18 c =
-    let found = c .before .before in
+page-of-requires : tie.Need-page-of-requires
+page-of-requires c κs =
+    let found = c .before .before .before .before in
     let a = found .before .before .before .before .before .before .before .before .before .before .before .args in
-    record { fits = plain-fits (a .cells .now) (a .tracks) (a .theme .now) (a .way) (a .bookmark) (a .columns .now) (a .shifts .now) (rw (found .w .given .1) at (found .before .before .before .before .before .walk-plain .ensures)) (c .columns-in .ensures) }
-
-finished-requires : tie.Need-finished-requires
-finished-requires c κs = search needs
-
-turned-requires : tie.Need-turned-requires
-turned-requires c κs = search needs
+    plain-fits (a .cells .now) (a .tracks) (a .theme .now) (a .way) (a .bookmark) (a .columns .now) (a .shifts .now)
+    (rw (found .w .given .1) at (found .before .before .before .before .before .walk-plain .ensures)) (c .before .before .columns-in .ensures)
 
 enum-known-e : tie.Need-enum-known-e
 enum-known-e c = search needs
@@ -37,10 +32,10 @@ same-length-2 c = search needs
 
 returns : tie.Need-returns
 returns c =
-    let ended = c .before .before .before in
-    let found = ended .before .before .before in
-    plain-turns _ _ _ _ _ _ _ (rw (found .w .given .1) at (found .before .before .before .before .before .walk-plain .ensures)) (ended .before .columns-in .ensures)
-    (ended .finished .ensures) (c .turned .ensures)
+    let counted = c .before .before .before in
+    let found = counted .before .before in
+    plain-turns _ _ _ _ _ _ _
+    (rw (found .w .given .1) at (found .before .before .before .before .before .walk-plain .ensures)) (counted .columns-in .ensures) (c .page-of .ensures)
 
 same-length-3 : tie.Need-same-length-3
 same-length-3 c = search needs
@@ -58,9 +53,7 @@ plain-page-spec =
     walk-plain-requires
     enum-known-w
     columns-in-requires
-    cast-t18
-    finished-requires
-    turned-requires
+    page-of-requires
     enum-known-e
     same-length
     same-length-2

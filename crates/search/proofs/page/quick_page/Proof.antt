@@ -14,16 +14,11 @@ enum-known-w c = search needs
 columns-in-requires : tie.Need-columns-in-requires
 columns-in-requires c κs = search needs
 
-cast-t22 : tie.Need-cast-t22
-cast-t22 c =
-    let found = c .before .before in
-    record { fits = quick-fits _ _ _ _ _ _ _ _ _ (rw (found .w .given .1) at (found .before .before .before .before .before .before .before .walk-quick .ensures)) (c .columns-in .ensures) }
-
-finished-requires : tie.Need-finished-requires
-finished-requires c κs = search needs
-
-turned-requires : tie.Need-turned-requires
-turned-requires c κs = search needs
+page-of-requires : tie.Need-page-of-requires
+page-of-requires c κs =
+    let found = c .before .before .before .before in
+    quick-fits _ _ _ _ _ _ _ _ _
+    (rw (found .w .given .1) at (found .before .before .before .before .before .before .before .walk-quick .ensures)) (c .before .before .columns-in .ensures)
 
 enum-known-e : tie.Need-enum-known-e
 enum-known-e c = search needs
@@ -39,10 +34,10 @@ same-length-3 c = search needs
 
 returns : tie.Need-returns
 returns c =
-    let ended = c .before .before .before in
-    let found = ended .before .before .before in
-    quick-turns _ _ _ _ _ _ _ _ _ (rw (found .w .given .1) at (found .before .before .before .before .before .before .before .walk-quick .ensures)) (ended .before .columns-in .ensures)
-    (ended .finished .ensures) (c .turned .ensures)
+    let counted = c .before .before .before in
+    let found = counted .before .before in
+    quick-turns _ _ _ _ _ _ _ _ _
+    (rw (found .w .given .1) at (found .before .before .before .before .before .before .before .walk-quick .ensures)) (counted .columns-in .ensures) (c .page-of .ensures)
 
 same-length-4 : tie.Need-same-length-4
 same-length-4 c = search needs
@@ -63,9 +58,7 @@ quick-page-spec =
     walk-quick-requires
     enum-known-w
     columns-in-requires
-    cast-t22
-    finished-requires
-    turned-requires
+    page-of-requires
     enum-known-e
     same-length
     same-length-2
