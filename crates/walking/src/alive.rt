@@ -1,10 +1,10 @@
 // All starts of a column at once: a word has a bit for each that is alive, and each note that follows leaves those at which
 // the next column holds it.
 
-use crate::calls::Walked;
+use crate::column::try_column;
 use crate::masks::Word;
 use crate::masks::held_at;
-use crate::walk::try_column;
+use crate::walked::Walked;
 use asking::Way;
 use hits::put_hits;
 use score::Column;

@@ -2,6 +2,7 @@
 
 use crate::signs::code_of;
 use crate::walk::walk;
+use crate::walked::Walked;
 use asking::Bookmark;
 use asking::Way;
 use asking::check_plain;
@@ -10,12 +11,6 @@ use filter::fill_table;
 use score::Refusal;
 use score::Verdict;
 ghost use Rattle.walking.specs.Found.{PlainWalks, QuickWalks};
-
-// How far a walk has come: the pairs found, and the looks.
-pub struct Walked {
-    pub found: usize,
-    pub looks: u32,
-}
 
 // What a walk comes to: how far it came, or why it is turned away.
 pub enum Walk {

@@ -16,7 +16,7 @@ use Rattle.asking.specs.Asking.{PlainAsks, QuickAsks}
 use Rattle.asking.specs.Refusals.{plainRows, quickRows}
 use Rattle.asking.proofs.Rows.{plain-clear, quick-clear}
 use Rattle.filter.specs.Table.{themeTable}
-use Rattle.walking.specs.declared.calls.Walked.{Walked}
+use Rattle.walking.specs.declared.walked.Walked.{Walked}
 use Rattle.walking.specs.declared.calls.Walk.the-variants.{Done, Refused as Away}
 use Rattle.walking.specs.Starts.{Place, starts}
 use Rattle.walking.specs.Candidates.{quickStarts}
