@@ -2,7 +2,7 @@
 // in order. Every check is total, and says what the rows of the table of refusals say.
 
 use crate::bookmark::Bookmark;
-use crate::signs::out_of_range;
+use crate::codes::out_of_range;
 use crate::way::Way;
 use score::Column;
 use score::Refusal;

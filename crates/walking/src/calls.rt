@@ -1,12 +1,12 @@
 // The two walks of a page: plain, along every start, and quick, along the starts at candidates.
 
-use crate::signs::code_of;
 use crate::walk::walk;
 use crate::walked::Walked;
 use asking::Bookmark;
 use asking::Way;
 use asking::check_plain;
 use asking::check_quick;
+use asking::code_of;
 use filter::fill_table;
 use score::Refusal;
 use score::Verdict;

@@ -1,10 +1,10 @@
 // The starts of a column, tried one by one: hits are written behind those found before.
 
-use crate::signs::span_of;
 use crate::starts::next_code;
 use crate::starts::try_start;
 use crate::walked::Walked;
 use asking::Way;
+use asking::span_of;
 use hits::keep;
 use score::Column;
 use score::Pitch;

@@ -1,16 +1,14 @@
 // From a bookmark to the hits that fill a page.
 //
-// `walked` is how far a walk has come. `signs` turns shifts into codes. `starts` are the places whose first note is present,
-// and what is looked at from there. The starts of a `column` are tried one by one; `masks` are columns as words of bits, by
-// which `alive` tries all of them at once. The `register` finds the next candidate, a `walk` goes from column to column, and the
-// `calls` check what is asked and walk.
+// `walked` is how far a walk has come. `starts` are the places whose first note is present, and what is looked at from there.
+// The starts of a `column` are tried one by one; `masks` are columns as words of bits, by which `alive` tries all of them at
+// once. The `register` finds the next candidate, a `walk` goes from column to column, and the `calls` check what is asked and walk.
 
 mod alive;
 pub mod calls;
 mod column;
 mod masks;
 mod register;
-mod signs;
 mod starts;
 mod walk;
 pub mod walked;
