@@ -15,7 +15,7 @@ use Rattle.score.specs.Score.{columnsIn}
 use Rattle.score.specs.Refusals.{Row, row1, row2, row3, row6, row7}
 use Rattle.asking.specs.declared.way.Way.{Way}
 use Rattle.asking.specs.declared.bookmark.Bookmark.{Bookmark}
-use Rattle.asking.specs.Way.{lowest, highest}
+use Rattle.asking.specs.Way.{Range, rangeOf}
 use Rattle.asking.specs.Refusals.{row4, row5, row8, row9, row10, plainRows, quickRows}
 use Rattle.asking.specs.Asking.{Accepted, AcceptedSets, InRange, PlainAsks, QuickAsks}
 use Rattle.score.proofs.Judged.{Clear, clear-append, clear-split}
@@ -66,19 +66,20 @@ pub row9-clear : (columns : List ℕ) (shifts : List ℤ) → (row9 (length colu
 row9-clear columns shifts =
     neither (eqb (length columns) 0) (not (eqb (length shifts) (length columns))) (not-zero (length columns)) (equal (length shifts) (length columns))
 
-module _ (way : Way) (n : ℕ) (b : Bookmark) where
+module _ (range : Range) (n : ℕ) (b : Bookmark) where
   abbrev column-out : Bool
   column-out = eqb (b .column .0) 0 || ltb (n + 1) (b .column .0)
 
   column-in : (column-out ≡ false) ↔ ((1 ≤ b .column .0) × (b .column .0 ≤ n + 1))
   column-in = neither (eqb (b .column .0) 0) (ltb (n + 1) (b .column .0)) (not-zero (b .column .0)) (not-over (n + 1) (b .column .0))
 
-  shift-in : (row10 way n b .applies ≡ false) ↔ ((((1 ≤ b .column .0) × (b .column .0 ≤ n + 1)) × (lowest way ≤ℤ b .shift)) × (b .shift ≤ℤ (highest way +ℤ pos 1)))
+  shift-in : (row10 range n b .applies ≡ false)
+      ↔ ((((1 ≤ b .column .0) × (b .column .0 ≤ n + 1)) × (range .lowest ≤ℤ b .shift)) × (b .shift ≤ℤ (range .highest +ℤ pos 1)))
   shift-in =
-      neither (column-out || ltZ (b .shift) (lowest way)) (ltZ (highest way +ℤ pos 1) (b .shift))
-      (neither column-out (ltZ (b .shift) (lowest way)) column-in (not-overZ (b .shift) (lowest way))) (not-overZ (highest way +ℤ pos 1) (b .shift))
+      neither (column-out || ltZ (b .shift) (range .lowest)) (ltZ (range .highest +ℤ pos 1) (b .shift))
+      (neither column-out (ltZ (b .shift) (range .lowest)) column-in (not-overZ (b .shift) (range .lowest))) (not-overZ (range .highest +ℤ pos 1) (b .shift))
 
-  pub row10-clear : (row10 way n b .applies ≡ false) ↔ InRange way n b
+  pub row10-clear : (row10 range n b .applies ≡ false) ↔ InRange range n b
   row10-clear = (
     λ e. let f = shift-in .0 e in record { from-first = f .0 .0 .0; to-end = f .0 .0 .1; not-below = f .0 .1; not-above = f .1 },
     λ i. shift-in .1 (((i .from-first, i .to-end), i .not-below), i .not-above),
@@ -93,8 +94,8 @@ scoreRows cells h theme = row1 h ∷ row2 cells h ∷ row3 cells ∷ row4 theme 
 abbrev pub setsRows : (cells : List ℕ) (h : ℕ) (sets table : List ℕ) → List Row
 setsRows cells h sets table = row6 cells h sets ∷ row7 sets ∷ row8 (length table) ∷ []
 
-abbrev pub pageRows : Way → (n : ℕ) → Bookmark → (columns : List ℕ) (shifts : List ℤ) → List Row
-pageRows way n b columns shifts = row9 (length columns) (length shifts) ∷ row10 way n b ∷ []
+abbrev pub pageRows : Range → (n : ℕ) → Bookmark → (columns : List ℕ) (shifts : List ℤ) → List Row
+pageRows range n b columns shifts = row9 (length columns) (length shifts) ∷ row10 range n b ∷ []
 
 module _ (cells : List ℕ) (h : ℕ) (theme : List ℕ) where
   pub accepted-clear : Accepted cells h theme ↔ Clear (scoreRows cells h theme)
@@ -132,11 +133,11 @@ sets-clear cells h sets table = (
   λ c. (record { one-less = row6-clear cells h sets .0 (c .0); sets-good = c .1 .0 }, row8-clear table .0 (c .1 .1 .0)),
 )
 
-module _ (way : Way) (n : ℕ) (b : Bookmark) (columns : List ℕ) (shifts : List ℤ) where
-  pub page-clear : ((1 ≤ length columns) × (length shifts ≡ length columns) × InRange way n b) ↔ Clear (pageRows way n b columns shifts)
+module _ (range : Range) (n : ℕ) (b : Bookmark) (columns : List ℕ) (shifts : List ℤ) where
+  pub page-clear : ((1 ≤ length columns) × (length shifts ≡ length columns) × InRange range n b) ↔ Clear (pageRows range n b columns shifts)
   page-clear = (
-    λ a. (row9-clear columns shifts .1 (a .0, a .1), (row10-clear way n b .1 (a .2), tt)),
-    λ c. let r = row9-clear columns shifts .0 (c .0) in (r .0, r .1, row10-clear way n b .0 (c .1 .0)),
+    λ a. (row9-clear columns shifts .1 (a .0, a .1), (row10-clear range n b .1 (a .2), tt)),
+    λ c. let r = row9-clear columns shifts .0 (c .0) in (r .0, r .1, row10-clear range n b .0 (c .1 .0)),
   )
 
 -- ---- a call is asked right exactly where none of its rows applies
@@ -144,24 +145,24 @@ module _ (way : Way) (n : ℕ) (b : Bookmark) (columns : List ℕ) (shifts : Lis
 module _ (cells : List ℕ) (h : ℕ) (theme : List ℕ) (way : Way) (b : Bookmark) (columns : List ℕ) (shifts : List ℤ) where
   pub plain-clear : PlainAsks cells h theme way b columns shifts ↔ Clear (plainRows cells h theme way b columns shifts)
   plain-clear = (
-    λ a. clear-append (scoreRows cells h theme) (pageRows way (columnsIn cells h) b columns shifts) (accepted-clear cells h theme .0 (a .accepted))
-        (page-clear way (columnsIn cells h) b columns shifts .0 (a .room, a .same-room, a .marked)),
-    λ c. let d = clear-split (scoreRows cells h theme) (pageRows way (columnsIn cells h) b columns shifts) c in
-        let p = page-clear way (columnsIn cells h) b columns shifts .1 (d .1) in
+    λ a. clear-append (scoreRows cells h theme) (pageRows (rangeOf way) (columnsIn cells h) b columns shifts) (accepted-clear cells h theme .0 (a .accepted))
+        (page-clear (rangeOf way) (columnsIn cells h) b columns shifts .0 (a .room, a .same-room, a .marked)),
+    λ c. let d = clear-split (scoreRows cells h theme) (pageRows (rangeOf way) (columnsIn cells h) b columns shifts) c in
+        let p = page-clear (rangeOf way) (columnsIn cells h) b columns shifts .1 (d .1) in
         record { accepted = accepted-clear cells h theme .1 (d .0); room = p .0; same-room = p .1; marked = p .2 },
   )
 
 module _ (cells : List ℕ) (h : ℕ) (theme : List ℕ) (way : Way) (b : Bookmark) (sets table columns : List ℕ) (shifts : List ℤ) where
   pub quick-clear : QuickAsks cells h theme way b sets table columns shifts ↔ Clear (quickRows cells h theme way b sets table columns shifts)
   quick-clear = (
-    λ a. clear-append (scoreRows cells h theme) (setsRows cells h sets table ++ pageRows way (columnsIn cells h) b columns shifts)
+    λ a. clear-append (scoreRows cells h theme) (setsRows cells h sets table ++ pageRows (rangeOf way) (columnsIn cells h) b columns shifts)
         (accepted-clear cells h theme .0 (a .plain .accepted))
-        (clear-append (setsRows cells h sets table) (pageRows way (columnsIn cells h) b columns shifts) (sets-clear cells h sets table .0 (a .with-sets, a .table-long))
-        (page-clear way (columnsIn cells h) b columns shifts .0 (a .plain .room, a .plain .same-room, a .plain .marked))),
-    λ c. let d = clear-split (scoreRows cells h theme) (setsRows cells h sets table ++ pageRows way (columnsIn cells h) b columns shifts) c in
-        let e = clear-split (setsRows cells h sets table) (pageRows way (columnsIn cells h) b columns shifts) (d .1) in
+        (clear-append (setsRows cells h sets table) (pageRows (rangeOf way) (columnsIn cells h) b columns shifts) (sets-clear cells h sets table .0 (a .with-sets, a .table-long))
+        (page-clear (rangeOf way) (columnsIn cells h) b columns shifts .0 (a .plain .room, a .plain .same-room, a .plain .marked))),
+    λ c. let d = clear-split (scoreRows cells h theme) (setsRows cells h sets table ++ pageRows (rangeOf way) (columnsIn cells h) b columns shifts) c in
+        let e = clear-split (setsRows cells h sets table) (pageRows (rangeOf way) (columnsIn cells h) b columns shifts) (d .1) in
         let s = sets-clear cells h sets table .1 (e .0) in
-        let p = page-clear way (columnsIn cells h) b columns shifts .1 (e .1) in
+        let p = page-clear (rangeOf way) (columnsIn cells h) b columns shifts .1 (e .1) in
         record {
           plain = record { accepted = accepted-clear cells h theme .1 (d .0); room = p .0; same-room = p .1; marked = p .2 };
           with-sets = s .0;

@@ -12,7 +12,7 @@ use Rattle.score.specs.Score.{columnsIn}
 use Rattle.score.specs.Refusals.{badCell, badSet}
 use Rattle.asking.specs.declared.way.Way.{Way}
 use Rattle.asking.specs.declared.bookmark.Bookmark.{Bookmark}
-use Rattle.asking.specs.Way.{lowest, highest}
+use Rattle.asking.specs.Way.{Range, rangeOf}
 use Rattle.asking.specs.Refusals.{badNote}
 
 -- ---- what is accepted
@@ -34,19 +34,19 @@ pub record AcceptedSets (cells : List ℕ) (h : ℕ) (sets : List ℕ) : Type 0 
   pub one-less : length sets ≡ columnsIn cells h - 1
   pub sets-good : some badSet sets ≡ false
 
--- a bookmark: column 1 to n + 1, and a shift of the way, or one more than the highest
-pub record InRange (way : Way) (n : ℕ) (b : Bookmark) : Type 0 where
+-- a bookmark: column 1 to n + 1, and a shift of the range, or one more than the highest
+pub record InRange (range : Range) (n : ℕ) (b : Bookmark) : Type 0 where
   pub from-first : 1 ≤ b .column .0
   pub to-end : b .column .0 ≤ n + 1
-  pub not-below : lowest way ≤ℤ b .shift
-  pub not-above : b .shift ≤ℤ (highest way +ℤ pos 1)
+  pub not-below : range .lowest ≤ℤ b .shift
+  pub not-above : b .shift ≤ℤ (range .highest +ℤ pos 1)
 
 -- what a plain call asks for: a score and a theme, buffers of equal length and not empty, a bookmark
 pub record PlainAsks (cells : List ℕ) (h : ℕ) (theme : List ℕ) (way : Way) (b : Bookmark) (columns : List ℕ) (shifts : List ℤ) : Type 0 where
   pub accepted : Accepted cells h theme
   pub room : 1 ≤ length columns
   pub same-room : length shifts ≡ length columns
-  pub marked : InRange way (columnsIn cells h) b
+  pub marked : InRange (rangeOf way) (columnsIn cells h) b
 
 -- what a quick call asks for: also sets, and a theme table of 4,096 places
 pub record QuickAsks (cells : List ℕ) (h : ℕ) (theme : List ℕ) (way : Way) (b : Bookmark) (sets table columns : List ℕ) (shifts : List ℤ) : Type 0 where

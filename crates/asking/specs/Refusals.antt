@@ -12,7 +12,7 @@ use Rattle.score.specs.Score.{columnsIn}
 use Rattle.score.specs.Refusals.{Row, row, row1, row2, row3, row6, row7}
 use Rattle.asking.specs.declared.way.Way.{Way}
 use Rattle.asking.specs.declared.bookmark.Bookmark.{Bookmark}
-use Rattle.asking.specs.Way.{lowest, highest}
+use Rattle.asking.specs.Way.{Range, rangeOf}
 
 -- 4: theme under 2 or over 32 notes
 abbrev pub row4 : (theme : List ℕ) → Row
@@ -33,11 +33,11 @@ row8 long = row 8 (not (eqb long 4096)) 0
 abbrev pub row9 : (r other : ℕ) → Row
 row9 r other = row 9 (eqb r 0 || not (eqb other r)) 0
 
--- 10: bookmark column 0 or over n + 1, or shift outside -127..128 (octave 0..12)
-abbrev pub row10 : Way → (n : ℕ) → Bookmark → Row
-row10 way n b =
+-- 10: bookmark column 0 or over n + 1, or shift outside the range and not one above it: outside -127..128 (octave 0..12)
+abbrev pub row10 : Range → (n : ℕ) → Bookmark → Row
+row10 range n b =
     row 10
-    (eqb (b .column .0) 0 || ltb (n + 1) (b .column .0) || ltZ (b .shift) (lowest way) || ltZ (highest way +ℤ pos 1) (b .shift))
+    (eqb (b .column .0) 0 || ltb (n + 1) (b .column .0) || ltZ (b .shift) (range .lowest) || ltZ (range .highest +ℤ pos 1) (b .shift))
     0
 
 -- ---- the rows of each call, in order
@@ -45,10 +45,10 @@ row10 way n b =
 -- plain: 1 to 5, 9, 10
 abbrev pub plainRows : (cells : List ℕ) (h : ℕ) (theme : List ℕ) → Way → Bookmark → (columns : List ℕ) (shifts : List ℤ) → List Row
 plainRows cells h theme way b columns shifts =
-    row1 h ∷ row2 cells h ∷ row3 cells ∷ row4 theme ∷ row5 theme ∷ row9 (length columns) (length shifts) ∷ row10 way (columnsIn cells h) b ∷ []
+    row1 h ∷ row2 cells h ∷ row3 cells ∷ row4 theme ∷ row5 theme ∷ row9 (length columns) (length shifts) ∷ row10 (rangeOf way) (columnsIn cells h) b ∷ []
 
 -- quick: 1 to 10
 abbrev pub quickRows : (cells : List ℕ) (h : ℕ) (theme : List ℕ) → Way → Bookmark → (sets table columns : List ℕ) (shifts : List ℤ) → List Row
 quickRows cells h theme way b sets table columns shifts =
     row1 h ∷ row2 cells h ∷ row3 cells ∷ row4 theme ∷ row5 theme ∷ row6 cells h sets ∷ row7 sets ∷ row8 (length table)
-    ∷ row9 (length columns) (length shifts) ∷ row10 way (columnsIn cells h) b ∷ []
+    ∷ row9 (length columns) (length shifts) ∷ row10 (rangeOf way) (columnsIn cells h) b ∷ []

@@ -40,6 +40,14 @@ abbrev pub highest : Way → ℤ
 highest Exact = pos 127
 highest Octave = pos 11
 
+-- the shifts that the pairs of a search may have. A bookmark may have one more: one above the highest means `from the next column on`
+pub record Range : Type 0 where
+  pub lowest : ℤ
+  pub highest : ℤ
+
+abbrev pub rangeOf : Way → Range
+rangeOf way = record { lowest = lowest way; highest = highest way }
+
 -- ---- by codes: a shift counted from the lowest, so that all reasoning is on natural numbers
 
 -- how many shifts there are

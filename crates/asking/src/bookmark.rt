@@ -5,6 +5,7 @@ use crate::codes::raised;
 use crate::way::Way;
 use score::Column;
 ghost use mathlib.Core.Path.{_≡_};
+ghost use Rattle.asking.specs.Way.{rangeOf};
 ghost use Rattle.asking.specs.Bookmarks.{firstBookmark, afterPair, finishedBookmark};
 
 // The theme stands at this column with this shift: score minus theme.
@@ -22,7 +23,7 @@ pub struct Bookmark {
 impl Bookmark {
     // Where a list begins: column 1, and the way's lowest shift.
     pub fn first(way: Way) -> Bookmark
-        ensures { λ r. ⌜ r ≡ firstBookmark way ⌝ }
+        ensures { λ r. ⌜ r ≡ firstBookmark (rangeOf way) ⌝ }
     {
         let shift = lowest_of(way);
         Bookmark {
@@ -42,7 +43,7 @@ impl Bookmark {
 
     // Past the last column, with the way's lowest shift. A last column of 65,535, which no score has, stays.
     pub fn finished(way: Way, last: Column) -> Bookmark
-        ensures { λ r. ⌜ r ≡ finishedBookmark way last ⌝ }
+        ensures { λ r. ⌜ r ≡ finishedBookmark (rangeOf way) last ⌝ }
     {
         let shift = lowest_of(way);
         let n = last.0;

@@ -18,6 +18,7 @@ ghost use lib.Dec.{eqb, ltb};
 ghost use Rattle.theory.specs.Lists.{some, first};
 ghost use Rattle.score.specs.Score.{columnsIn};
 ghost use Rattle.score.specs.Refusals.{verdict, row1, row2, row3, row6, row7};
+ghost use Rattle.asking.specs.Way.{rangeOf};
 ghost use Rattle.asking.specs.Refusals.{badNote, row4, row5, row8, row9, row10};
 
 // Refusals 1 to 5, 9 and 10, for a plain page with room r and as many shifts as `other`.
@@ -30,7 +31,7 @@ pub fn check_plain(
     r: usize,
     other: usize,
 ) -> Verdict
-    ensures { λ v. ⌜ v ≡ verdict (row1 tracks ∷ row2 (now (cells .entry)) tracks ∷ row3 (now (cells .entry)) ∷ row4 (now (theme .entry)) ∷ row5 (now (theme .entry)) ∷ row9 r other ∷ row10 way (columnsIn (now (cells .entry)) tracks) bookmark ∷ []) ⌝ }
+    ensures { λ v. ⌜ v ≡ verdict (row1 tracks ∷ row2 (now (cells .entry)) tracks ∷ row3 (now (cells .entry)) ∷ row4 (now (theme .entry)) ∷ row5 (now (theme .entry)) ∷ row9 r other ∷ row10 (rangeOf way) (columnsIn (now (cells .entry)) tracks) bookmark ∷ []) ⌝ }
 {
     if let Verdict::Refused(e) = check_score(cells, tracks) {
         return Verdict::Refused(e);
@@ -53,7 +54,7 @@ pub fn check_quick(
     r: usize,
     other: usize,
 ) -> Verdict
-    ensures { λ v. ⌜ v ≡ verdict (row1 tracks ∷ row2 (now (cells .entry)) tracks ∷ row3 (now (cells .entry)) ∷ row4 (now (theme .entry)) ∷ row5 (now (theme .entry)) ∷ row6 (now (cells .entry)) tracks (now (sets .entry)) ∷ row7 (now (sets .entry)) ∷ row8 table ∷ row9 r other ∷ row10 way (columnsIn (now (cells .entry)) tracks) bookmark ∷ []) ⌝ }
+    ensures { λ v. ⌜ v ≡ verdict (row1 tracks ∷ row2 (now (cells .entry)) tracks ∷ row3 (now (cells .entry)) ∷ row4 (now (theme .entry)) ∷ row5 (now (theme .entry)) ∷ row6 (now (cells .entry)) tracks (now (sets .entry)) ∷ row7 (now (sets .entry)) ∷ row8 table ∷ row9 r other ∷ row10 (rangeOf way) (columnsIn (now (cells .entry)) tracks) bookmark ∷ []) ⌝ }
 {
     if let Verdict::Refused(e) = check_score(cells, tracks) {
         return Verdict::Refused(e);
@@ -93,7 +94,7 @@ fn check_theme(theme: &[u8]) -> Verdict
 
 // Refusals 9 and 10: the room of the two buffers, and the bookmark.
 fn check_page(way: Way, n: usize, bookmark: Bookmark, r: usize, other: usize) -> Verdict
-    ensures { λ v. ⌜ v ≡ verdict (row9 r other ∷ row10 way n bookmark ∷ []) ⌝ }
+    ensures { λ v. ⌜ v ≡ verdict (row9 r other ∷ row10 (rangeOf way) n bookmark ∷ []) ⌝ }
 {
     if (r == 0) | (other != r) {
         return refused(9, 0);
@@ -117,7 +118,7 @@ fn outside(column: Column, n: usize) -> bool
 
 // Whether the bookmark has no column, or no shift, that a bookmark may have.
 fn bad_bookmark(way: Way, n: usize, bookmark: Bookmark) -> bool
-    ensures { λ r. ⌜ r ≡ row10 way n bookmark .applies ⌝ }
+    ensures { λ r. ⌜ r ≡ row10 (rangeOf way) n bookmark .applies ⌝ }
 {
     let column = bookmark.column;
     outside(column, n) | out_of_range(way, bookmark.shift)

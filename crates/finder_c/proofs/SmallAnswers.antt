@@ -21,6 +21,7 @@ use Rattle.score.proofs.Columns.{columns-whole}
 use Rattle.asking.specs.declared.way.Way.{Way}
 use Rattle.asking.specs.declared.bookmark.Bookmark.{Bookmark}
 use Rattle.walking.specs.Starts.{Place, key, starts, hit, looks}
+use Rattle.asking.specs.Way.{rangeOf}
 use Rattle.asking.specs.Bookmarks.{keyOf}
 use Rattle.asking.specs.Refusals.{row4, row5, row8, badNote}
 use Rattle.filter.specs.Table.{themeTable}
@@ -110,7 +111,7 @@ prepared-small cells h sets =
 module _ (cells : List ℕ) (h : ℕ) (theme : List ℕ) (way : Way) (b : Bookmark) (reached : List Place) (columns : List ℕ) (shifts : List ℤ) where
   -- the rows of the room and of the bookmark, and then the page
   page-small : 2 ≤ length theme
-      → SmallRows (SmallPage (leaf way (scoreOf cells h) theme reached b columns shifts .answer)) (pageRows way (columnsIn cells h) b columns shifts)
+      → SmallRows (SmallPage (leaf way (scoreOf cells h) theme reached b columns shifts .answer)) (pageRows (rangeOf way) (columnsIn cells h) b columns shifts)
   page-small m = (
     λ e. nowhere,
     λ a. (λ e. nowhere, λ d. record { written = page-pays (hit way (scoreOf cells h) theme) (looks way (scoreOf cells h) theme) (looks-some way (scoreOf cells h) theme m) (length columns) (from key (keyOf way b) reached) }),
@@ -120,14 +121,14 @@ module _ (cells : List ℕ) (h : ℕ) (theme : List ℕ) (way : Way) (b : Bookma
   pub plain-small : (columns : List ℕ) (shifts : List ℤ) → SmallPage (plainPage cells h theme way b columns shifts .answer)
   unfolding plainPage
   plain-small columns shifts =
-      let page = pageRows way (columnsIn cells h) b columns shifts in
+      let page = pageRows (rangeOf way) (columnsIn cells h) b columns shifts in
       judge-small (λ (l : Leaf). SmallPage (l .answer)) (plainRefused cells h theme way b columns shifts) (plainLeaf cells h theme way b columns shifts) (λ r s. s) (plainRows cells h theme way b columns shifts)
       (score-small _ cells h (row4 theme ∷ row5 theme ∷ page) (λ e. theme-small _ theme page (page-small cells h theme way b (starts way (scoreOf cells h) theme) columns shifts)))
 
   pub quick-small : (sets table columns : List ℕ) (shifts : List ℤ) → SmallPage (quickPage cells h theme way b sets table columns shifts .leaf .answer)
   unfolding quickPage
   quick-small sets table columns shifts =
-      let page = pageRows way (columnsIn cells h) b columns shifts in
+      let page = pageRows (rangeOf way) (columnsIn cells h) b columns shifts in
       let lent = row6 cells h sets ∷ row7 sets ∷ row8 (length table) ∷ page in
       let reached = quickStarts way (scoreOf cells h) theme (themeTable theme) sets in
       judge-small (λ (q : QuickLeaf). SmallPage (q .leaf .answer)) (quickRefused cells h theme way b sets table columns shifts)

@@ -12,7 +12,7 @@ use lib.Signed.{leZ, ltZ}
 use borrow.Author.Tests.{le-leb, lt-leb, leb-true, leb-false, ltb-true, ltb-false, eqb-true, eqb-false}
 use Rattle.asking.specs.declared.way.Way.{Way}
 use Rattle.asking.specs.declared.bookmark.Bookmark.{Bookmark}
-use Rattle.asking.specs.Way.{shiftOf, codeOf}
+use Rattle.asking.specs.Way.{shiftOf, codeOf, rangeOf}
 use Rattle.walking.specs.Starts.{Place, key}
 use Rattle.search.specs.Pairs.{pairAt}
 use Rattle.asking.specs.Bookmarks.{keyOf}
@@ -58,7 +58,7 @@ shift-order way x y = step (ltb x y) (ltZ (shiftOf way x) (shiftOf way y)) refl 
 code-order : (way : Way) (x y : ℕ) → leZ (shiftOf way x) (shiftOf way y) ≡ leb x y
 code-order way x y = not-leZ (shiftOf way x) (shiftOf way y) ∙ ap not (shift-order way y x) ∙ sym (not-leb x y)
 
-pub key-order : (way : Way) (n : ℕ) (b : Bookmark) (s : Place) → InRange way n b → Found way n s → leb (keyOf way b) (key s) ≡ atOrAfter b (pairAt way s)
+pub key-order : (way : Way) (n : ℕ) (b : Bookmark) (s : Place) → InRange (rangeOf way) n b → Found way n s → leb (keyOf way b) (key s) ≡ atOrAfter b (pairAt way s)
 key-order way n b s i f = step (ltb (b .column .0) (s .column)) (eqb (b .column .0) (s .column)) refl refl
   where
     c : codeOf way (b .shift) ≤ 255

@@ -30,6 +30,7 @@ use Rattle.score.specs.Score.{columnsIn, scoreOf}
 use Rattle.score.specs.Sets.{sets}
 use Rattle.score.proofs.Columns.{score-length, column-le}
 use Rattle.asking.specs.declared.way.Way.{Way}
+use Rattle.asking.specs.Way.{rangeOf}
 use Rattle.asking.specs.declared.bookmark.Pair.{Pair}
 use Rattle.asking.specs.declared.bookmark.Bookmark.{Bookmark}
 use Rattle.walking.specs.Starts.{Place, starts, hit, looks}
@@ -95,13 +96,13 @@ module _ (cells : List ℕ) (h : ℕ) (theme : List ℕ) (way : Way) (lent : Lis
 
 module _ (cells : List ℕ) (h : ℕ) (theme : List ℕ) (way : Way) (a : Accepted cells h theme) (r : ℕ) (room : 1 ≤ r) where
   -- plain: all pairs
-  pub plain-lists : Lists (plainPage cells h theme way) r (firstBookmark way) (pairs way (scoreOf cells h) theme) (allLooks way (scoreOf cells h) theme)
+  pub plain-lists : Lists (plainPage cells h theme way) r (firstBookmark (rangeOf way)) (pairs way (scoreOf cells h) theme) (allLooks way (scoreOf cells h) theme)
   plain-lists = search-lists (plainSearch cells h theme way a r room) (plainPage cells h theme way) (plain-calls cells h theme way a r room)
 
   -- quick, with sets of any score, and at each call any table of 4,096 places: the pairs at candidates
   module _ (lent : List ℕ) (s : AcceptedSets cells h lent) (table : Bookmark → List ℕ → List ℤ → List ℕ)
       (long : (b : Bookmark) (columns : List ℕ) (shifts : List ℤ) → length (table b columns shifts) ≡ 4096) where
-    pub quick-lists : Lists (λ b columns shifts. quickPage cells h theme way b lent (table b columns shifts) columns shifts .leaf) r (firstBookmark way)
+    pub quick-lists : Lists (λ b columns shifts. quickPage cells h theme way b lent (table b columns shifts) columns shifts .leaf) r (firstBookmark (rangeOf way))
         (candidatePairs way (scoreOf cells h) theme lent) (candidateLooks way (scoreOf cells h) theme lent)
     quick-lists =
         rw (← quick-pairs cells h theme way lent)
@@ -111,14 +112,14 @@ module _ (cells : List ℕ) (h : ℕ) (theme : List ℕ) (way : Way) (a : Accept
 
   -- with the score's own sets: all pairs
   pub own-lists : (table : Bookmark → List ℕ → List ℤ → List ℕ) → ((b : Bookmark) (columns : List ℕ) (shifts : List ℤ) → length (table b columns shifts) ≡ 4096)
-      → Lists (λ b columns shifts. quickPage cells h theme way b (sets (scoreOf cells h)) (table b columns shifts) columns shifts .leaf) r (firstBookmark way)
+      → Lists (λ b columns shifts. quickPage cells h theme way b (sets (scoreOf cells h)) (table b columns shifts) columns shifts .leaf) r (firstBookmark (rangeOf way))
       (pairs way (scoreOf cells h) theme) (candidateLooks way (scoreOf cells h) theme (sets (scoreOf cells h)))
   own-lists table long = rw (← own-pairs cells h theme way a) (quick-lists (sets (scoreOf cells h)) own-sets table long)
 
 -- ---- one page: the first r pairs at or after the bookmark
 
 module _ (cells : List ℕ) (h : ℕ) (theme : List ℕ) (way : Way) (b : Bookmark) (columns : List ℕ) (shifts : List ℤ) (a : PlainAsks cells h theme way b columns shifts) where
-  in-score : InRange way (length (scoreOf cells h)) b
+  in-score : InRange (rangeOf way) (length (scoreOf cells h)) b
   in-score = rw (score-length cells h) (a .marked)
 
   pub plain-page : PageOf (pairs way (scoreOf cells h) theme) way (columnsIn cells h) b columns shifts (plainPage cells h theme way b columns shifts)

@@ -14,6 +14,7 @@ use Rattle.theory.proofs.Bookmarks.{from-next}
 use Rattle.theory.proofs.Members.{in-from, in-page, last-in}
 use Rattle.score.specs.Score.{columnAt}
 use Rattle.asking.specs.declared.way.Way.{Way}
+use Rattle.asking.specs.Way.{rangeOf}
 use Rattle.asking.specs.declared.bookmark.Pair.{Pair}
 use Rattle.asking.specs.declared.bookmark.Bookmark.{Bookmark}
 use Rattle.search.specs.declared.page.Turn.{Turn}
@@ -51,7 +52,7 @@ module _ (S : Search) where
   cost = looks (S .way) (S .score) (S .theme)
 
   abbrev pub inside : Bookmark → Type 0
-  inside b = InRange (S .way) (length (S .score)) b
+  inside b = InRange (rangeOf (S .way)) (length (S .score)) b
 
   -- at a bookmark: the starts that are left, the places of the page, what is answered, and what the buffers then hold
   abbrev pub left : Bookmark → List Place
@@ -118,7 +119,7 @@ module _ (S : Search) (call : Bookmark → List ℕ → List ℤ → Leaf) (call
         (in-from key (keyOf (S .way) b) (S .reached) (in-page (found S) (S .room) (left S b) (last-in (place 0 0) (places S b) (omega (arith, calls .some-room)))))
 
     pub next-is : answer S b .next ≡ afterPair (pairAt (S .way) (final b))
-    next-is = ap (λ (t : Bool). cond t (afterPair (pairAt (S .way) (final b))) (finishedBookmark (S .way) (columnAt (length (S .score))))) f
+    next-is = ap (λ (t : Bool). cond t (afterPair (pairAt (S .way) (final b))) (finishedBookmark (rangeOf (S .way)) (columnAt (length (S .score))))) f
 
     pub next-left : left S (answer S b .next) ≡ rest (found S) (S .room) (left S b)
     next-left =
@@ -133,6 +134,6 @@ module _ (S : Search) (call : Bookmark → List ℕ → List ℤ → Leaf) (call
   next-range b = step (full (found S) (S .room) (left S b)) refl
     where
       step : (t : Bool) → full (found S) (S .room) (left S b) ≡ t
-          → inside S (cond (full (found S) (S .room) (left S b)) (afterPair (pairAt (S .way) (final b))) (finishedBookmark (S .way) (columnAt (length (S .score)))))
+          → inside S (cond (full (found S) (S .room) (left S b)) (afterPair (pairAt (S .way) (final b))) (finishedBookmark (rangeOf (S .way)) (columnAt (length (S .score)))))
       step true e = next-after b e
       step false e = rw e (finished-range (S .way) (length (S .score)) (calls .few))

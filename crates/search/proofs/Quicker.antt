@@ -22,6 +22,7 @@ use Rattle.score.specs.Refusals.{badSet, judge}
 use Rattle.score.proofs.Columns.{score-length}
 use Rattle.score.proofs.IntervalSets.{sets-length, sets-lt}
 use Rattle.asking.specs.declared.way.Way.{Way}
+use Rattle.asking.specs.Way.{rangeOf}
 use Rattle.asking.specs.declared.bookmark.Pair.{Pair}
 use Rattle.asking.specs.declared.bookmark.Bookmark.{Bookmark}
 use Rattle.walking.specs.Starts.{Place, place, key, starts, hit, looks}
@@ -105,7 +106,7 @@ module _ (cells : List ℕ) (h : ℕ) (theme : List ℕ) (way : Way) (a : Accept
           answers =
               turned (ap (λ (l : List Place). length l) e)
               (ap
-              (λ (l : List Place). cond (leb (length columns) (length l)) (afterPair (pairAt way (last (place 0 0) l))) (finishedBookmark way (columnAt (length score))))
+              (λ (l : List Place). cond (leb (length columns) (length l)) (afterPair (pairAt way (last (place 0 0) l))) (finishedBookmark (rangeOf way) (columnAt (length score))))
               e)
               (ap (λ (l : List Place). not (leb (length columns) (length l))) e)
               (thin-looks (hit way score theme) (looks way score theme) (length columns) (thin-at (keyOf way b)));
@@ -114,18 +115,18 @@ module _ (cells : List ℕ) (h : ℕ) (theme : List ℕ) (way : Way) (a : Accept
         }
 
     plain-skip : plainPage cells h theme way b columns shifts
-        ≡ judge (pageRows way (columnsIn cells h) b columns shifts) (plainRefused cells h theme way b columns shifts) (plainLeaf cells h theme way b columns shifts)
+        ≡ judge (pageRows (rangeOf way) (columnsIn cells h) b columns shifts) (plainRefused cells h theme way b columns shifts) (plainLeaf cells h theme way b columns shifts)
     unfolding plainPage
     plain-skip =
         judge-skip (plainRefused cells h theme way b columns shifts) (plainLeaf cells h theme way b columns shifts) (scoreRows cells h theme)
-        (pageRows way (columnsIn cells h) b columns shifts) (accepted-clear cells h theme .0 a)
+        (pageRows (rangeOf way) (columnsIn cells h) b columns shifts) (accepted-clear cells h theme .0 a)
 
     quick-skip : (table : List ℕ) → length table ≡ 4096 → quickPage cells h theme way b (sets score) table columns shifts
-        ≡ judge (pageRows way (columnsIn cells h) b columns shifts) (quickRefused cells h theme way b (sets score) table columns shifts) (quickLeaf cells h theme way b (sets score) table columns shifts)
+        ≡ judge (pageRows (rangeOf way) (columnsIn cells h) b columns shifts) (quickRefused cells h theme way b (sets score) table columns shifts) (quickLeaf cells h theme way b (sets score) table columns shifts)
     unfolding quickPage
     quick-skip table e =
         judge-skip (quickRefused cells h theme way b (sets score) table columns shifts) (quickLeaf cells h theme way b (sets score) table columns shifts)
-        (scoreRows cells h theme ++ setsRows cells h (sets score) table) (pageRows way (columnsIn cells h) b columns shifts)
+        (scoreRows cells h theme ++ setsRows cells h (sets score) table) (pageRows (rangeOf way) (columnsIn cells h) b columns shifts)
         (clear-append (scoreRows cells h theme) (setsRows cells h (sets score) table) (accepted-clear cells h theme .0 a)
         (sets-clear cells h (sets score) table .0 (own-sets, e)))
 
@@ -135,4 +136,4 @@ module _ (cells : List ℕ) (h : ℕ) (theme : List ℕ) (way : Way) (a : Accept
         rw (quick-skip table e, plain-skip)
         (judge-both (λ (q : QuickLeaf) (p : Leaf). SamePage (q .leaf) p) (quickRefused cells h theme way b (sets score) table columns shifts)
         (plainRefused cells h theme way b columns shifts) (quickLeaf cells h theme way b (sets score) table columns shifts) (plainLeaf cells h theme way b columns shifts)
-        (λ r. record { answers = refused; writes-columns = refl; writes-shifts = refl }) leaf-same (pageRows way (columnsIn cells h) b columns shifts))
+        (λ r. record { answers = refused; writes-columns = refl; writes-shifts = refl }) leaf-same (pageRows (rangeOf way) (columnsIn cells h) b columns shifts))

@@ -17,6 +17,7 @@ use Rattle.theory.proofs.Lists.{join-map}
 use Rattle.theory.proofs.Bookmarks.{from-all}
 use Rattle.theory.proofs.Readings.{Reading as Walk, last as walk-last, more as walk-more, reading-join, reading-count, reading-looks}
 use Rattle.asking.specs.declared.bookmark.Pair.{Pair}
+use Rattle.asking.specs.Way.{rangeOf}
 use Rattle.asking.specs.declared.bookmark.Bookmark.{Bookmark}
 use Rattle.search.specs.declared.page.Turn.{Turn}
 use Rattle.walking.specs.Starts.{Place, key}
@@ -122,13 +123,13 @@ module _ (S : Search) (call : Bookmark → List ℕ → List ℤ → Leaf) (call
 -- ---- from the first bookmark the whole list is read
 
 module _ (S : Search) (call : Bookmark → List ℕ → List ℤ → Leaf) (calls : Calls S call) where
-  first-left : left S (firstBookmark (S .way)) ≡ S .reached
+  first-left : left S (firstBookmark (rangeOf (S .way))) ≡ S .reached
   first-left = ap (λ (k : ℕ). from key k (S .reached)) (first-key (S .way)) ∙ from-all key 256 (S .reached) (calls .up)
 
-  pub search-lists : Lists call (S .room) (firstBookmark (S .way)) (map (pairAt (S .way)) (hits (found S) (S .reached))) (sum (map (cost S) (S .reached)))
+  pub search-lists : Lists call (S .room) (firstBookmark (rangeOf (S .way))) (map (pairAt (S .way)) (hits (found S) (S .reached))) (sum (map (cost S) (S .reached)))
   search-lists =
       record {
-        read = λ columns shifts long same. reading-exists S call calls columns shifts long same (firstBookmark (S .way)) start;
+        read = λ columns shifts long same. reading-exists S call calls columns shifts long same (firstBookmark (rangeOf (S .way))) start;
         joined = λ reading. read-join S call calls start reading ∙ ap (λ (l : List Place). map (pairAt (S .way)) (hits (found S) l)) first-left;
         counted =
             λ reading.
@@ -137,5 +138,5 @@ module _ (S : Search) (call : Bookmark → List ℕ → List ℤ → Leaf) (call
         looked = λ reading. read-looks S call calls start reading ∙ ap (λ (l : List Place). sum (map (cost S) l)) first-left;
       }
     where
-      start : inside S (firstBookmark (S .way))
+      start : inside S (firstBookmark (rangeOf (S .way)))
       start = first-range (S .way) (length (S .score))

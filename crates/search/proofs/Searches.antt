@@ -11,6 +11,7 @@ use Rattle.theory.proofs.Members.{in-hits, rising-hits}
 use Rattle.score.specs.Score.{scoreOf}
 use Rattle.score.proofs.Columns.{score-length}
 use Rattle.asking.specs.declared.way.Way.{Way}
+use Rattle.asking.specs.Way.{rangeOf}
 use Rattle.asking.specs.declared.bookmark.Bookmark.{Bookmark}
 use Rattle.walking.specs.Starts.{Place, key, starts}
 use Rattle.filter.specs.Table.{themeTable}
@@ -34,14 +35,14 @@ module _ (cells : List ℕ) (h : ℕ) (theme : List ℕ) (way : Way) (a : Accept
   score-few : length (scoreOf cells h) < 65535
   score-few = omega (arith, score-length cells h, a .columns-few)
 
-  asks : (b : Bookmark) (columns : List ℕ) (shifts : List ℤ) → InRange way (length (scoreOf cells h)) b → length columns ≡ r → length shifts ≡ r
+  asks : (b : Bookmark) (columns : List ℕ) (shifts : List ℤ) → InRange (rangeOf way) (length (scoreOf cells h)) b → length columns ≡ r → length shifts ≡ r
       → PlainAsks cells h theme way b columns shifts
   asks b columns shifts i long same =
       record {
         accepted = a;
         room = omega arith;
         same-room = same ∙ sym long;
-        marked = subst (λ (n : ℕ). InRange way n b) (score-length cells h) i;
+        marked = subst (λ (n : ℕ). InRange (rangeOf way) n b) (score-length cells h) i;
       }
 
   abbrev pub plainSearch : Search

@@ -22,7 +22,7 @@ use Rattle.asking.specs.declared.bookmark.Bookmark.{Bookmark}
 use Rattle.search.specs.declared.page.Turn.{Turn}
 use Rattle.search.specs.declared.page.Page.{Page}
 use Rattle.search.specs.declared.page.Page.the-variants.{Turned, Refused}
-use Rattle.asking.specs.Way.{Holds}
+use Rattle.asking.specs.Way.{Holds, rangeOf}
 use Rattle.search.specs.Definition.{Stands}
 use Rattle.score.specs.Score.{note}
 use Rattle.walking.specs.Starts.{Place, key, starts, looks}
@@ -100,7 +100,7 @@ module _ (cells : List ℕ) (h : ℕ) (theme : List ℕ) (way : Way) (b : Bookma
       le-trans (le-of-eq q) (quick-page-le cells h theme way b columns shifts (themeTable theme) lent)
 
 -- the starts that a page reaches are those at or after its bookmark
-module _ (way : Way) (score : List (List ℕ)) (theme : List ℕ) (b : Bookmark) (i : InRange way (length score) b) (m-some : 1 ≤ length theme) where
+module _ (way : Way) (score : List (List ℕ)) (theme : List ℕ) (b : Bookmark) (i : InRange (rangeOf way) (length score) b) (m-some : 1 ≤ length theme) where
   pub reached-after : from key (keyOf way b) (starts way score theme) ≡ hits (λ s. atOrAfter b (pairAt way s)) (starts way score theme)
   reached-after =
       from-keys key (keyOf way b) 256 (starts way score theme) (starts-rising way score theme)

@@ -16,7 +16,7 @@ use Rattle.score.specs.Score.{columnAt}
 use Rattle.asking.specs.declared.way.Way.{Way}
 use Rattle.asking.specs.declared.way.Way.the-variants.{Exact, Octave}
 use Rattle.asking.specs.declared.bookmark.Pair.{Pair}
-use Rattle.asking.specs.Way.{lowest, highest, span, shiftOf}
+use Rattle.asking.specs.Way.{lowest, highest, span, shiftOf, rangeOf}
 use Rattle.walking.specs.Starts.{Place, key}
 use Rattle.search.specs.Pairs.{pairAt}
 use Rattle.asking.specs.Bookmarks.{firstBookmark, afterPair, finishedBookmark, keyOf}
@@ -62,7 +62,7 @@ module _ (way : Way) (n : ℕ) (s : Place) (f : Found way n s) where
   pub key-next : keyOf way (afterPair (pairAt way s)) ≡ suc (key s)
   key-next = ap (keyOf way) after-place ∙ omega (arith, code-shift way (suc (s .code)))
 
-  pub after-range : InRange way n (afterPair (pairAt way s))
+  pub after-range : InRange (rangeOf way) n (afterPair (pairAt way s))
   after-range =
       rw after-place
       (record {
@@ -76,15 +76,15 @@ lowest-in : (way : Way) → lowest way ≤ℤ (highest way +ℤ pos 1)
 lowest-in Exact = leZ-yes tt
 lowest-in Octave = leZ-yes tt
 
-pub first-range : (way : Way) (n : ℕ) → InRange way n (firstBookmark way)
+pub first-range : (way : Way) (n : ℕ) → InRange (rangeOf way) n (firstBookmark (rangeOf way))
 first-range way n = record { from-first = le-refl 1; to-end = omega arith; not-below = ≤ℤ-refl (lowest way); not-above = lowest-in way }
 
-pub first-key : (way : Way) → keyOf way (firstBookmark way) ≡ 256
+pub first-key : (way : Way) → keyOf way (firstBookmark (rangeOf way)) ≡ 256
 first-key Exact = refl
 first-key Octave = refl
 
 -- (n + 1, lowest shift)
-pub finished-range : (way : Way) (n : ℕ) → n < 65535 → InRange way n (finishedBookmark way (columnAt n))
+pub finished-range : (way : Way) (n : ℕ) → n < 65535 → InRange (rangeOf way) n (finishedBookmark (rangeOf way) (columnAt n))
 finished-range way n h =
     rw (lt-ltb n 65535 h)
     (record { from-first = omega arith; to-end = le-refl (n + 1); not-below = ≤ℤ-refl (lowest way); not-above = lowest-in way })

@@ -10,6 +10,7 @@ use Rattle.theory.specs.Pages.{hits}
 use Rattle.score.specs.Score.{columnAt, scoreOf}
 use Rattle.score.specs.Sets.{sets as setsOf}
 use Rattle.asking.specs.declared.way.Way.{Way}
+use Rattle.asking.specs.Way.{rangeOf}
 use Rattle.asking.specs.declared.way.Way.the-variants.{Exact, Octave}
 use Rattle.asking.specs.declared.bookmark.Pair.{Pair}
 use Rattle.asking.specs.declared.bookmark.Bookmark.{Bookmark}
@@ -88,8 +89,8 @@ made c =
       candidates =
           hits (λ j. candidate (themeTable (c .theme)) (setsOf (scoreOf (c .cells) (c .tracks))) (length (c .theme)) j)
           (count 1 (length (scoreOf (c .cells) (c .tracks)) + 1 - length (c .theme)));
-      pages = read (plainly c) 3 (firstBookmark (c .way));
-      quick = map (λ p. p .looks) (read (quickly c) 3 (firstBookmark (c .way)));
+      pages = read (plainly c) 3 (firstBookmark (rangeOf (c .way)));
+      quick = map (λ p. p .looks) (read (quickly c) 3 (firstBookmark (rangeOf (c .way))));
     }
 
 -- ---- the table

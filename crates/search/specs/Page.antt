@@ -11,6 +11,7 @@ use Rattle.theory.specs.Lists.{over, last}
 use Rattle.score.specs.Score.{columnAt, scoreOf}
 use Rattle.score.specs.Refusals.{judge}
 use Rattle.asking.specs.declared.way.Way.{Way}
+use Rattle.asking.specs.Way.{rangeOf}
 use Rattle.asking.specs.declared.bookmark.Bookmark.{Bookmark}
 use Rattle.search.specs.declared.page.Turn.{Turn}
 use Rattle.search.specs.declared.page.Page.{Page}
@@ -35,7 +36,7 @@ abbrev pub turn : Way → (n r : ℕ) → List Place → (looks : ℕ) → Turn
 turn way n r places looks =
     record {
       written = length places;
-      next = cond (leb r (length places)) (afterPair (pairAt way (last (place 0 0) places))) (finishedBookmark way (columnAt n));
+      next = cond (leb r (length places)) (afterPair (pairAt way (last (place 0 0) places))) (finishedBookmark (rangeOf way) (columnAt n));
       finished = not (leb r (length places));
       looks = looks;
     }

@@ -8,6 +8,7 @@ use lib.IntN.{ℤ, pos}
 use lib.ListN.{length, getD}
 use Rattle.score.specs.Score.{columnAt}
 use Rattle.asking.specs.declared.way.Way.{Way}
+use Rattle.asking.specs.Way.{rangeOf}
 use Rattle.asking.specs.Bookmarks.{afterPair, finishedBookmark}
 use Rattle.search.specs.declared.page.Turn.{Turn}
 
@@ -17,7 +18,7 @@ readTurn way n found spent columns shifts =
     record {
       written = found;
       next =
-          cond (ltb found (length columns)) (finishedBookmark way (columnAt n))
+          cond (ltb found (length columns)) (finishedBookmark (rangeOf way) (columnAt n))
           (afterPair (record { column = columnAt (getD columns (length columns - 1) 0); shift = getD shifts (length columns - 1) (pos 0) }));
       finished = ltb found (length columns);
       looks = spent;

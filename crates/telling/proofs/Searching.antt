@@ -25,7 +25,7 @@ use Rattle.asking.specs.declared.way.Way.{Way}
 use Rattle.asking.specs.declared.bookmark.Pair.{Pair}
 use Rattle.asking.specs.declared.bookmark.Bookmark.{Bookmark}
 use Rattle.search.specs.declared.page.Page.the-variants.{Refused}
-use Rattle.asking.specs.Way.{span}
+use Rattle.asking.specs.Way.{span, rangeOf}
 use Rattle.walking.specs.Starts.{Place, key, starts, hit}
 use Rattle.search.specs.Pairs.{pairAt, pairs}
 use Rattle.filter.specs.Table.{themeTable}
@@ -156,9 +156,9 @@ module _ (cells : List ℕ) (h : ℕ) (theme : List ℕ) (way : Way) (lent : Lis
   calls table e = quick-calls cells h theme way a 256 (omega arith) lent lent-right (λ _ _ _. table) (λ _ _ _. e)
 
   pub paging-start : {table columns : List ℕ} {shifts : List ℤ} {out : List ℕ} → Room table columns shifts out
-      → Paging cells h theme way lent out table columns shifts out (firstBookmark way) 0 0 0 true
+      → Paging cells h theme way lent out table columns shifts out (firstBookmark (rangeOf way)) 0 0 0 true
   paging-start {table} {out = out} r =
-      let all : left S (firstBookmark way) ≡ S .reached
+      let all : left S (firstBookmark (rangeOf way)) ≡ S .reached
       = ap (λ (k : ℕ). from key k (S .reached)) (first-key way) ∙ from-all key 256 (S .reached) (calls table (r .table-long) .up) in
       record {
         accepted = a;

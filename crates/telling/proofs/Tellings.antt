@@ -21,6 +21,7 @@ use Rattle.score.specs.Refusals.{Row, judge, verdict, GivenBy, placeBy}
 use Rattle.score.proofs.Judging.{judge-append, judge-refused}
 use Rattle.score.proofs.Judged.{Clear, judge-either, judge-clear, judge-given, judge-clear-of, judge-shown}
 use Rattle.asking.specs.declared.way.Way.{Way}
+use Rattle.asking.specs.Way.{rangeOf}
 use Rattle.asking.specs.declared.bookmark.Bookmark.{Bookmark}
 use Rattle.asking.specs.Refusals.{row9, row10}
 use Rattle.asking.specs.Bookmarks.{firstBookmark}
@@ -83,18 +84,18 @@ module _ (text out : List ℕ) where
 module _ (cells : List ℕ) (h : ℕ) (theme : List ℕ) (way : Way) where
   -- the room and the bookmark that the check is given
   abbrev pageRows : Bookmark → List Row
-  pageRows b = row9 1 1 ∷ row10 way (columnsIn cells h) b ∷ []
+  pageRows b = row9 1 1 ∷ row10 (rangeOf way) (columnsIn cells h) b ∷ []
 
-  page-clear : Clear (pageRows (firstBookmark way))
-  page-clear = (refl, (row10-clear way (columnsIn cells h) (firstBookmark way) .1 (first-range way (columnsIn cells h)), tt))
+  page-clear : Clear (pageRows (firstBookmark (rangeOf way)))
+  page-clear = (refl, (row10-clear (rangeOf way) (columnsIn cells h) (firstBookmark (rangeOf way)) .1 (first-range way (columnsIn cells h)), tt))
 
-  module _ {v : Verdict} {b : Bookmark} (first : b ≡ firstBookmark way) (checked : v ≡ verdict (tellRows cells h theme ++ pageRows b)) where
+  module _ {v : Verdict} {b : Bookmark} (first : b ≡ firstBookmark (rangeOf way)) (checked : v ≡ verdict (tellRows cells h theme ++ pageRows b)) where
     rows-are : v ≡ verdict (tellRows cells h theme)
     rows-are =
         checked
         ∙ ap (λ (x : Bookmark). verdict (tellRows cells h theme ++ pageRows x)) first
-        ∙ judge-append Away Passed (tellRows cells h theme) (pageRows (firstBookmark way))
-        ∙ ap (judge (tellRows cells h theme) Away) (judge-clear Away Passed (pageRows (firstBookmark way)) page-clear)
+        ∙ judge-append Away Passed (tellRows cells h theme) (pageRows (firstBookmark (rangeOf way)))
+        ∙ ap (judge (tellRows cells h theme) Away) (judge-clear Away Passed (pageRows (firstBookmark (rangeOf way))) page-clear)
 
     pub checked-accepted : v ≡ Passed → Accepted cells h theme
     checked-accepted e = accepted-clear cells h theme .1 (judge-clear-of Away Passed (λ w. w ≡ Passed) (λ r k. never r k) (tellRows cells h theme) (sym rows-are ∙ e))

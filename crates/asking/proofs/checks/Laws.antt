@@ -14,6 +14,7 @@ use Rattle.score.specs.Refusals.{Row, verdict, row1, row2, row3, row6, row7}
 use Rattle.score.proofs.Judging.{judge-refused, judge-accepted}
 use Rattle.score.specs.Score.{columnsIn}
 use Rattle.asking.specs.declared.way.Way.{Way}
+use Rattle.asking.specs.Way.{rangeOf}
 use Rattle.asking.specs.declared.bookmark.Bookmark.{Bookmark}
 use Rattle.asking.specs.Refusals.{row4, row5, row8, row9, row10}
 
@@ -35,7 +36,7 @@ abbrev setsRows : (cells : List ℕ) (h : ℕ) (sets : List ℕ) → List Row
 setsRows cells h sets = row6 cells h sets ∷ row7 sets ∷ []
 
 abbrev pageRows : Way → (n : ℕ) → Bookmark → (r other : ℕ) → List Row
-pageRows way n b r other = row9 r other ∷ row10 way n b ∷ []
+pageRows way n b r other = row9 r other ∷ row10 (rangeOf way) n b ∷ []
 
 -- ---- a plain call: the score, the theme, the page
 
