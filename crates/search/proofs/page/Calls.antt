@@ -27,7 +27,7 @@ use Rattle.paging.specs.Search.{Search, left, found, spent}
 use Rattle.paging.specs.Page.{leaf, away, paged, Pages}
 use Rattle.paging.specs.Turning.{readTurn}
 use Rattle.paging.proofs.Turnings.{away-pages, went-pages}
-use Rattle.walking.specs.declared.calls.Walked.{Walked}
+use Rattle.walking.specs.declared.walked.Walked.{Walked}
 use Rattle.walking.specs.declared.calls.Walk.the-variants.{Done, Refused as Away}
 use Rattle.walking.specs.Starts.{Place, key, starts, hit, looks}
 use Rattle.walking.specs.Candidates.{quickStarts}

@@ -1,9 +1,9 @@
--- `asking::signs::out_of_range` meets its contract: by cases on the way. Assumes nothing.
+-- `asking::codes::out_of_range` meets its contract: by cases on the way. Assumes nothing.
 use borrow.Author.Needs.{needs}
 use mathlib.Core.Path.{_∙_}
 use mir.Facts.{toZ-ofZ}
-use Rattle.asking.proofs.signs.out_of_range.Statement.{statement}
-use Rattle.asking.proofs.signs.out_of_range.Tie as tie
+use Rattle.asking.proofs.codes.out_of_range.Statement.{statement}
+use Rattle.asking.proofs.codes.out_of_range.Tie as tie
 
 enum-told : tie.Need-enum-told
 enum-told c = search needs

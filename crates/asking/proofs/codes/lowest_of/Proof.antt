@@ -1,9 +1,9 @@
--- `asking::signs::lowest_of` meets its contract: by cases on the way. Assumes nothing.
+-- `asking::codes::lowest_of` meets its contract: by cases on the way. Assumes nothing.
 use borrow.Author.Needs.{needs}
 use mathlib.Core.Path.{sym, ap}
 use Rattle.asking.specs.Way.{lowest}
-use Rattle.asking.proofs.signs.lowest_of.Statement.{statement}
-use Rattle.asking.proofs.signs.lowest_of.Tie as tie
+use Rattle.asking.proofs.codes.lowest_of.Statement.{statement}
+use Rattle.asking.proofs.codes.lowest_of.Tie as tie
 
 enum-told : tie.Need-enum-told
 enum-told c = search needs

@@ -1,4 +1,4 @@
--- `asking::signs::raised` meets its contract: below the highest number a sum by one fits. Assumes nothing.
+-- `asking::codes::raised` meets its contract: below the highest number a sum by one fits. Assumes nothing.
 use mathlib.Core.Path.{subst, _≡_, _∙_}
 use mathlib.Core.Bool.{true, false}
 use lib.IntN.{ℤ, pos}
@@ -6,8 +6,8 @@ use lib.Signed.{ltZ}
 use mir.Syntax.{w16}
 use mir.Facts.{toZ-ofZ}
 use Rattle.theory.proofs.Signed.{raise-fits, add-read}
-use Rattle.asking.proofs.signs.raised.Statement.{statement}
-use Rattle.asking.proofs.signs.raised.Tie as tie
+use Rattle.asking.proofs.codes.raised.Statement.{statement}
+use Rattle.asking.proofs.codes.raised.Tie as tie
 
 -- the shift is below the highest number
 below : (c : tie.Then1) → ltZ (c .before .args .shift) (pos 32767) ≡ true

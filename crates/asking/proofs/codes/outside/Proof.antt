@@ -1,11 +1,11 @@
--- `asking::signs::outside` meets its contract: the tests read the shifts back from their bits. Assumes nothing.
+-- `asking::codes::outside` meets its contract: the tests read the shifts back from their bits. Assumes nothing.
 use mathlib.Core.Path.{subst₂, _≡_}
 use mathlib.Core.Bool.{true, false}
 use lib.IntN.{ℤ}
 use lib.Signed.{ltZ}
 use mir.Facts.{toZ-ofZ}
-use Rattle.asking.proofs.signs.outside.Statement.{statement}
-use Rattle.asking.proofs.signs.outside.Tie as tie
+use Rattle.asking.proofs.codes.outside.Statement.{statement}
+use Rattle.asking.proofs.codes.outside.Tie as tie
 
 returns : tie.Need-returns
 returns c = let s = c .before in let e : ltZ (s .args .shift) (s .args .low) ≡ true = subst₂ (λ (y z : ℤ). ltZ y z ≡ true) (toZ-ofZ (s .fits .shift)) (toZ-ofZ (s .fits .low)) (c .if1 .taken) in rw e

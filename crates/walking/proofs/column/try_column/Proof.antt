@@ -1,4 +1,4 @@
--- `walking::walk::try_column` meets its contract. The invariant is `Filling`: what the column gave so far is written.
+-- `walking::column::try_column` meets its contract. The invariant is `Filling`: what the column gave so far is written.
 -- The measure is the codes left. Assumes nothing.
 use borrow.Author.Needs.{needs}
 use mathlib.Core.Path.{refl, sym, _∙_}
@@ -7,9 +7,9 @@ use native.Mathlib.Omega.{arith}
 use Rattle.asking.specs.Way.{span}
 use Rattle.walking.proofs.Order.{span-lt}
 use Rattle.walking.proofs.starts.Trying.{cells-within}
-use Rattle.walking.proofs.walk.Column.{Filling, fill-start, fill-none, fill-full, fill-further, fill-bound, fill-turn}
-use Rattle.walking.proofs.walk.try_column.Statement.{statement}
-use Rattle.walking.proofs.walk.try_column.Tie as tie
+use Rattle.walking.proofs.column.Filling.{Filling, fill-start, fill-none, fill-full, fill-further, fill-bound, fill-turn}
+use Rattle.walking.proofs.column.try_column.Statement.{statement}
+use Rattle.walking.proofs.column.try_column.Tie as tie
 
 abbrev Inv-loop : tie.InvT-loop
 Inv-loop cells h theme way column x found columns₀ shifts₀ j base p end code₀ at₀ looks₀ columns shifts code at looks =
