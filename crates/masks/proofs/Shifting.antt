@@ -3,7 +3,7 @@
 use mathlib.Core.Path.{_≡_, sym, ap, ap₂, _∙_}
 use mathlib.Core.Bool.{Bool, true, false, cond}
 use Prim.Native.Nat.{ℕ, _+_, _-_, _*_, _/_, _%_, _^_, _≤_, _<_, zero-le, max}
-use native.Mathlib.Nat.{mod-lt, add-comm, lt-of-le-of-lt}
+use native.Mathlib.Nat.{mod-lt, lt-of-le-of-lt}
 use native.Mathlib.Decide.{decLt}
 use native.Mathlib.Omega.{arith}
 use lib.Bits.{bitOr, bitAnd, or-lt, and-mask, or-mod}

@@ -5,7 +5,7 @@ use crate::word::Word;
 use asking::Way;
 use score::Pitch;
 ghost use mathlib.Core.Path.{_≡_};
-ghost use Prim.Native.Nat.{_+_, _*_, _/_, _%_, _^_, _<_};
+ghost use Prim.Native.Nat.{_*_, _/_, _%_, _^_, _<_};
 ghost use Rattle.masks.specs.Masks.{value, columnWord, turnedWord, movedWord};
 
 // The word moved down by d places.
