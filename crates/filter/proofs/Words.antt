@@ -13,6 +13,7 @@ use borrow.Author.Tests.{le-leb, lt-leb, eq-eqb, ne-eqb}
 use Rattle.theory.specs.Bits.{bit}
 use Rattle.theory.proofs.Bits.{bit-lt, bit-number, number-lt, bit-ext}
 use Rattle.theory.proofs.Lists.{count-map-length, count-map-at}
+use Rattle.score.specs.Limits.{tableWords}
 use Rattle.filter.specs.Table.{themeInterval, word, themeTable, tableAfter}
 
 module _ (theme : List ℕ) where
@@ -52,25 +53,25 @@ module _ (theme : List ℕ) where
 
   -- ---- the table
 
-  pub table-length : length (themeTable theme) ≡ 4096
+  pub table-length : length (themeTable theme) ≡ tableWords
   unfolding themeTable
-  table-length = count-map-length (word theme) 0 4096
+  table-length = count-map-length (word theme) 0 tableWords
 
-  pub table-at : (set : ℕ) → set < 4096 → getD (themeTable theme) set 0 ≡ word theme set
+  pub table-at : (set : ℕ) → set < tableWords → getD (themeTable theme) set 0 ≡ word theme set
   unfolding themeTable
-  table-at set h = count-map-at (word theme) 0 4096 set 0 h ∙ ap (word theme) (zero-add set)
+  table-at set h = count-map-at (word theme) 0 tableWords set 0 h ∙ ap (word theme) (zero-add set)
 
   -- ---- a lent table that was filled
 
   pub after-none : (table : List ℕ) → length theme ≡ 0 → tableAfter theme table ≡ table
   after-none table e = rw (eq-eqb (length theme) 0 e)
 
-  pub after-other : (table : List ℕ) → (length table ≡ 4096 → ⊥) → tableAfter theme table ≡ table
+  pub after-other : (table : List ℕ) → (length table ≡ tableWords → ⊥) → tableAfter theme table ≡ table
   after-other table n = pick (eqb (length theme) 0)
     where
-      pick : (b : Bool) → cond b table (cond (eqb (length table) 4096) (themeTable theme) table) ≡ table
+      pick : (b : Bool) → cond b table (cond (eqb (length table) tableWords) (themeTable theme) table) ≡ table
       pick true = refl
-      pick false = rw (ne-eqb (length table) 4096 n)
+      pick false = rw (ne-eqb (length table) tableWords n)
 
-  pub after-filled : (table : List ℕ) → (length theme ≡ 0 → ⊥) → length table ≡ 4096 → tableAfter theme table ≡ themeTable theme
-  after-filled table n e = rw (ne-eqb (length theme) 0 n, eq-eqb (length table) 4096 e)
+  pub after-filled : (table : List ℕ) → (length theme ≡ 0 → ⊥) → length table ≡ tableWords → tableAfter theme table ≡ themeTable theme
+  after-filled table n e = rw (ne-eqb (length theme) 0 n, eq-eqb (length table) tableWords e)

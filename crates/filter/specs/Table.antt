@@ -6,6 +6,7 @@ use lib.Dec.{leb, eqb}
 use lib.ListN.{length}
 use Rattle.theory.specs.Bits.{bit, number}
 use Rattle.theory.specs.Lists.{count}
+use Rattle.score.specs.Limits.{tableWords}
 use Rattle.score.specs.declared.quantities.Interval.{Interval}
 use Rattle.score.specs.Score.{note}
 use Rattle.score.specs.Sets.{interval}
@@ -20,8 +21,8 @@ word theme set = number 32 (λ i. cond (leb (i + 2) (length theme)) (bit set (th
 
 -- 4,096 words, entry l for the set l
 unfoldable pub themeTable : (theme : List ℕ) → List ℕ
-themeTable theme = map (word theme) (count 0 4096)
+themeTable theme = map (word theme) (count 0 tableWords)
 
 -- a lent table after it was filled: the theme's, or what it was where the theme has no note or the table not 4,096 entries
 abbrev pub tableAfter : (theme table : List ℕ) → List ℕ
-tableAfter theme table = cond (eqb (length theme) 0) table (cond (eqb (length table) 4096) (themeTable theme) table)
+tableAfter theme table = cond (eqb (length theme) 0) table (cond (eqb (length table) tableWords) (themeTable theme) table)

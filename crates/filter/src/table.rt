@@ -4,6 +4,7 @@
 // through once, for the twelve rows, and the words come by doubling what stands before them.
 
 use score::Pitch;
+use score::TABLE_WORDS;
 use score::interval_of;
 ghost use mathlib.Core.Path.{_≡_};
 ghost use Prim.Native.Nat.{ℕ, _+_, _^_, _≤_, _<_};
@@ -67,7 +68,7 @@ pub fn fill_table(theme: &[u8], table: &mut [u32])
     if theme.len() == 0 {
         return;
     }
-    if table.len() != 4096 {
+    if table.len() != TABLE_WORDS {
         return;
     }
     let rows = rows_of(theme);

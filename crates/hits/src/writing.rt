@@ -1,8 +1,8 @@
 // What is written into the two lent buffers: from a place on the numbers of columns in one, and the shifts in the other. Nothing
 // is written where not everything fits.
 
-use crate::signs::shift_of;
 use asking::Way;
+use asking::shift_of;
 use masks::Word;
 use score::Column;
 use score::Pitch;

@@ -51,7 +51,7 @@ module _ (cells : List ℕ) (h : ℕ) (lent : List ℕ) where
   pub prepare-refused : (k p : ℕ) → (prepared cells h lent .answer ≡ Refused (record { number = k; place = p }))
       ↔ (GivenBy (prepareRows cells h lent) k × (p ≡ placeBy (prepareRows cells h lent) k))
   prepare-refused k p = (
-    judge-shown refuse full (λ (x : Filled) s. x .answer ≡ Refused s) (λ r s e. refused-same e) (λ s e. prepared-refused e) (prepareRows cells h lent) 0 (omega arith)
+    judge-shown refuse full (λ (x : Filled) s. x .answer ≡ Refused s) (λ r s e. refused-same e) (λ s e. prepared-refused e) (prepareRows cells h lent) refl
         (record { number = k; place = p }),
     λ g. ap (λ (x : Filled). x .answer) (judge-given refuse full (prepareRows cells h lent) k (g .0))
         ∙ ap (λ (q : ℕ). Refused (record { number = k; place = q })) (sym (g .1)),

@@ -1,15 +1,14 @@
 -- What `judge` comes to, over any rows: what is accepted where no row applies, and otherwise what the first row that
--- applies gives, exactly. Where the rows' numbers rise, a number tells its row. Assumes nothing.
-use mathlib.Core.Path.{_≡_, refl, sym, ap}
-use mathlib.Core.Bool.{Bool, true, false, cond}
+-- applies gives, exactly. Where no number stands at two rows, whatever their order, a number tells its row. Assumes nothing.
+use mathlib.Core.Path.{_≡_, refl, sym, ap, _∙_}
+use mathlib.Core.Bool.{Bool, true, false, cond, true≢false}
 use mathlib.Core.List.{List, [], _∷_, _++_}
-use Prim.Native.Nat.{ℕ, suc, _≤_}
-use native.Mathlib.Omega.{arith}
+use Prim.Native.Nat.{ℕ}
 use lib.Dec.{eqb}
 use borrow.Author.Tests.{eq-eqb, ne-eqb, eqb-true}
-use Rattle.theory.specs.Pages.{Rising}
+use Rattle.theory.specs.Lists.{some}
 use Rattle.score.specs.declared.refusals.Refusal.{Refusal}
-use Rattle.score.specs.Refusals.{Row, judge, GivenBy, placeBy}
+use Rattle.score.specs.Refusals.{Row, judge, distinct, GivenBy, placeBy}
 
 -- no row applies
 abbrev pub Clear : List Row → Type 0
@@ -26,6 +25,35 @@ clear-split (row ∷ rows) more c = let d = clear-split rows more (c .1) in ((c 
 
 abbrev pub number : Row → ℕ
 number row = row .given .number
+
+-- ---- where no number stands at two rows, a number tells its row
+
+-- some row has this number
+abbrev Named : ℕ → List Row → Bool
+Named k rows = some (λ (r : Row). eqb (number r) k) rows
+
+distinct-more : (row : Row) (rows : List Row) → distinct (row ∷ rows) ≡ true → (Named (number row) rows ≡ false) × (distinct rows ≡ true)
+distinct-more row rows = step (Named (number row) rows)
+  where
+    step : (t : Bool) → cond t false (distinct rows) ≡ true → (t ≡ false) × (distinct rows ≡ true)
+    step true e = absurd (true≢false (sym e))
+    step false e = (refl, e)
+
+given-named : (rows : List Row) (k : ℕ) → GivenBy rows k → Named k rows ≡ true
+given-named [] k g = absurd g
+given-named (row ∷ rows) k g = step (eqb (number row) k) g (given-named rows k)
+  where
+    step : (t : Bool) → cond t (row .applies ≡ true) ((row .applies ≡ false) × GivenBy rows k) → (GivenBy rows k → Named k rows ≡ true)
+        → cond t true (Named k rows) ≡ true
+    step true g ih = refl
+    step false g ih = ih (g .1)
+
+-- what a row after it gives is not its own number
+given-other : (row : Row) (rows : List Row) (k : ℕ) → distinct (row ∷ rows) ≡ true → GivenBy rows k → number row ≡ k → ⊥
+given-other row rows k d g q =
+    true≢false (sym (given-named rows k g) ∙ ap (λ (n : ℕ). Named n rows) (sym q) ∙ distinct-more row rows d .0)
+
+-- ---- what rows come to
 
 module _ {A : Type 0} (refused : Refusal → A) (accepted : A) where
   -- what holds of every refusal and of what is accepted
@@ -68,19 +96,10 @@ module _ {A : Type 0} (refused : Refusal → A) (accepted : A) where
 
   -- what shows a refusal: each refusal only itself, and what is accepted none
   module _ (Shows : A → Refusal → Type 0) (only : (r s : Refusal) → Shows (refused r) s → r ≡ s) (none : (s : Refusal) → Shows accepted s → ⊥) where
-    given-above : (rows : List Row) (b k : ℕ) → Rising number b rows → GivenBy rows k → b ≤ k
-    given-above [] b k up g = absurd g
-    given-above (row ∷ rows) b k up g = step (eqb (number row) k) refl g (given-above rows (suc (number row)) k (up .1))
-      where
-        step : (t : Bool) → eqb (number row) k ≡ t → cond t (row .applies ≡ true) ((row .applies ≡ false) × GivenBy rows k)
-            → (GivenBy rows k → suc (number row) ≤ k) → b ≤ k
-        step true e g ih = omega (arith, eqb-true (number row) k e, up .0)
-        step false e g ih = omega (arith, ih (g .1), up .0)
-
-    pub judge-shown : (rows : List Row) (b : ℕ) → Rising number b rows → (s : Refusal) → Shows (judge rows refused accepted) s
+    pub judge-shown : (rows : List Row) → distinct rows ≡ true → (s : Refusal) → Shows (judge rows refused accepted) s
         → GivenBy rows (s .number) × (s .place ≡ placeBy rows (s .number))
-    judge-shown [] b up s h = absurd (none s h)
-    judge-shown (row ∷ rows) b up s h = step (row .applies) refl h (judge-shown rows (suc (number row)) (up .1) s)
+    judge-shown [] d s h = absurd (none s h)
+    judge-shown (row ∷ rows) d s h = step (row .applies) refl h (judge-shown rows (distinct-more row rows d .1) s)
       where
         step : (t : Bool) → row .applies ≡ t → Shows (cond t (refused (row .given)) (judge rows refused accepted)) s
             → (Shows (judge rows refused accepted) s → GivenBy rows (s .number) × (s .place ≡ placeBy rows (s .number)))
@@ -90,7 +109,7 @@ module _ {A : Type 0} (refused : Refusal → A) (accepted : A) where
             rw (eq-eqb (number row) (s .number) (ap (λ (r : Refusal). r .number) q)) (e, ap (λ (r : Refusal). r .place) (sym q))
         step false e h ih =
             let g : GivenBy rows (s .number) × (s .place ≡ placeBy rows (s .number)) = ih h in
-            rw (ne-eqb (number row) (s .number) (λ q. omega (arith, given-above rows (suc (number row)) (s .number) (up .1) (g .0)))) ((e, g .0), g .1)
+            rw (ne-eqb (number row) (s .number) (given-other row rows (s .number) d (g .0))) ((e, g .0), g .1)
 
 -- two calls that judge the same rows: what relates their refusals and what they accept relates what comes of them
 module _ {A B : Type 0} (R : A → B → Type 0) (f : Refusal → A) (g : Refusal → B) (a : A) (b : B) where

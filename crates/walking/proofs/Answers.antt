@@ -21,6 +21,7 @@ use Rattle.score.specs.Refusals.{Row, judge, verdict}
 use Rattle.score.proofs.Columns.{columns-whole}
 use Rattle.score.proofs.Judged.{Clear, judge-clear, judge-clear-of, judge-both}
 use Rattle.score.proofs.Judging.{judge-away}
+use Rattle.asking.specs.Limits.{mostNotes}
 use Rattle.asking.specs.declared.way.Way.{Way}
 use Rattle.asking.specs.declared.bookmark.Bookmark.{Bookmark}
 use Rattle.asking.specs.Way.{span, codeOf}
@@ -30,7 +31,7 @@ use Rattle.asking.specs.Refusals.{plainRows, quickRows}
 use Rattle.asking.proofs.Rows.{plain-clear, quick-clear}
 use Rattle.asking.proofs.Shifts.{code-le}
 use Rattle.filter.specs.Table.{themeTable}
-use Rattle.walking.specs.declared.calls.Walked.{Walked}
+use Rattle.walking.specs.declared.walked.Walked.{Walked}
 use Rattle.walking.specs.declared.calls.Walk.{Walk}
 use Rattle.walking.specs.declared.calls.Walk.the-variants.{Done, Refused}
 use Rattle.walking.specs.Starts.{Place, key}
@@ -47,7 +48,7 @@ small limit xs e i = pick (decLt i (length xs))
     pick (yes h) = ltb-false limit (getD xs i 0) (some-none (λ x. ltb limit x) xs 0 e i h)
     pick (no h) = subst (λ (n : ℕ). n ≤ limit) (sym (List·getD-eq-default xs 0 {n = i} (omega arith))) zero-le
 
-pub accepted-ready : {cells : List ℕ} {h : ℕ} {theme : List ℕ} → Accepted cells h theme → Ready cells h theme
+pub accepted-ready : {cells : List ℕ} {h : ℕ} {theme : List ℕ} → Accepted mostNotes cells h theme → Ready cells h theme
 accepted-ready {cells} {h} {theme} a =
     record {
       tracks = a .tracks-some;

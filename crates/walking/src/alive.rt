@@ -1,9 +1,9 @@
 // All starts of a column at once: a word has a bit for each that is alive, and each note that follows leaves those at which
 // the next column holds it.
 
-use crate::calls::Walked;
+use crate::column::try_column;
 use crate::ring::held_at;
-use crate::walk::try_column;
+use crate::walked::Walked;
 use asking::Way;
 use hits::put_hits;
 use masks::Word;

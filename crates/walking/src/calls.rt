@@ -1,22 +1,17 @@
 // The two walks of a page: plain, along every start, and quick, along the starts at candidates.
 
 use crate::ring::RING;
-use crate::signs::code_of;
 use crate::walk::walk;
+use crate::walked::Walked;
 use asking::Bookmark;
 use asking::Way;
 use asking::check_plain;
 use asking::check_quick;
+use asking::code_of;
 use filter::fill_table;
 use score::Refusal;
 use score::Verdict;
 ghost use Rattle.walking.specs.Found.{PlainWalks, QuickWalks};
-
-// How far a walk has come: the pairs found, and the looks.
-pub struct Walked {
-    pub found: usize,
-    pub looks: u32,
-}
 
 // What a walk comes to: how far it came, or why it is turned away.
 pub enum Walk {
