@@ -26,7 +26,7 @@ use Rattle.walking.specs.Starts.{Place, key, starts, hit, looks}
 use Rattle.asking.specs.Way.{rangeOf}
 use Rattle.asking.specs.Bookmarks.{keyOf}
 use Rattle.asking.specs.Refusals.{row4, row5, row8, badNote}
-use Rattle.filter.specs.Table.{themeTable}
+use Rattle.filter.specs.Table.{wordBits, themeTable}
 use Rattle.search.specs.Page.{Leaf, QuickLeaf, leaf, plainPage, quickPage}
 use Rattle.walking.specs.Candidates.{quickStarts}
 use Rattle.asking.specs.Refusals.{pageRows, plainRows, quickRows}
@@ -132,7 +132,7 @@ module _ (cells : List ℕ) (h : ℕ) (theme : List ℕ) (way : Way) (b : Bookma
   quick-small sets table columns shifts =
       let page = pageRows (rangeOf way) (columnsIn cells h) b (length columns) (length shifts) in
       let lent = row6 cells h sets ∷ row7 sets ∷ row8 (length table) ∷ page in
-      let reached = quickStarts way (scoreOf cells h) theme (themeTable theme) sets in
+      let reached = quickStarts wordBits way (scoreOf cells h) theme (themeTable wordBits theme) sets in
       judge-small (λ (q : QuickLeaf). SmallPage (q .leaf .answer)) (quickRefused cells h theme way b sets table columns shifts)
       (quickLeaf cells h theme way b sets table columns shifts) (λ r s. s) (quickRows cells h theme way b sets table columns shifts)
       (score-small _ cells h (row4 mostNotes theme ∷ row5 theme ∷ lent)

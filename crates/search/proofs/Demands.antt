@@ -36,7 +36,7 @@ use Rattle.asking.specs.declared.bookmark.Pair.{Pair}
 use Rattle.asking.specs.declared.bookmark.Bookmark.{Bookmark}
 use Rattle.walking.specs.Starts.{Place, starts, hit, looks}
 use Rattle.search.specs.Pairs.{pairAt, pairs}
-use Rattle.filter.specs.Table.{themeTable}
+use Rattle.filter.specs.Table.{wordBits, themeTable}
 use Rattle.walking.specs.Candidates.{candidate}
 use Rattle.asking.specs.Bookmarks.{firstBookmark, keyOf}
 use Rattle.walking.specs.Found.{spent}
@@ -69,28 +69,28 @@ module _ (cells : List ℕ) (h : ℕ) (theme : List ℕ) (way : Way) where
 
   pub candidate-looks-le : (lent : List ℕ) → candidateLooks way (scoreOf cells h) theme lent ≤ allLooks way (scoreOf cells h) theme
   unfolding quickStarts
-  candidate-looks-le lent = sum-hits (looks way (scoreOf cells h) theme) (λ s. candidate (themeTable theme) lent (length theme) (s .column)) (starts way (scoreOf cells h) theme)
+  candidate-looks-le lent = sum-hits (looks way (scoreOf cells h) theme) (λ s. candidate wordBits (themeTable wordBits theme) lent (length theme) (s .column)) (starts way (scoreOf cells h) theme)
 
   module _ (b : Bookmark) (columns : List ℕ) (shifts : List ℤ) where
     pub plain-page-le : spent way (scoreOf cells h) theme (starts way (scoreOf cells h) theme) b columns shifts ≤ mostLooks cells h theme
     plain-page-le = le-trans (page-looks-within way (scoreOf cells h) theme (length columns) (keyOf way b)) all-looks-le
 
-    pub quick-page-le : (table lent : List ℕ) → spent way (scoreOf cells h) theme (quickStarts way (scoreOf cells h) theme table lent) b columns shifts ≤ mostLooks cells h theme
+    pub quick-page-le : (table lent : List ℕ) → spent way (scoreOf cells h) theme (quickStarts wordBits way (scoreOf cells h) theme table lent) b columns shifts ≤ mostLooks cells h theme
     unfolding quickStarts
     quick-page-le table lent =
-        le-trans (reached-page-within way (scoreOf cells h) theme (length columns) (keyOf way b) (λ s. candidate table lent (length theme) (s .column))) all-looks-le
+        le-trans (reached-page-within way (scoreOf cells h) theme (length columns) (keyOf way b) (λ s. candidate wordBits table lent (length theme) (s .column))) all-looks-le
 
 -- what the quick starts list: the pairs at candidates
 
 module _ (cells : List ℕ) (h : ℕ) (theme : List ℕ) (way : Way) (lent : List ℕ) where
-  pub quick-pairs : map (pairAt way) (hits (hit way (scoreOf cells h) theme) (quickStarts way (scoreOf cells h) theme (themeTable theme) lent))
+  pub quick-pairs : map (pairAt way) (hits (hit way (scoreOf cells h) theme) (quickStarts wordBits way (scoreOf cells h) theme (themeTable wordBits theme) lent))
       ≡ candidatePairs way (scoreOf cells h) theme lent
   unfolding quickStarts
   quick-pairs =
       ap (map (pairAt way))
-      (hits-hits (hit way (scoreOf cells h) theme) (λ (s : Place). candidate (themeTable theme) lent (length theme) (s .column)) (starts way (scoreOf cells h) theme))
+      (hits-hits (hit way (scoreOf cells h) theme) (λ (s : Place). candidate wordBits (themeTable wordBits theme) lent (length theme) (s .column)) (starts way (scoreOf cells h) theme))
       ∙ sym
-      (hits-map (pairAt way) (λ (pair : Pair). candidate (themeTable theme) lent (length theme) (pair .column .0))
+      (hits-map (pairAt way) (λ (pair : Pair). candidate wordBits (themeTable wordBits theme) lent (length theme) (pair .column .0))
       (hits (hit way (scoreOf cells h) theme) (starts way (scoreOf cells h) theme)))
 
 -- ---- demand 3

@@ -13,7 +13,7 @@ use Rattle.asking.specs.declared.bookmark.Bookmark.{Bookmark}
 use Rattle.search.specs.declared.page.Turn.{Turn}
 use Rattle.search.specs.declared.page.Page.{Page}
 use Rattle.search.specs.declared.page.Page.the-variants.{Turned, Refused}
-use Rattle.filter.specs.Table.{themeTable}
+use Rattle.filter.specs.Table.{wordBits, themeTable}
 use Rattle.search.specs.Page.{QuickLeaf, leaf, quickPage, QuickPages}
 use Rattle.walking.specs.Candidates.{quickStarts}
 use Rattle.asking.specs.Asking.{QuickAsks}
@@ -29,8 +29,8 @@ module _ (cells : List ℕ) (h : ℕ) (theme : List ℕ) (way : Way) (b : Bookma
   abbrev pub quickLeaf : QuickLeaf
   quickLeaf =
       record {
-        leaf = leaf way (scoreOf cells h) theme (quickStarts way (scoreOf cells h) theme (themeTable theme) sets) b columns shifts;
-        table = themeTable theme;
+        leaf = leaf way (scoreOf cells h) theme (quickStarts wordBits way (scoreOf cells h) theme (themeTable wordBits theme) sets) b columns shifts;
+        table = themeTable wordBits theme;
       }
 
   pub quick-leaf : QuickAsks cells h theme way b sets table columns shifts → quickPage cells h theme way b sets table columns shifts ≡ quickLeaf
@@ -38,7 +38,7 @@ module _ (cells : List ℕ) (h : ℕ) (theme : List ℕ) (way : Way) (b : Bookma
   quick-leaf a = judge-clear quickRefused quickLeaf (quickRows cells h theme way b sets table columns shifts) (quick-clear cells h theme way b sets table columns shifts .0 a)
 
   -- it leaves the theme's table
-  pub quick-fills : QuickAsks cells h theme way b sets table columns shifts → quickPage cells h theme way b sets table columns shifts .table ≡ themeTable theme
+  pub quick-fills : QuickAsks cells h theme way b sets table columns shifts → quickPage cells h theme way b sets table columns shifts .table ≡ themeTable wordBits theme
   quick-fills a = ap (λ (l : QuickLeaf). l .table) (quick-leaf a)
 
   pub quick-turned : ((t : Turn) × (quickPage cells h theme way b sets table columns shifts .leaf .answer ≡ Turned t)) ↔ QuickAsks cells h theme way b sets table columns shifts

@@ -28,7 +28,7 @@ use Rattle.asking.specs.declared.bookmark.Pair.{Pair}
 use Rattle.asking.specs.declared.bookmark.Bookmark.{Bookmark}
 use Rattle.walking.specs.Starts.{Place, place, key, starts, hit, looks}
 use Rattle.search.specs.Pairs.{pairAt, pairs}
-use Rattle.filter.specs.Table.{themeTable}
+use Rattle.filter.specs.Table.{wordBits, themeTable}
 use Rattle.walking.specs.Candidates.{candidate}
 use Rattle.asking.specs.Bookmarks.{afterPair, finishedBookmark, keyOf}
 use Rattle.asking.specs.Refusals.{badNote, requestRows, setsRows, pageRows}
@@ -67,16 +67,16 @@ module _ (cells : List ℕ) (h : ℕ) (theme : List ℕ) (way : Way) (a : Accept
   score = scoreOf cells h
 
   abbrev keep : Place → Bool
-  keep s = candidate (themeTable theme) (sets score) (length theme) (s .column)
+  keep s = candidate wordBits (themeTable wordBits theme) (sets score) (length theme) (s .column)
 
   abbrev all : List Place
   all = starts way score theme
 
   abbrev quick : List Place
-  quick = quickStarts way score theme (themeTable theme) (sets score)
+  quick = quickStarts wordBits way score theme (themeTable wordBits theme) (sets score)
 
   kept : (s : Place) → In s all → hit way score theme s ≡ true → keep s ≡ true
-  kept s m e = hit-candidate way score theme (a .notes-some) (a .notes-few) (note-le a) m e
+  kept s m e = hit-candidate wordBits way score theme (a .notes-some) (a .notes-few) (note-le a) m e
 
   miss : (s : Place) → In s all → keep s ≡ false → hit way score theme s ≡ false
   miss s m e = step (hit way score theme s) refl
@@ -94,7 +94,7 @@ module _ (cells : List ℕ) (h : ℕ) (theme : List ℕ) (way : Way) (a : Accept
   -- so all pairs are listed
   pub own-pairs : candidatePairs way score theme (sets score) ≡ pairs way score theme
   own-pairs =
-      hits-map (pairAt way) (λ (pair : Pair). candidate (themeTable theme) (sets score) (length theme) (pair .column .0)) (hits (hit way score theme) all)
+      hits-map (pairAt way) (λ (pair : Pair). candidate wordBits (themeTable wordBits theme) (sets score) (length theme) (pair .column .0)) (hits (hit way score theme) all)
       ∙ ap (map (pairAt way)) (hits-all keep (hits (hit way score theme) all) (λ s m. let d = in-hits (hit way score theme) all m in kept s (d .0) (d .1)))
 
   -- ---- any page

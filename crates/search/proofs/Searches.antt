@@ -15,7 +15,7 @@ use Rattle.asking.specs.declared.way.Way.{Way}
 use Rattle.asking.specs.Way.{rangeOf}
 use Rattle.asking.specs.declared.bookmark.Bookmark.{Bookmark}
 use Rattle.walking.specs.Starts.{Place, key, starts}
-use Rattle.filter.specs.Table.{themeTable}
+use Rattle.filter.specs.Table.{wordBits, themeTable}
 use Rattle.walking.specs.Candidates.{candidate}
 use Rattle.search.specs.Page.{QuickLeaf, plainPage, quickPage}
 use Rattle.walking.specs.Candidates.{quickStarts}
@@ -68,7 +68,7 @@ module _ (cells : List ℕ) (h : ℕ) (theme : List ℕ) (way : Way) (a : Accept
           way = way;
           score = scoreOf cells h;
           theme = theme;
-          reached = quickStarts way (scoreOf cells h) theme (themeTable theme) sets;
+          reached = quickStarts wordBits way (scoreOf cells h) theme (themeTable wordBits theme) sets;
           room = r;
         }
 
@@ -88,4 +88,4 @@ module _ (cells : List ℕ) (h : ℕ) (theme : List ℕ) (way : Way) (a : Accept
         }
       where
         keep : Place → Bool
-        keep p = candidate (themeTable theme) sets (length theme) (p .column)
+        keep p = candidate wordBits (themeTable wordBits theme) sets (length theme) (p .column)

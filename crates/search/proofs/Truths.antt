@@ -27,7 +27,7 @@ use Rattle.search.specs.Definition.{Stands}
 use Rattle.score.specs.Score.{note}
 use Rattle.walking.specs.Starts.{Place, key, starts, looks}
 use Rattle.search.specs.Pairs.{pairAt, pairs}
-use Rattle.filter.specs.Table.{themeTable}
+use Rattle.filter.specs.Table.{wordBits, themeTable}
 use Rattle.walking.specs.Candidates.{candidate}
 use Rattle.asking.specs.Bookmarks.{keyOf}
 use Rattle.search.specs.Page.{Leaf, QuickLeaf, plainPage, quickPage}
@@ -74,7 +74,7 @@ module _ (cells : List ℕ) (h : ℕ) (theme : List ℕ) (way : Way) (b : Bookma
   quick-true a lent table s e {pair} m =
       let p = quick-page cells h theme way b columns shifts a lent table s e in
       let c : In pair (candidatePairs way (scoreOf cells h) theme lent) = in-first (length columns) b (candidatePairs way (scoreOf cells h) theme lent) (subst (In pair) (p .front) m) in
-      listed-stands way (scoreOf cells h) theme (in-hits (λ (q : Pair). candidate (themeTable theme) lent (length theme) (q .column .0)) (pairs way (scoreOf cells h) theme) c .0)
+      listed-stands way (scoreOf cells h) theme (in-hits (λ (q : Pair). candidate wordBits (themeTable wordBits theme) lent (length theme) (q .column .0)) (pairs way (scoreOf cells h) theme) c .0)
 
 -- ---- looks: the answer's own, within the bound
 
@@ -95,9 +95,9 @@ module _ (cells : List ℕ) (h : ℕ) (theme : List ℕ) (way : Way) (b : Bookma
   unfolding looksOf
   quick-looks-le lent table e =
       let a = quick-turned cells h theme way b lent table columns shifts .0 (t, e) in
-      let q : t .looks ≡ spent way (scoreOf cells h) theme (quickStarts way (scoreOf cells h) theme (themeTable theme) lent) b columns shifts =
+      let q : t .looks ≡ spent way (scoreOf cells h) theme (quickStarts wordBits way (scoreOf cells h) theme (themeTable wordBits theme) lent) b columns shifts =
       ap looksOf (sym e ∙ ap (λ (l : QuickLeaf). l .leaf .answer) (quick-leaf cells h theme way b lent table columns shifts a)) in
-      le-trans (le-of-eq q) (quick-page-le cells h theme way b columns shifts (themeTable theme) lent)
+      le-trans (le-of-eq q) (quick-page-le cells h theme way b columns shifts (themeTable wordBits theme) lent)
 
 -- the starts that a page reaches are those at or after its bookmark
 module _ (way : Way) (score : List (List ℕ)) (theme : List ℕ) (b : Bookmark) (i : InRange (rangeOf way) (length score) b) (m-some : 1 ≤ length theme) where

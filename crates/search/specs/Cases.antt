@@ -16,7 +16,7 @@ use Rattle.asking.specs.declared.bookmark.Pair.{Pair}
 use Rattle.asking.specs.declared.bookmark.Bookmark.{Bookmark}
 use Rattle.search.specs.declared.page.Page.{Page}
 use Rattle.search.specs.declared.page.Page.the-variants.{Turned, Refused}
-use Rattle.filter.specs.Table.{themeTable}
+use Rattle.filter.specs.Table.{wordBits, themeTable}
 use Rattle.walking.specs.Candidates.{candidate}
 use Rattle.asking.specs.Bookmarks.{firstBookmark}
 use Rattle.search.specs.Page.{Leaf, plainPage, quickPage}
@@ -87,7 +87,7 @@ made c =
       room = c .room;
       sets = setsOf (scoreOf (c .cells) (c .tracks));
       candidates =
-          hits (λ j. candidate (themeTable (c .theme)) (setsOf (scoreOf (c .cells) (c .tracks))) (length (c .theme)) j)
+          hits (λ j. candidate wordBits (themeTable wordBits (c .theme)) (setsOf (scoreOf (c .cells) (c .tracks))) (length (c .theme)) j)
           (count 1 (length (scoreOf (c .cells) (c .tracks)) + 1 - length (c .theme)));
       pages = read (plainly c) 3 (firstBookmark (rangeOf (c .way)));
       quick = map (λ p. p .looks) (read (quickly c) 3 (firstBookmark (rangeOf (c .way))));

@@ -17,7 +17,7 @@ use Rattle.search.specs.declared.page.Page.{Page}
 use Rattle.search.specs.declared.page.Page.the-variants.{Turned, Refused}
 use Rattle.walking.specs.Starts.{starts, looks}
 use Rattle.search.specs.Pairs.{pairs}
-use Rattle.filter.specs.Table.{themeTable}
+use Rattle.filter.specs.Table.{wordBits, themeTable}
 use Rattle.walking.specs.Candidates.{candidate}
 use Rattle.search.specs.Page.{Leaf}
 use Rattle.walking.specs.Candidates.{quickStarts}
@@ -40,7 +40,7 @@ abbrev pub allLooks : Way → (score : List (List ℕ)) (theme : List ℕ) → �
 allLooks way score theme = sum (map (looks way score theme) (starts way score theme))
 
 abbrev pub candidateLooks : Way → (score : List (List ℕ)) (theme sets : List ℕ) → ℕ
-candidateLooks way score theme sets = sum (map (looks way score theme) (quickStarts way score theme (themeTable theme) sets))
+candidateLooks way score theme sets = sum (map (looks way score theme) (quickStarts wordBits way score theme (themeTable wordBits theme) sets))
 
 -- the most looks of a whole list: (n - m + 1) * h * (m - 1) where m <= n, else 0
 abbrev pub mostLooks : (cells : List ℕ) (h : ℕ) (theme : List ℕ) → ℕ
@@ -48,7 +48,7 @@ mostLooks cells h theme = (columnsIn cells h + 1 - length theme) * h * (length t
 
 -- the pairs whose column the sets make a candidate
 abbrev pub candidatePairs : Way → (score : List (List ℕ)) (theme sets : List ℕ) → List Pair
-candidatePairs way score theme sets = hits (λ pair. candidate (themeTable theme) sets (length theme) (pair .column .0)) (pairs way score theme)
+candidatePairs way score theme sets = hits (λ pair. candidate wordBits (themeTable wordBits theme) sets (length theme) (pair .column .0)) (pairs way score theme)
 
 -- ---- page after page
 

@@ -18,7 +18,7 @@ use Rattle.search.specs.declared.page.Page.{Page}
 use Rattle.search.specs.declared.page.Page.the-variants.{Turned, Refused}
 use Rattle.walking.specs.Starts.{Place, place, starts}
 use Rattle.search.specs.Pairs.{pairAt}
-use Rattle.filter.specs.Table.{themeTable}
+use Rattle.filter.specs.Table.{wordBits, themeTable}
 use Rattle.walking.specs.Candidates.{quickStarts}
 use Rattle.walking.specs.Found.{columnsOf, shiftsOf, found, spent}
 use Rattle.asking.specs.Bookmarks.{afterPair, finishedBookmark}
@@ -71,8 +71,8 @@ quickPage cells h theme way b sets table columns shifts =
     judge (quickRows cells h theme way b sets table columns shifts)
     (λ r. record { leaf = record { answer = Refused r; columns = columns; shifts = shifts }; table = table })
     (record {
-      leaf = leaf way (scoreOf cells h) theme (quickStarts way (scoreOf cells h) theme (themeTable theme) sets) b columns shifts;
-      table = themeTable theme;
+      leaf = leaf way (scoreOf cells h) theme (quickStarts wordBits way (scoreOf cells h) theme (themeTable wordBits theme) sets) b columns shifts;
+      table = themeTable wordBits theme;
     })
 
 -- what a plain call promises

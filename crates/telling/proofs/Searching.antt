@@ -31,7 +31,7 @@ use Rattle.search.specs.declared.page.Page.the-variants.{Refused}
 use Rattle.asking.specs.Way.{span, rangeOf}
 use Rattle.walking.specs.Starts.{Place, key, starts, hit}
 use Rattle.search.specs.Pairs.{pairAt, pairs}
-use Rattle.filter.specs.Table.{themeTable}
+use Rattle.filter.specs.Table.{wordBits, themeTable}
 use Rattle.asking.specs.Bookmarks.{firstBookmark}
 use Rattle.search.specs.Page.{Leaf, quickPage}
 use Rattle.walking.specs.Candidates.{quickStarts}
@@ -52,7 +52,7 @@ use Rattle.telling.proofs.Widths.{lines-le, end-le}
 -- what is sought, in pages of 256
 abbrev pub searchOf : (cells : List ℕ) (h : ℕ) (theme : List ℕ) → Way → (lent : List ℕ) → Search
 searchOf cells h theme way lent =
-    record { way = way; score = scoreOf cells h; theme = theme; reached = quickStarts way (scoreOf cells h) theme (themeTable theme) lent; room = pagePairs }
+    record { way = way; score = scoreOf cells h; theme = theme; reached = quickStarts wordBits way (scoreOf cells h) theme (themeTable wordBits theme) lent; room = pagePairs }
 
 -- ---- the sets that are prepared are the score's own
 
@@ -77,7 +77,7 @@ lines-append a b = ap join (map-append hitLine a b) ∙ join-append (map hitLine
 -- ---- what the starts at candidates list, with the score's own sets
 
 module _ (cells : List ℕ) (h : ℕ) (theme : List ℕ) (way : Way) (a : Accepted mostNotes cells h theme) where
-  own-hits : map (pairAt way) (hits (hit way (scoreOf cells h) theme) (quickStarts way (scoreOf cells h) theme (themeTable theme) (setsOf (scoreOf cells h))))
+  own-hits : map (pairAt way) (hits (hit way (scoreOf cells h) theme) (quickStarts wordBits way (scoreOf cells h) theme (themeTable wordBits theme) (setsOf (scoreOf cells h))))
       ≡ pairs way (scoreOf cells h) theme
   own-hits = quick-pairs cells h theme way (setsOf (scoreOf cells h)) ∙ own-pairs cells h theme way a
 

@@ -15,7 +15,7 @@ use Rattle.asking.specs.declared.bookmark.Bookmark.{Bookmark}
 use Rattle.asking.specs.Asking.{PlainAsks, QuickAsks}
 use Rattle.asking.specs.Refusals.{plainRows, quickRows}
 use Rattle.asking.proofs.Rows.{plain-clear, quick-clear}
-use Rattle.filter.specs.Table.{themeTable}
+use Rattle.filter.specs.Table.{wordBits, themeTable}
 use Rattle.walking.specs.declared.calls.Walked.{Walked}
 use Rattle.walking.specs.declared.calls.Walk.the-variants.{Done, Refused as Away}
 use Rattle.walking.specs.Starts.{Place, starts}
@@ -97,7 +97,7 @@ module _ (cells : List ℕ) (h : ℕ) (theme : List ℕ) (way : Way) (b : Bookma
     asked-quick = quick-clear cells h theme way b sets table columns shifts .1 (finds-clear _ _ _ _ _ _ _ _ (l .finds))
 
     pub quick-room : (1 ≤ length columns′) × (length shifts′ ≡ length columns′) × (columnsIn cells h ≤ 65535)
-    quick-room = went-room cells h theme way b columns shifts (asked-quick .plain) (quickStarts way (scoreOf cells h) theme (themeTable theme) sets) (finds-went _ _ _ _ _ _ _ _ (l .finds))
+    quick-room = went-room cells h theme way b columns shifts (asked-quick .plain) (quickStarts wordBits way (scoreOf cells h) theme (themeTable wordBits theme) sets) (finds-went _ _ _ _ _ _ _ _ (l .finds))
 
     pub quick-turns : {n : ℕ} {t : Turn} → n ≡ columnsIn cells h → t ≡ readTurn way n (w .found) (w .looks) columns′ shifts′
         → QuickPages cells h theme way b sets table columns shifts (Turned t) table′ columns′ shifts′
@@ -105,7 +105,7 @@ module _ (cells : List ℕ) (h : ℕ) (theme : List ℕ) (way : Way) (b : Bookma
         let v = finds-went _ _ _ _ _ _ _ _ (l .finds) in
         let p = quick-leaf cells h theme way b sets table columns shifts asked-quick in
         record {
-          answers = went-turns cells h theme way b columns shifts (asked-quick .plain) (quickStarts way (scoreOf cells h) theme (themeTable theme) sets) v e r ∙ sym (ap (λ (x : QuickLeaf). x .leaf .answer) p);
+          answers = went-turns cells h theme way b columns shifts (asked-quick .plain) (quickStarts wordBits way (scoreOf cells h) theme (themeTable wordBits theme) sets) v e r ∙ sym (ap (λ (x : QuickLeaf). x .leaf .answer) p);
           fills-table = l .fills-table ∙ table-filled cells h theme way b sets table columns shifts (finds-clear _ _ _ _ _ _ _ _ (l .finds)) ∙ sym (ap (λ (x : QuickLeaf). x .table) p);
           writes-columns = v .in-columns ∙ sym (ap (λ (x : QuickLeaf). x .leaf .columns) p);
           writes-shifts = v .in-shifts ∙ sym (ap (λ (x : QuickLeaf). x .leaf .shifts) p);
