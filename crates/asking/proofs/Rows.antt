@@ -24,7 +24,7 @@ use Rattle.score.proofs.Judged.{Clear, clear-append, clear-split}
 
 -- ---- tests that fail
 
-neither : (a b : Bool) {P Q : Type 0} → (a ≡ false) ↔ P → (b ≡ false) ↔ Q → ((a || b) ≡ false) ↔ (P × Q)
+pub neither : (a b : Bool) {P Q : Type 0} → (a ≡ false) ↔ P → (b ≡ false) ↔ Q → ((a || b) ≡ false) ↔ (P × Q)
 neither true b p q = (λ e. absurd (true≢false e), λ f. p .1 (f .0))
 neither false b p q = (λ e. (p .0 refl, q .0 e), λ f. q .1 (f .1))
 
@@ -38,7 +38,7 @@ not-zero (suc n) = (λ e. omega arith, λ h. ne-eqb (suc n) 0 (λ e. omega arith
 equal : (a b : ℕ) → (not (eqb a b) ≡ false) ↔ (a ≡ b)
 equal a b = (λ e. eqb-true a b (not-false (eqb a b) e), λ e. rw (eq-eqb a b e))
 
-not-overZ : (a b : ℤ) → (ltZ a b ≡ false) ↔ (b ≤ℤ a)
+pub not-overZ : (a b : ℤ) → (ltZ a b ≡ false) ↔ (b ≤ℤ a)
 not-overZ a b = (λ e. ltZ-no (subst (λ (t : Bool). T (not t)) (sym e) tt), λ h. step (ltZ a b) refl h)
   where
     step : (t : Bool) → ltZ a b ≡ t → b ≤ℤ a → t ≡ false

@@ -2,6 +2,7 @@
 -- beside how it is computed: `Holds` (in integers) is the published definition, `holds` (by codes) the method. That they agree is proved.
 pub mod Limits
 pub mod Way
+pub mod Codes
 pub mod Bookmarks
 pub mod Refusals
 pub mod Asking

@@ -1,7 +1,7 @@
 // A found place, and where a search goes on.
 
-use crate::signs::lowest_of;
-use crate::signs::raised;
+use crate::codes::lowest_of;
+use crate::codes::raised;
 use crate::way::Way;
 use score::Column;
 ghost use mathlib.Core.Path.{_≡_};

@@ -2,8 +2,8 @@
 // and those of each call in order. Every check is total, and says what the rows of the table of refusals say.
 
 use crate::bookmark::Bookmark;
+use crate::codes::out_of_range;
 use crate::limits::MOST_NOTES;
-use crate::signs::out_of_range;
 use crate::way::Way;
 use score::Column;
 use score::HIGHEST_PITCH;

@@ -10,9 +10,9 @@ use Rattle.preparing.specs.declared.sets.Preparation.{Preparation}
 use Rattle.preparing.specs.declared.sets.Preparation.the-variants as preparation
 use Rattle.asking.specs.declared.way.Way.{Way}
 use Rattle.asking.specs.declared.way.Way.the-variants.{Exact, Octave}
-use Rattle.search.specs.declared.page.Turn.{Turn}
-use Rattle.search.specs.declared.page.Page.{Page}
-use Rattle.search.specs.declared.page.Page.the-variants.{Turned, Refused}
+use Rattle.paging.specs.declared.page.Turn.{Turn}
+use Rattle.paging.specs.declared.page.Page.{Page}
+use Rattle.paging.specs.declared.page.Page.the-variants.{Turned, Refused}
 
 -- how many numbers the answer of a page has
 abbrev pub answerNumbers : ℕ

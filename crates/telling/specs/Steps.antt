@@ -3,7 +3,6 @@
 use mathlib.Core.Path.{_≡_}
 use mathlib.Core.List.{List}
 use Prim.Native.Nat.{ℕ, _+_, _-_, _≤_}
-use lib.IntN.{ℤ}
 use lib.ListN.{length}
 use lib.Seq.{sets as stored}
 use Rattle.score.specs.Limits.{mostColumns, tableWords}
@@ -11,6 +10,7 @@ use Rattle.score.specs.Score.{scoreOf}
 use Rattle.score.specs.Sets.{sets as setsOf}
 use Rattle.asking.specs.Limits.{mostNotes}
 use Rattle.asking.specs.Asking.{Accepted}
+use Rattle.paging.specs.Lent.{Lent, Room as PairsRoom}
 use Rattle.telling.specs.Telling.{room as textRoom}
 
 -- these bytes from the place on, and the place behind them
@@ -23,20 +23,19 @@ abbrev pub pagePairs : ℕ
 pagePairs = 256
 
 -- room for a table, for a page and for every text
-pub record Room (table columns : List ℕ) (shifts : List ℤ) (out : List ℕ) : Type 0 where
+pub record Room (table : List ℕ) (buffers : Lent) (out : List ℕ) : Type 0 where
   pub table-long : length table ≡ tableWords
-  pub columns-long : length columns ≡ pagePairs
-  pub shifts-long : length shifts ≡ pagePairs
+  pub pairs-room : PairsRoom pagePairs buffers
   pub out-long : textRoom ≤ length out
 
 -- what a search is given: an accepted score and theme, and room for all
-pub record Sought (cells : List ℕ) (h : ℕ) (theme sets table columns : List ℕ) (shifts : List ℤ) (out : List ℕ) : Type 0 where
+pub record Sought (cells : List ℕ) (h : ℕ) (theme sets table : List ℕ) (buffers : Lent) (out : List ℕ) : Type 0 where
   pub accepted : Accepted mostNotes cells h theme
   pub sets-room : length sets ≡ mostColumns - 1
-  pub room : Room table columns shifts out
+  pub room : Room table buffers out
 
 -- what the pages are written of: an accepted score and theme, the score's own sets, and room for all
-pub record Asked (cells : List ℕ) (h : ℕ) (theme sets table columns : List ℕ) (shifts : List ℤ) (out : List ℕ) : Type 0 where
+pub record Asked (cells : List ℕ) (h : ℕ) (theme sets table : List ℕ) (buffers : Lent) (out : List ℕ) : Type 0 where
   pub accepted : Accepted mostNotes cells h theme
   pub own : sets ≡ setsOf (scoreOf cells h)
-  pub room : Room table columns shifts out
+  pub room : Room table buffers out

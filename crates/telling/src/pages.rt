@@ -16,6 +16,7 @@ ghost use lib.ListN.{length};
 ghost use Rattle.score.specs.Score.{scoreOf};
 ghost use Rattle.asking.specs.Limits.{mostNotes};
 ghost use Rattle.asking.specs.Asking.{Accepted};
+ghost use Rattle.paging.specs.Lent.{lent};
 ghost use Rattle.telling.specs.Lines.{linesOf};
 ghost use Rattle.telling.specs.Telling.{room};
 ghost use Rattle.telling.specs.Steps.{Wrote, Sought, Asked};
@@ -32,7 +33,7 @@ fn pages(
     shifts: &mut [i16],
     out: &mut [u8],
 ) -> usize
-    requires { ⌜ Asked (now cells) tracks (now theme) (now sets) (now table) (now columns) (now shifts) (now out) ⌝ }
+    requires { ⌜ Asked (now cells) tracks (now theme) (now sets) (now table) (lent (now columns) (now shifts)) (now out) ⌝ }
     ensures { λ r. ⌜ Wrote (linesOf way (scoreOf (now (cells .entry)) tracks) (now (theme .entry))) 0 (now (out .entry)) r (now (out .exit)) ⌝ }
 {
     let mut bookmark = Bookmark::first(way);
@@ -79,7 +80,7 @@ fn search_in(
     shifts: &mut [i16],
     out: &mut [u8],
 ) -> usize
-    requires { ⌜ Sought (now cells) tracks (now theme) (now sets) (now table) (now columns) (now shifts) (now out) ⌝ }
+    requires { ⌜ Sought (now cells) tracks (now theme) (now sets) (now table) (lent (now columns) (now shifts)) (now out) ⌝ }
     ensures { λ r. ⌜ Wrote (linesOf way (scoreOf (now (cells .entry)) tracks) (now (theme .entry))) 0 (now (out .entry)) r (now (out .exit)) ⌝ }
 {
     let last = columns_in(cells, tracks) - 1;

@@ -5,17 +5,16 @@ use mathlib.Core.Bool.{Bool, true, false, cond}
 use mathlib.Core.List.{List, map}
 use Prim.Native.Nat.{ℕ, _+_, _-_, _*_, _%_, _≤_, _<_}
 use lib.Dec.{leb}
-use lib.IntN.{ℤ, pos, _+ℤ_}
+use lib.IntN.{ℤ}
 use lib.ListN.{length, getD}
 use lib.Seq.{sets as stored}
-use lib.Signed.{_≤ℤ_}
 use Rattle.theory.specs.Lists.{over, count, first, lower}
 use Rattle.theory.specs.Pages.{pageHits, pageLooks}
 use Rattle.score.specs.declared.quantities.Pitch.{Pitch}
 use Rattle.score.specs.Score.{pitch, columnAt, column, columnsIn}
 use Rattle.asking.specs.declared.way.Way.{Way}
 use Rattle.asking.specs.declared.way.Way.the-variants.{Exact, Octave}
-use Rattle.asking.specs.Way.{lowest, highest, span, holds}
+use Rattle.asking.specs.Way.{span, holds}
 use Rattle.filter.specs.Table.{wordBits}
 use Rattle.score.specs.Score.{note}
 use Rattle.walking.specs.Starts.{Place, place, codes, starts, hit, looks}
@@ -47,11 +46,6 @@ LentFor false n sets table = Lent n sets table
 abbrev pub BeginsAt : (every : Bool) (sets table : List ℕ) (m j : ℕ) → Type 0
 BeginsAt true sets table m j = Unit {0}
 BeginsAt false sets table m j = (j - 1 + (m - 2) ≤ length sets) × (length table ≡ 4096) × ((k : ℕ) → getD sets k 0 < 4096)
-
--- a shift that a bookmark may have: one of the way's, or one above its highest
-pub record ShiftIn (way : Way) (shift : ℤ) : Type 0 where
-  pub not-below : lowest way ≤ℤ shift
-  pub not-above : shift ≤ℤ (highest way +ℤ pos 1)
 
 -- a theme of m notes fits from column j on, in n columns
 pub record Fits (n m j : ℕ) : Type 0 where

@@ -1,21 +1,17 @@
 // The two walks of a page: plain, along every start, and quick, along the starts at candidates.
 
-use crate::signs::code_of;
+use crate::ring::RING;
 use crate::walk::walk;
+use crate::walked::Walked;
 use asking::Bookmark;
 use asking::Way;
 use asking::check_plain;
 use asking::check_quick;
+use asking::code_of;
 use filter::fill_table;
 use score::Refusal;
 use score::Verdict;
 ghost use Rattle.walking.specs.Found.{PlainWalks, QuickWalks};
-
-// How far a walk has come: the pairs found, and the looks.
-pub struct Walked {
-    pub found: usize,
-    pub looks: u32,
-}
 
 // What a walk comes to: how far it came, or why it is turned away.
 pub enum Walk {
@@ -50,7 +46,7 @@ pub fn walk_plain(
     let code = code_of(way, bookmark.shift);
     let none = [0u16; 1];
     let blank = [0u32; 1];
-    let mut ring = [0u64; 96];
+    let mut ring = [0u64; RING];
     Walk::Done(walk(
         true,
         cells,
@@ -96,7 +92,7 @@ pub fn walk_quick(
         return Walk::Refused(e);
     }
     let code = code_of(way, bookmark.shift);
-    let mut ring = [0u64; 96];
+    let mut ring = [0u64; RING];
     fill_table(theme, table);
     Walk::Done(walk(
         false,

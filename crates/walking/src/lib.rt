@@ -1,18 +1,20 @@
 // From a bookmark to the hits that fill a page.
 //
-// `signs` turns shifts into codes. `starts` are the places whose first note is present, and what is looked at from
-// there; `masks` are columns as words of bits, by which `alive` tries all starts of a column at once; a `walk` goes from column
-// to column, and the `register` leads it to the next candidate. The `calls` check what is asked and walk.
+// `walked` is how far a walk has come. `starts` are the places whose first note is present, and what is looked at from there.
+// The starts of a `column` are tried one by one; the `ring` keeps columns as words of bits, by which `alive` tries all of them
+// at once. The `register` finds the next candidate, a `walk` goes from column to column, and the `calls` check what is asked
+// and walk.
 
 mod alive;
 pub mod calls;
-mod masks;
+mod column;
 mod register;
-mod signs;
+mod ring;
 mod starts;
 mod walk;
+pub mod walked;
 
 pub use calls::Walk;
-pub use calls::Walked;
 pub use calls::walk_plain;
 pub use calls::walk_quick;
+pub use walked::Walked;

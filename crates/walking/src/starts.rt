@@ -1,7 +1,7 @@
 // Starts: the places whose first note is present, and what is looked at from there. A column is the h cells from `base`.
 
-use crate::signs::span_of;
 use asking::Way;
+use asking::span_of;
 use score::Column;
 use score::Pitch;
 ghost use mathlib.Core.Path.{_≡_};

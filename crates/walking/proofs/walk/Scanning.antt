@@ -22,7 +22,7 @@ use Rattle.walking.specs.Candidates.{quickStarts}
 use Rattle.walking.specs.Walk.{Ready, Lent, LentFor, BeginsAt, columnStarts, Tries, Walks, reached}
 use Rattle.walking.proofs.Order.{starts-rising}
 use Rattle.walking.proofs.register.Laws.{regFrom-candidate}
-use Rattle.walking.proofs.walk.Column.{tries-all}
+use Rattle.walking.proofs.column.Filling.{tries-all}
 use Rattle.walking.proofs.walk.Along.{from-hits, hits-all, keptFrom}
 use Rattle.walking.proofs.walk.Walking.{Walking, codeAfter, walk-bound, walk-turn, walk-skip, walk-end}
 

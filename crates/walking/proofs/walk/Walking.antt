@@ -22,7 +22,7 @@ use Rattle.walking.specs.Starts.{Place, key, starts, hit, looks}
 use Rattle.walking.specs.Found.{columnsOf, shiftsOf}
 use Rattle.walking.specs.Walk.{Ready, Fits, columnStarts, Tries, Walks}
 use Rattle.walking.proofs.LookBound.{most-lt, sum-looks-le}
-use Rattle.walking.proofs.walk.Column.{tries-none, tries-long, tries-long-shifts}
+use Rattle.walking.proofs.column.Filling.{tries-none, tries-long, tries-long-shifts}
 use Rattle.walking.proofs.walk.Along.{keptFrom, kept-more, kept-end}
 
 pub record Walking (keep : ℕ → Bool) (way : Way) (cells : List ℕ) (h : ℕ) (theme : List ℕ) (j₀ x₀ : ℕ) (columns₀ : List ℕ) (shifts₀ : List ℤ)

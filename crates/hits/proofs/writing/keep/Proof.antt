@@ -5,6 +5,7 @@ use native.Mathlib.Omega.{arith}
 use borrow.Author.Tests.{not-true, not-false}
 use mir.Syntax.{w16}
 use mir.Facts.{toZ-ofZ}
+use Rattle.asking.proofs.Coding.{shift-given}
 use Rattle.hits.proofs.writing.Keeping.{keep-miss, keep-high, keep-columns, keep-shifts, keep-hit}
 use Rattle.hits.proofs.writing.keep.Statement.{statement}
 use Rattle.hits.proofs.writing.keep.Tie as tie
@@ -28,7 +29,7 @@ slice-write-columns : tie.Need-slice-write-columns
 slice-write-columns c = search needs
 
 shift-of-requires : tie.Need-shift-of-requires
-shift-of-requires c κs = search needs
+shift-of-requires c κs = tt
 
 mul-t9 : tie.Need-mul-t9
 mul-t9 c = search needs
@@ -49,7 +50,7 @@ returns-5 : tie.Need-returns-5
 returns-5 c =
     let e = c .before .before .before .before in
     let s = e .before .before .args in
-    keep-hit _ _ _ _ _ (s .code) (s .hit) _ (toZ-ofZ {w = w16} (record { sfits = c .shift-of .ok }) ∙ c .shift-of .ensures) (not-false (s .hit) (e .if1 .left)) (c .before .before .before .if2 .left)
+    keep-hit _ _ _ _ _ (s .code) (s .hit) _ (toZ-ofZ {w = w16} (record { sfits = c .shift-of .ok }) ∙ c .shift-of .ensures ∙ shift-given (s .way) (s .code) (c .before .before .before .if2 .left)) (not-false (s .hit) (e .if1 .left)) (c .before .before .before .if2 .left)
     (c .before .before .if3 .left) (c .before .if4 .left)
 
 pub keep-spec : {M : Type 1} → statement M

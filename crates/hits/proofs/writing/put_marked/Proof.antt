@@ -8,6 +8,7 @@ use lib.Count.{ones}
 use lib.ListN.{length}
 use mir.Syntax.{w16}
 use mir.Facts.{toZ-ofZ}
+use Rattle.asking.proofs.Coding.{shift-given}
 use Rattle.hits.proofs.writing.Putting.{Putting, put-start, put-end, put-room, put-within, put-there, put-less, put-turn}
 use Rattle.hits.proofs.writing.put_marked.Statement.{statement}
 use Rattle.hits.proofs.writing.put_marked.Tie as tie
@@ -42,7 +43,7 @@ add-shift-of : tie.Need-add-shift-of Inv-loop μ-loop
 add-shift-of c = omega (arith, put-within _ _ _ _ _ _ _ _ _ _ _ (c .before .loop .inv) (c .loop-test .taken), c .before .before .before .pre .2)
 
 shift-of-requires : tie.Need-shift-of-requires Inv-loop μ-loop
-shift-of-requires c κs = omega (arith, put-within _ _ _ _ _ _ _ _ _ _ _ (c .before .loop .inv) (c .loop-test .taken), c .before .before .before .pre .2)
+shift-of-requires c κs = tt
 
 mul-t12 : tie.Need-mul-t12 Inv-loop μ-loop
 mul-t12 c =
@@ -77,7 +78,11 @@ loop-less : tie.Need-loop-less Inv-loop μ-loop
 loop-less c = omega (arith, put-less _ _ _ _ _ _ _ _ _ _ _ (c .before .before .loop .inv) (c .before .loop-test .taken))
 
 loop-again : tie.Need-loop-again Inv-loop μ-loop
-loop-again c = put-turn _ _ _ _ _ _ _ _ _ _ _ (c .before .before .loop .inv) (c .before .loop-test .taken) _ (toZ-ofZ {w = w16} (record { sfits = c .shift-of .ok }) ∙ c .shift-of .ensures)
+loop-again c =
+    let l = c .before .before in
+    let z = toZ-ofZ {w = w16} (record { sfits = c .shift-of .ok }) ∙ c .shift-of .ensures in
+    let q = put-within _ _ _ _ _ _ _ _ _ _ _ (l .loop .inv) (c .before .loop-test .taken) in
+    put-turn _ _ _ _ _ _ _ _ _ _ _ (l .loop .inv) (c .before .loop-test .taken) _ (z ∙ shift-given (l .before .before .args .way) _ (omega (arith, q, l .before .before .pre .2)))
 
 same-length : tie.Need-same-length Inv-loop μ-loop
 same-length c = c .before .loop .inv .long

@@ -6,9 +6,11 @@ use mir.Syntax.{w16}
 use mir.Val.{toZ, ofZ}
 use mir.Facts.{toZ-ofZ}
 use Rattle.asking.specs.Way.{codeOf}
+use Rattle.asking.specs.Codes.{codeGiven}
+use Rattle.asking.proofs.Coding.{code-given}
 use Rattle.asking.proofs.Rows.{plain-clear}
 use Rattle.walking.proofs.Answers.{accepted-ready, finds-away, finds-done, plain-asks, plain-begins}
-use Rattle.walking.proofs.masks.Laws.{cached-none}
+use Rattle.walking.proofs.ring.Laws.{cached-none}
 use Rattle.walking.proofs.calls.walk_plain.Statement.{statement}
 use Rattle.walking.proofs.calls.walk_plain.Tie as tie
 
@@ -29,11 +31,7 @@ read : (c : tie.After-struct-told) → let z = c .before .before .before .before
 read c = toZ-ofZ {w = w16} (record { sfits = c .struct-told .given .1 .0 .1 })
 
 code-of-requires : tie.Need-code-of-requires
-code-of-requires c κs =
-    let e = c .before in
-    let a = e .before .before .before .before .before .before .args in
-    let q = plain-asks (a .cells .now) (a .tracks) (a .theme .now) (a .way) (a .bookmark) (a .columns .now) (a .shifts .now) (e .before .before .check-plain .ensures) (e .enum-told .given .1) in
-    rw (read c) (record { not-below = q .marked .not-below; not-above = q .marked .not-above })
+code-of-requires c κs = tt
 
 slice-aggregate-walk : tie.Need-slice-aggregate-walk
 slice-aggregate-walk c = search needs
@@ -49,7 +47,7 @@ walk-requires c κs =
     let e = c .before .before .before .before .before .before .before in
     let a = e .before .before .before .before .before .before .args in
     let q = plain-asks (a .cells .now) (a .tracks) (a .theme .now) (a .way) (a .bookmark) (a .columns .now) (a .shifts .now) (e .before .before .check-plain .ensures) (e .enum-told .given .1) in
-    let k : c .before .before .before .before .before .code-of .result ≡ codeOf (a .way) (a .bookmark .shift) = c .before .before .before .before .before .code-of .ensures ∙ ap (codeOf (a .way)) (read (c .before .before .before .before .before .before)) in
+    let k : c .before .before .before .before .before .code-of .result ≡ codeOf (a .way) (a .bookmark .shift) = c .before .before .before .before .before .code-of .ensures ∙ ap (codeGiven (a .way)) (read (c .before .before .before .before .before .before)) ∙ code-given (a .way) (a .bookmark .shift) (q .marked .not-below) (q .marked .not-above) in
     (accepted-ready (q .accepted), (tt, (plain-begins _ _ _ _ _ _ _ q _ k, cached-none (a .way) (a .cells .now) (a .tracks))))
 
 same-length : tie.Need-same-length
@@ -63,7 +61,7 @@ returns-2 c =
     let e = c .before .before .before .before .before .before .before .before .before .before .before .before in
     let a = e .before .before .before .before .before .before .args in
     let q = plain-asks (a .cells .now) (a .tracks) (a .theme .now) (a .way) (a .bookmark) (a .columns .now) (a .shifts .now) (e .before .before .check-plain .ensures) (e .enum-told .given .1) in
-    let k : c .before .before .before .before .before .before .before .before .before .before .code-of .result ≡ codeOf (a .way) (a .bookmark .shift) = c .before .before .before .before .before .before .before .before .before .before .code-of .ensures ∙ ap (codeOf (a .way)) (read (c .before .before .before .before .before .before .before .before .before .before .before)) in
+    let k : c .before .before .before .before .before .before .before .before .before .before .code-of .result ≡ codeOf (a .way) (a .bookmark .shift) = c .before .before .before .before .before .before .before .before .before .before .code-of .ensures ∙ ap (codeGiven (a .way)) (read (c .before .before .before .before .before .before .before .before .before .before .before)) ∙ code-given (a .way) (a .bookmark .shift) (q .marked .not-below) (q .marked .not-above) in
     finds-done _ _ _ _ _ _ _ _ (plain-clear _ _ _ _ _ _ _ .0 q) (rw k at (c .before .before .before .before .walk .ensures))
 
 pub walk-plain-spec : {M : Type 1} → statement M

@@ -8,11 +8,13 @@ use mir.Syntax.{w16}
 use mir.Val.{toZ, ofZ}
 use mir.Facts.{toZ-ofZ}
 use Rattle.asking.specs.Way.{codeOf}
+use Rattle.asking.specs.Codes.{codeGiven}
+use Rattle.asking.proofs.Coding.{code-given}
 use Rattle.asking.proofs.Rows.{quick-clear}
 use Rattle.filter.specs.Table.{wordBits}
 use Rattle.filter.proofs.Words.{table-length, after-filled}
 use Rattle.walking.proofs.Answers.{accepted-ready, accepted-lent, finds-away, finds-done, plain-begins, quick-asks, table-kept, table-filled}
-use Rattle.walking.proofs.masks.Laws.{cached-none}
+use Rattle.walking.proofs.ring.Laws.{cached-none}
 use Rattle.walking.proofs.calls.walk_quick.Statement.{statement}
 use Rattle.walking.proofs.calls.walk_quick.Tie as tie
 
@@ -39,11 +41,7 @@ read : (c : tie.After-struct-told) → let z = c .before .before .before .before
 read c = toZ-ofZ {w = w16} (record { sfits = c .struct-told .given .1 .0 .1 })
 
 code-of-requires : tie.Need-code-of-requires
-code-of-requires c κs =
-    let e = c .before in
-    let a = e .before .before .before .before .before .before .before .before .args in
-    let q = quick-asks (a .cells .now) (a .tracks) (a .theme .now) (a .way) (a .bookmark) (a .sets .now) (a .table .now) (a .columns .now) (a .shifts .now) (e .before .before .check-quick .ensures) (e .enum-told .given .1) in
-    rw (read c) (record { not-below = q .plain .marked .not-below; not-above = q .plain .marked .not-above })
+code-of-requires c κs = tt
 
 fill-table-requires : tie.Need-fill-table-requires
 fill-table-requires c κs = search needs
@@ -56,7 +54,7 @@ walk-requires c κs =
     let e = c .before .before .before .before .before .before .before .before .before .before in
     let a = e .before .before .before .before .before .before .before .before .args in
     let q = quick-asks (a .cells .now) (a .tracks) (a .theme .now) (a .way) (a .bookmark) (a .sets .now) (a .table .now) (a .columns .now) (a .shifts .now) (e .before .before .check-quick .ensures) (e .enum-told .given .1) in
-    let k : c .before .before .before .before .before .before .before .before .code-of .result ≡ codeOf (a .way) (a .bookmark .shift) = c .before .before .before .before .before .before .before .before .code-of .ensures ∙ ap (codeOf (a .way)) (read (c .before .before .before .before .before .before .before .before .before)) in
+    let k : c .before .before .before .before .before .before .before .before .code-of .result ≡ codeOf (a .way) (a .bookmark .shift) = c .before .before .before .before .before .before .before .before .code-of .ensures ∙ ap (codeGiven (a .way)) (read (c .before .before .before .before .before .before .before .before .before)) ∙ code-given (a .way) (a .bookmark .shift) (q .plain .marked .not-below) (q .plain .marked .not-above) in
     let f = c .before .before .before .before .before .before .fill-table .ensures ∙ after-filled wordBits (a .theme .now) (a .table .now) (λ z. omega (arith, q .plain .accepted .notes-some)) (q .table-long) in
     (accepted-ready (q .plain .accepted), (accepted-lent (q .with-sets) (ap length f ∙ table-length wordBits (a .theme .now)), (plain-begins _ _ _ _ _ _ _ (q .plain) _ k, cached-none (a .way) (a .cells .now) (a .tracks))))
 
@@ -74,7 +72,7 @@ returns-2 c =
     let e = c .before .before .before .before .before .before .before .before .before .before .before .before .before .before .before in
     let a = e .before .before .before .before .before .before .before .before .args in
     let q = quick-asks (a .cells .now) (a .tracks) (a .theme .now) (a .way) (a .bookmark) (a .sets .now) (a .table .now) (a .columns .now) (a .shifts .now) (e .before .before .check-quick .ensures) (e .enum-told .given .1) in
-    let k : c .before .before .before .before .before .before .before .before .before .before .before .before .before .code-of .result ≡ codeOf (a .way) (a .bookmark .shift) = c .before .before .before .before .before .before .before .before .before .before .before .before .before .code-of .ensures ∙ ap (codeOf (a .way)) (read (c .before .before .before .before .before .before .before .before .before .before .before .before .before .before)) in
+    let k : c .before .before .before .before .before .before .before .before .before .before .before .before .before .code-of .result ≡ codeOf (a .way) (a .bookmark .shift) = c .before .before .before .before .before .before .before .before .before .before .before .before .before .code-of .ensures ∙ ap (codeGiven (a .way)) (read (c .before .before .before .before .before .before .before .before .before .before .before .before .before .before)) ∙ code-given (a .way) (a .bookmark .shift) (q .plain .marked .not-below) (q .plain .marked .not-above) in
     let f = c .before .before .before .before .before .before .before .before .before .before .before .fill-table .ensures ∙ after-filled wordBits (a .theme .now) (a .table .now) (λ z. omega (arith, q .plain .accepted .notes-some)) (q .table-long) in
     let z = quick-clear (a .cells .now) (a .tracks) (a .theme .now) (a .way) (a .bookmark) (a .sets .now) (a .table .now) (a .columns .now) (a .shifts .now) .0 q in
     record {

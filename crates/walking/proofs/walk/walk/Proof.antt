@@ -11,7 +11,7 @@ use Rattle.score.specs.Score.{columnsIn}
 use Rattle.walking.specs.Alive.{Cached}
 use Rattle.walking.specs.Scan.{keepOf}
 use Rattle.walking.specs.Walk.{LentFor}
-use Rattle.walking.proofs.walk.Column.{tries-long, tries-long-shifts}
+use Rattle.walking.proofs.column.Filling.{tries-long, tries-long-shifts}
 use Rattle.walking.proofs.walk.Walking.{code-further, code-same, walk-start, walk-end, walk-full}
 use Rattle.walking.proofs.walk.Scanning.{Scanning, kept-reached, begins-at, scan-none, scan-stands, scan-bound, scan-turn}
 use Rattle.walking.proofs.walk.walk.Statement.{statement}

@@ -1,0 +1,50 @@
+-- What `code_of` and `shift_of` give where it matters: of a shift that a bookmark may have its code, of a code up to 255 its shift.
+-- Assumes nothing.
+use mathlib.Core.Path.{_≡_, refl, sym, ap, _∙_}
+use mathlib.Core.Bool.{false}
+use mathlib.Core.Logic.{_↔_}
+use Prim.Native.Nat.{ℕ, _≤_}
+use native.Mathlib.Nat.{add-zero}
+use native.Mathlib.Omega.{arith}
+use lib.IntN.{ℤ, pos, _+ℤ_, _-ℤ_, +ℤ-idr}
+use lib.Signed.{ltZ, _≤ℤ_, pos-natAbs, yes-nonNeg}
+use borrow.Author.Tests.{le-leb}
+use mir.Syntax.{w16}
+use mir.Val.{SFits}
+use Rattle.theory.proofs.Signed.{raised, mag-sub}
+use Rattle.asking.specs.declared.way.Way.{Way}
+use Rattle.asking.specs.declared.way.Way.the-variants.{Exact, Octave}
+use Rattle.asking.specs.Way.{lowest, highest, span, shiftOf, codeOf}
+use Rattle.asking.specs.Codes.{outOfRange, codeGiven, shiftGiven}
+use Rattle.asking.proofs.Rows.{neither, not-overZ}
+
+-- a shift that a bookmark may have
+pub in-range : (way : Way) (shift : ℤ) → (outOfRange way shift ≡ false) ↔ ((lowest way ≤ℤ shift) × (shift ≤ℤ (highest way +ℤ pos 1)))
+in-range way shift =
+    neither (ltZ shift (lowest way)) (ltZ (highest way +ℤ pos 1) shift) (not-overZ shift (lowest way)) (not-overZ (highest way +ℤ pos 1) shift)
+
+pub code-given : (way : Way) (shift : ℤ) → lowest way ≤ℤ shift → shift ≤ℤ (highest way +ℤ pos 1) → codeGiven way shift ≡ codeOf way shift
+code-given way shift low high = rw (in-range way shift .1 (low, high))
+
+pub shift-given : (way : Way) (code : ℕ) → code ≤ 255 → shiftGiven way code ≡ shiftOf way code
+shift-given way code small = rw (le-leb code 255 small)
+
+-- ---- how they are computed
+
+-- a shift counted from the lowest is its code
+pub counted : (way : Way) (shift : ℤ) → lowest way ≤ℤ shift → shift -ℤ lowest way ≡ pos (codeOf way shift)
+counted Exact shift low = sym (pos-natAbs (shift +ℤ pos 127) (raised 126 shift low))
+counted Octave shift low = +ℤ-idr shift ∙ sym (pos-natAbs shift (yes-nonNeg low))
+
+-- and a code counted from the lowest is its shift
+pub recounted : (way : Way) (code : ℕ) → pos code +ℤ lowest way ≡ shiftOf way code
+recounted Exact code = refl
+recounted Octave code = ap pos (add-zero code)
+
+pub shift-fits : (way : Way) (code : ℕ) → code ≤ 255 → SFits w16 (shiftOf way code)
+shift-fits Exact code small = record { sfits = mag-sub code 127 32768 (omega arith) (omega arith) }
+shift-fits Octave code small = record { sfits = omega arith }
+
+pub span-le : (way : Way) → span way ≤ 255
+span-le Exact = omega arith
+span-le Octave = omega arith

@@ -1,0 +1,2 @@
+-- Laws of one column's starts, tried one by one.
+pub mod Filling
