@@ -3,16 +3,56 @@
 use crate::buffers::Cells;
 use crate::buffers::Sets;
 use crate::buffers::Theme;
-use second::away::Ask;
+use second::asks::Ask;
 use second::totals::less_one;
 use second::totals::product;
 use second::totals::put_byte;
 use second::totals::put_set;
 use second::totals::size16;
 
+// What can be changed. Where it is the tracks, there are three columns of them; where it is the columns, their sets change with them.
+pub enum What {
+    Nothing,
+    Tracks,
+    Columns,
+    Cells,
+    Cell,
+    Notes,
+    Note,
+    Sets,
+    Set,
+    Table,
+    Room,
+    ColumnRoom,
+    ShiftRoom,
+    Column,
+    Shift,
+}
+
+// What is changed, by its number in a table of changes.
+pub fn what_of(number: u16) -> What {
+    match number {
+        1 => What::Tracks,
+        2 => What::Columns,
+        3 => What::Cells,
+        4 => What::Cell,
+        5 => What::Notes,
+        6 => What::Note,
+        7 => What::Sets,
+        8 => What::Set,
+        9 => What::Table,
+        10 => What::Room,
+        11 => What::ColumnRoom,
+        12 => What::ShiftRoom,
+        13 => What::Column,
+        14 => What::Shift,
+        _ => What::Nothing,
+    }
+}
+
 // What is changed, at which place, and the number that it gets.
 pub struct Change {
-    pub what: u16,
+    pub what: What,
     pub place: usize,
     pub value: u16,
 }
@@ -20,40 +60,11 @@ pub struct Change {
 // No change.
 pub fn none() -> Change {
     Change {
-        what: 0,
+        what: What::Nothing,
         place: 0,
         value: 0,
     }
 }
-
-// What can be changed. Where it is the tracks, there are three columns of them; where it is the columns, their sets change with them.
-pub const TRACKS: u16 = 1;
-
-pub const COLUMNS: u16 = 2;
-
-pub const CELLS: u16 = 3;
-
-pub const CELL: u16 = 4;
-
-pub const NOTES: u16 = 5;
-
-pub const NOTE: u16 = 6;
-
-pub const SETS: u16 = 7;
-
-pub const SET: u16 = 8;
-
-pub const TABLE: u16 = 9;
-
-pub const ROOM: u16 = 10;
-
-pub const COLUMN_ROOM: u16 = 11;
-
-pub const SHIFT_ROOM: u16 = 12;
-
-pub const COLUMN: u16 = 13;
-
-pub const SHIFT: u16 = 14;
 
 // A shift at the end of a range, by its number.
 pub fn end_shift(k: u16) -> i16 {
@@ -77,28 +88,28 @@ fn low(x: u16) -> u8 {
 }
 
 // The sizes of the score, changed.
-fn sized(a: Ask, what: u16, x: usize) -> Ask {
+fn sized(a: Ask, what: What, x: usize) -> Ask {
     let mut b = a;
     match what {
-        TRACKS => {
+        What::Tracks => {
             b.h = x;
             b.cells = product(x, 3);
             b.sets = 2;
         }
-        COLUMNS => {
+        What::Columns => {
             b.cells = product(x, 2);
             b.sets = less_one(x);
         }
-        CELLS => {
+        What::Cells => {
             b.cells = x;
         }
-        NOTES => {
+        What::Notes => {
             b.notes = x;
         }
-        SETS => {
+        What::Sets => {
             b.sets = x;
         }
-        TABLE => {
+        What::Table => {
             b.table = x;
         }
         _ => {}
@@ -107,23 +118,23 @@ fn sized(a: Ask, what: u16, x: usize) -> Ask {
 }
 
 // The room and the bookmark, changed.
-fn turned_to(a: Ask, what: u16, x: usize, value: u16) -> Ask {
+fn turned_to(a: Ask, what: What, x: usize, value: u16) -> Ask {
     let mut b = a;
     match what {
-        ROOM => {
+        What::Room => {
             b.columns = x;
             b.shifts = x;
         }
-        COLUMN_ROOM => {
+        What::ColumnRoom => {
             b.columns = x;
         }
-        SHIFT_ROOM => {
+        What::ShiftRoom => {
             b.shifts = x;
         }
-        COLUMN => {
+        What::Column => {
             b.column = value;
         }
-        SHIFT => {
+        What::Shift => {
             b.shift = end_shift(value);
         }
         _ => {}
@@ -133,8 +144,9 @@ fn turned_to(a: Ask, what: u16, x: usize, value: u16) -> Ask {
 
 // What is asked after a change.
 pub fn changed(a: Ask, c: Change) -> Ask {
+    let what = c.what;
     let x = size16(c.value);
-    turned_to(sized(a, c.what, x), c.what, x, c.value)
+    turned_to(sized(a, what, x), what, x, c.value)
 }
 
 // The same at another bookmark.
@@ -147,35 +159,35 @@ pub fn at(a: Ask, column: u16, shift: i16) -> Ask {
 
 // The score and the theme after a change.
 pub fn change_bytes(cells: &mut Cells, theme: &mut Theme, c: Change) {
-    if c.what == CELL {
-        put_byte(cells, c.place, low(c.value));
-        return;
-    }
-    if c.what == NOTE {
-        put_byte(theme, c.place, low(c.value));
+    let what = c.what;
+    match what {
+        What::Cell => put_byte(cells, c.place, low(c.value)),
+        What::Note => put_byte(theme, c.place, low(c.value)),
+        _ => {}
     }
 }
 
 // The sets after a change.
 pub fn change_sets(sets: &mut Sets, c: Change) {
-    if c.what == SET {
+    let what = c.what;
+    if let What::Set = what {
         put_set(sets, c.place, c.value);
     }
 }
 
 // Whether it has a p-th place: a cell, a note and a set have a first, a middle and a last one, all else one.
-pub fn placed(what: u16, p: u8) -> bool {
+pub fn placed(what: What, p: u8) -> bool {
     if p == 0 {
         return true;
     }
     match what {
-        CELL | NOTE | SET => true,
+        What::Cell | What::Note | What::Set => true,
         _ => false,
     }
 }
 
 // The p-th place, of ten cells, three notes and four sets.
-pub fn place_of(what: u16, p: u8) -> usize {
+pub fn place_of(what: What, p: u8) -> usize {
     if p == 0 {
         return 0;
     }
@@ -183,18 +195,18 @@ pub fn place_of(what: u16, p: u8) -> usize {
         return middle_of(what);
     }
     match what {
-        CELL => 9,
-        NOTE => 2,
-        SET => 3,
+        What::Cell => 9,
+        What::Note => 2,
+        What::Set => 3,
         _ => 0,
     }
 }
 
-fn middle_of(what: u16) -> usize {
+fn middle_of(what: What) -> usize {
     match what {
-        CELL => 5,
-        NOTE => 1,
-        SET => 2,
+        What::Cell => 5,
+        What::Note => 1,
+        What::Set => 2,
         _ => 0,
     }
 }

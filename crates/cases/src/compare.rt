@@ -4,10 +4,8 @@ use crate::answers::Got;
 use crate::marks::sets_kept;
 use crate::marks::shifts_kept;
 use crate::marks::words_kept;
-use second::away::Ask;
-use second::away::PREPARE;
-use second::away::QUICK;
-use second::away::columns_of;
+use second::asks::Ask;
+use second::asks::Call;
 use second::away::refusal;
 use second::finder::Found;
 use second::finder::next_pair;
@@ -20,79 +18,62 @@ use second::totals::shift;
 use second::totals::size16;
 use second::totals::size32;
 
-// What was seen of a call: its answer, and what differs, 0 for nothing.
+// What differs.
+pub enum Fault {
+    Nothing,
+    Refusal,
+    Pair,
+    Written,
+    Next,
+    Finished,
+    Looks,
+    Untouched,
+    Sets,
+    Table,
+    Pages,
+    Beside,
+}
+
+pub fn differs(fault: Fault) -> bool {
+    if let Fault::Nothing = fault {
+        false
+    } else {
+        true
+    }
+}
+
+// What was seen of a call: its answer, and what differs.
 pub struct Seen {
-    pub call: u8,
-    pub fault: u8,
+    pub call: Call,
+    pub fault: Fault,
     pub got: Got,
 }
 
-// What can differ.
-pub const REFUSAL: u8 = 1;
-
-pub const PAIR: u8 = 2;
-
-pub const WRITTEN: u8 = 3;
-
-pub const NEXT: u8 = 4;
-
-pub const FINISHED: u8 = 5;
-
-pub const LOOKS: u8 = 6;
-
-pub const UNTOUCHED: u8 = 7;
-
-pub const SETS: u8 = 8;
-
-pub const TABLE: u8 = 9;
-
-pub const PAGES: u8 = 10;
-
-pub const BESIDE: u8 = 11;
-
 // The answer of an accepted page, beside what it should be.
-fn turn_fault(got: Got, written: usize, column: usize, c: i16, finished: bool, looks: usize) -> u8 {
-    if got.written != written {
-        return WRITTEN;
-    }
-    if size16(got.column) != column {
-        return NEXT;
-    }
-    if got.shift != c {
-        return NEXT;
-    }
-    if got.finished != finished {
-        return FINISHED;
-    }
-    if size32(got.looks) != looks {
-        return LOOKS;
-    }
-    0
-}
-
-// The second finder's next pair at or after a place.
-fn next_of(
-    cells: &[u8],
-    theme: &[u8],
-    sets: &[u16],
-    a: Ask,
-    quick: bool,
+fn turn_fault(
+    got: Got,
+    written: usize,
     column: usize,
     c: i16,
-) -> Found {
-    let n = columns_of(a.cells, a.h);
-    next_pair(
-        cells,
-        a.h,
-        n,
-        theme,
-        a.notes,
-        sets,
-        a.octave,
-        quick,
-        column,
-        c,
-    )
+    finished: bool,
+    looks: usize,
+) -> Fault {
+    if got.written != written {
+        return Fault::Written;
+    }
+    if size16(got.column) != column {
+        return Fault::Next;
+    }
+    if got.shift != c {
+        return Fault::Next;
+    }
+    if got.finished != finished {
+        return Fault::Finished;
+    }
+    if size32(got.looks) != looks {
+        return Fault::Looks;
+    }
+    Fault::Nothing
 }
 
 // Whether this pair stands at place k.
@@ -111,20 +92,20 @@ fn follow(
     columns: &[u16],
     shifts: &[i16],
     a: Ask,
-    quick: bool,
+    call: Call,
     got: Got,
-) -> u8 {
+) -> Fault {
     let mut column = size16(a.column);
     let mut c = a.shift;
     let mut looks: usize = 0;
     for k in 0..a.columns {
-        let f = next_of(cells, theme, sets, a, quick, column, c);
+        let f = next_pair(cells, theme, sets, a, call, column, c);
         looks = more(looks, f.looks);
         if !f.hit {
             return turn_fault(got, k, f.column, f.shift, true, looks);
         }
         if !written_at(columns, shifts, k, f) {
-            return PAIR;
+            return Fault::Pair;
         }
         column = f.column;
         c = raised(f.shift);
@@ -133,15 +114,15 @@ fn follow(
 }
 
 // Whether the answer is the refusal that is due, 0 for none.
-fn refusal_fault(cells: &[u8], theme: &[u8], sets: &[u16], a: Ask, call: u8, got: Got) -> u8 {
+fn refusal_fault(cells: &[u8], theme: &[u8], sets: &[u16], a: Ask, call: Call, got: Got) -> Fault {
     let due = refusal(cells, theme, sets, a, call);
     if due.number != got.number {
-        return REFUSAL;
+        return Fault::Refusal;
     }
     if due.place != got.place {
-        return REFUSAL;
+        return Fault::Refusal;
     }
-    0
+    Fault::Nothing
 }
 
 // A page beside the second finder's. A refused one leaves both buffers as they were, an accepted one what lies behind the pairs.
@@ -152,51 +133,51 @@ pub fn page_fault(
     columns: &[u16],
     shifts: &[i16],
     a: Ask,
-    call: u8,
+    call: Call,
     got: Got,
-) -> u8 {
+) -> Fault {
     let refused = refusal_fault(cells, theme, sets, a, call, got);
-    if refused != 0 {
+    if differs(refused) {
         return refused;
     }
     if got.number == 0 {
-        let fault = follow(cells, theme, sets, columns, shifts, a, call == QUICK, got);
-        if fault != 0 {
+        let fault = follow(cells, theme, sets, columns, shifts, a, call, got);
+        if differs(fault) {
             return fault;
         }
     }
     if !sets_kept(columns, got.written, more(a.columns, 1)) {
-        return UNTOUCHED;
+        return Fault::Untouched;
     }
     if !shifts_kept(shifts, got.written, more(a.shifts, 1)) {
-        return UNTOUCHED;
+        return Fault::Untouched;
     }
-    0
+    Fault::Nothing
 }
 
 // The theme's table after a quick page: all of it, or some entries; as it was after a refusal, and always behind its end.
-fn table_fault(theme: &[u8], table: &[u32], a: Ask, deep: bool, got: Got) -> u8 {
+fn table_fault(theme: &[u8], table: &[u32], a: Ask, deep: bool, got: Got) -> Fault {
     if !words_kept(table, a.table, more(a.table, 1)) {
-        return UNTOUCHED;
+        return Fault::Untouched;
     }
     if got.number != 0 {
         if deep {
             if !words_kept(table, 0, a.table) {
-                return UNTOUCHED;
+                return Fault::Untouched;
             }
         }
-        return 0;
+        return Fault::Nothing;
     }
     if deep {
         if !table_right(theme, a.notes, table, 4096, 1) {
-            return TABLE;
+            return Fault::Table;
         }
-        return 0;
+        return Fault::Nothing;
     }
     if !table_right(theme, a.notes, table, 16, 273) {
-        return TABLE;
+        return Fault::Table;
     }
-    0
+    Fault::Nothing
 }
 
 // A quick page: the pairs, and the table.
@@ -210,51 +191,51 @@ pub fn quick_fault(
     a: Ask,
     deep: bool,
     got: Got,
-) -> u8 {
-    let fault = page_fault(cells, theme, sets, columns, shifts, a, QUICK, got);
-    if fault != 0 {
+) -> Fault {
+    let fault = page_fault(cells, theme, sets, columns, shifts, a, Call::Quick, got);
+    if differs(fault) {
         return fault;
     }
     table_fault(theme, table, a, deep, got)
 }
 
 // The sets after a preparation: the score's, or as they were after a refusal; as they were behind their end.
-pub fn sets_fault(cells: &[u8], theme: &[u8], sets: &[u16], a: Ask, got: Got) -> u8 {
-    let refused = refusal_fault(cells, theme, sets, a, PREPARE, got);
-    if refused != 0 {
+pub fn sets_fault(cells: &[u8], theme: &[u8], sets: &[u16], a: Ask, got: Got) -> Fault {
+    let refused = refusal_fault(cells, theme, sets, a, Call::Prepare, got);
+    if differs(refused) {
         return refused;
     }
     if !sets_kept(sets, a.sets, more(a.sets, 1)) {
-        return UNTOUCHED;
+        return Fault::Untouched;
     }
     if got.number != 0 {
         if !sets_kept(sets, 0, a.sets) {
-            return UNTOUCHED;
+            return Fault::Untouched;
         }
-        return 0;
+        return Fault::Nothing;
     }
     if !sets_right(cells, a.h, sets, a.sets) {
-        return SETS;
+        return Fault::Sets;
     }
-    0
+    Fault::Nothing
 }
 
 // What differs between a plain and a quick page from the same bookmark and room, by the score's own sets.
-pub fn beside_fault(p: Got, q: Got) -> u8 {
+pub fn beside_fault(p: Got, q: Got) -> Fault {
     if p.written != q.written {
-        return BESIDE;
+        return Fault::Beside;
     }
     if p.column != q.column {
-        return BESIDE;
+        return Fault::Beside;
     }
     if p.shift != q.shift {
-        return BESIDE;
+        return Fault::Beside;
     }
     if p.finished != q.finished {
-        return BESIDE;
+        return Fault::Beside;
     }
     if p.looks < q.looks {
-        return BESIDE;
+        return Fault::Beside;
     }
-    0
+    Fault::Nothing
 }

@@ -18,7 +18,13 @@ const DUES: usize = 6534;
 
 const WORLDS: usize = 324996;
 
-pub const JOBS: usize = 344666;
+const ROUNDS: usize = 12000;
+
+const JOBS: usize = CASES + ENDS + DUES + WORLDS + ROUNDS;
+
+pub fn jobs() -> usize {
+    JOBS
+}
 
 // The worked cases, the ends of the ranges, the refusals that are due, the small world, and pseudo-random scores.
 pub fn job(k: usize) -> Job {

@@ -2,22 +2,24 @@
 
 use crate::changes::at;
 use crate::changes::none;
+use crate::jobs::Head;
 use crate::jobs::Job;
-use crate::jobs::QUIET;
-use crate::jobs::RANDOM;
-use crate::worlds::ask_of;
-use crate::worlds::room_of;
-use second::away::Ask;
-use second::away::BOTH;
-use second::away::PREPARE;
-use second::away::QUICK;
-use second::away::columns_of;
+use crate::jobs::Source;
+use crate::shapes::ask_of;
+use crate::shapes::room_of;
+use crate::shapes::way_of;
+use second::asks::Ask;
+use second::asks::Call;
+use second::asks::columns_of;
 use second::totals::byte;
 use second::totals::more;
 use second::totals::place;
 use second::totals::product;
 use second::totals::put_byte;
-use second::totals::shift_at;
+use second::totals::size;
+use second::ways::Way;
+use second::ways::shift_at;
+use second::ways::span;
 
 // The next state of the generator.
 fn step(x: u64) -> u64 {
@@ -192,34 +194,34 @@ fn notes_in(round: usize) -> usize {
 }
 
 // The shape of a large score.
-fn large(k: usize, octave: bool) -> Ask {
+fn large(k: usize, way: Way) -> Ask {
     match k {
-        0 => ask_of(16, 2048, 32, octave, 4000),
-        1 => ask_of(16, 2048, 2, octave, 4000),
-        2 => ask_of(1, 2048, 2, octave, 7),
-        3 => ask_of(5, 2047, 3, octave, 300),
-        4 => ask_of(16, 31, 32, octave, 3),
-        _ => ask_of(16, 32, 32, octave, 3),
+        0 => ask_of(16, 2048, 32, way, 4000),
+        1 => ask_of(16, 2048, 2, way, 4000),
+        2 => ask_of(1, 2048, 2, way, 7),
+        3 => ask_of(5, 2047, 3, way, 300),
+        4 => ask_of(16, 31, 32, way, 3),
+        _ => ask_of(16, 32, 32, way, 3),
     }
 }
 
 // The shape of a round's score.
-fn shape(round: usize, octave: bool) -> Ask {
+fn shape(round: usize, way: Way) -> Ask {
     ask_of(
         more(draw(round, 1, 16), 1),
         columns_in(round),
         notes_in(round),
-        octave,
+        way,
         room_of(round),
     )
 }
 
 // What is asked in a round: of the largest scores first.
-fn asked(round: usize, octave: bool) -> Ask {
+fn asked(round: usize, way: Way) -> Ask {
     if round < 12 {
-        return large(round % 6, octave);
+        return large(round % 6, way);
     }
-    shape(round, octave)
+    shape(round, way)
 }
 
 // A column of the score, at which the theme has room where it has any.
@@ -240,18 +242,11 @@ fn starts_in(n: usize, m: usize) -> u64 {
 
 // Another bookmark, mostly no pair: any column up to one behind the last, and any shift up to one above the highest.
 fn aside(a: Ask, round: usize) -> Ask {
+    let way = a.way;
     let n = columns_of(a.cells, a.h);
     let column = more(draw(round, 5, more(n, 1) as u64), 1);
-    let s = draw(round, 6, shifts_of(a.octave));
-    at(
-        a,
-        (column % 65536) as u16,
-        shift_at(a.octave, (s % 256) as u8),
-    )
-}
-
-fn shifts_of(octave: bool) -> u64 {
-    if octave { 13 } else { 256 }
+    let s = draw(round, 6, more(size(span(way)), 1) as u64);
+    at(a, (column % 65536) as u16, shift_at(way, (s % 256) as u8))
 }
 
 // Each round: the sets of another score and of this one; lists by the other's sets, lists by its own, and a page from another
@@ -259,10 +254,11 @@ fn shifts_of(octave: bool) -> u64 {
 pub fn random_job(k: usize) -> Job {
     let round = k / 8;
     let what = k % 8;
-    let a = aside_at(asked(round, what % 2 == 1), round, what);
+    let a = aside_at(asked(round, way_of(what)), round, what);
     let c = none();
     Job {
-        source: RANDOM,
+        tried: true,
+        source: Source::Random,
         sets_of: sets_at(round, what),
         score: score_at(round, what),
         theme: round,
@@ -273,7 +269,7 @@ pub fn random_job(k: usize) -> Job {
         whole: whole_at(what),
         deep: round % 8 == 0,
         loud: false,
-        head: QUIET,
+        head: Head::Quiet,
         low: 0,
         high: 0,
     }
@@ -295,11 +291,11 @@ fn score_at(round: usize, what: usize) -> usize {
     if what == 0 { other(round) } else { round }
 }
 
-fn call_at(what: usize) -> u8 {
+fn call_at(what: usize) -> Call {
     match what {
-        0 | 1 => PREPARE,
-        2 | 3 => QUICK,
-        _ => BOTH,
+        0 | 1 => Call::Prepare,
+        2 | 3 => Call::Quick,
+        _ => Call::Both,
     }
 }
 

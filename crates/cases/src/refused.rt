@@ -2,25 +2,23 @@
 // three in turn, on changes to an accepted one.
 
 use crate::changes::Change;
-use crate::changes::SET;
-use crate::changes::at;
+use crate::changes::What;
 use crate::changes::changed;
 use crate::changes::none;
 use crate::changes::place_of;
 use crate::changes::placed;
-use crate::jobs::DUE;
-use crate::jobs::END;
+use crate::changes::what_of;
+use crate::jobs::Head;
 use crate::jobs::Job;
-use crate::jobs::QUIET;
-use crate::jobs::WORKED;
-use crate::worked::case_ask;
-use second::away::Ask;
-use second::away::PREPARE;
-use second::away::QUICK;
-use second::finder::lowest;
+use crate::jobs::Source;
+use crate::shapes::ask_of;
+use crate::shapes::way_of;
+use second::asks::Ask;
+use second::asks::Call;
 use second::totals::more;
 use second::totals::product;
 use second::totals::size16;
+use second::ways::Way;
 
 // The ends of the ranges: what is changed, and four numbers that it gets. A shift goes by its own number.
 const ENDS: [[u16; 5]; 15] = [
@@ -75,7 +73,7 @@ fn fault_item(row: usize, i: usize) -> u16 {
 
 // The k-th end, at its first, middle or last place.
 fn end(k: usize, p: u8) -> Change {
-    let what = end_item(k / 4, 0);
+    let what = what_of(end_item(k / 4, 0));
     Change {
         what,
         place: place_of(what, p),
@@ -90,41 +88,34 @@ fn fault(number: usize, variant: usize) -> Change {
     }
     let at = product(variant, 3);
     Change {
-        what: fault_item(number - 1, at),
+        what: what_of(fault_item(number - 1, at)),
         place: size16(fault_item(number - 1, more(at, 1))),
         value: fault_item(number - 1, more(at, 2)),
     }
 }
 
 // An accepted call: score K, theme 60 62 64, room 4, from the first bookmark.
-fn accepted(octave: bool) -> Ask {
-    let mut a = case_ask(0);
-    a.octave = octave;
-    at(a, 1, lowest(octave))
+fn accepted(way: Way) -> Ask {
+    ask_of(2, 5, 3, way, 4)
 }
 
 // Whether a call gives a refusal: preparation 1, 2, 3, 6; plain 1 to 5, 9, 10; quick 1 to 10. Of 0 none does.
-fn gives(call: u8, number: usize) -> bool {
-    if number == 0 {
-        return false;
+fn gives(call: Call, number: usize) -> bool {
+    match call {
+        Call::Prepare => match number {
+            1 | 2 | 3 | 6 => true,
+            _ => false,
+        },
+        Call::Quick => 0 < number,
+        _ => match number {
+            0 | 6 | 7 | 8 => false,
+            _ => true,
+        },
     }
-    if number < 4 {
-        return true;
-    }
-    if call == PREPARE {
-        return number == 6;
-    }
-    if call == QUICK {
-        return true;
-    }
-    if number < 6 {
-        return true;
-    }
-    8 < number
 }
 
 // The lower of two faults that the call gives, 0 where it gives neither.
-pub fn due(call: u8, low: usize, high: usize) -> usize {
+pub fn due(call: Call, low: usize, high: usize) -> usize {
     if gives(call, low) {
         return low;
     }
@@ -135,10 +126,11 @@ pub fn due(call: u8, low: usize, high: usize) -> usize {
 }
 
 // A call on the accepted one after two changes.
-fn refused_job(octave: bool, c: Change, d: Change, call: u8) -> Job {
-    let a = changed(changed(accepted(octave), c), d);
+fn refused_job(way: Way, c: Change, d: Change, call: Call, head: Head) -> Job {
+    let a = changed(changed(accepted(way), c), d);
     Job {
-        source: WORKED,
+        tried: true,
+        source: Source::Worked,
         sets_of: 0,
         score: 0,
         theme: 0,
@@ -149,47 +141,59 @@ fn refused_job(octave: bool, c: Change, d: Change, call: u8) -> Job {
         whole: false,
         deep: true,
         loud: true,
-        head: QUIET,
+        head,
         low: 0,
         high: 0,
     }
 }
 
 // A head is written before the first of the three calls.
-fn head_at(call: u8, head: u8) -> u8 {
-    if call == PREPARE { head } else { QUIET }
+fn head_at(call: Call, head: Head) -> Head {
+    if let Call::Prepare = call {
+        head
+    } else {
+        Head::Quiet
+    }
 }
 
-fn call_at(k: usize) -> u8 {
-    (k % 3) as u8
+fn call_at(k: usize) -> Call {
+    match k % 3 {
+        0 => Call::Prepare,
+        1 => Call::Plain,
+        _ => Call::Quick,
+    }
 }
 
 // Before a middle and a last place: the highest number that is right, at the first one.
-fn highest(what: u16, p: u8) -> Change {
+fn highest(what: What, p: u8) -> Change {
     if p == 0 {
         return none();
-    }
-    let mut value: u16 = 127;
-    if what == SET {
-        value = 4095;
     }
     Change {
         what,
         place: 0,
-        value,
+        value: highest_of(what),
     }
+}
+
+fn highest_of(what: What) -> u16 {
+    if let What::Set = what { 4095 } else { 127 }
 }
 
 // Both ends of every range, at each place, both ways.
 pub fn end_job(k: usize) -> Job {
     let p = (k / 180 % 3) as u8;
     let c = end(k % 180 / 3, p);
+    let what = c.what;
     let call = call_at(k);
-    let mut j = refused_job(540 <= k, c, highest(c.what, p), call);
-    j.head = head_at(call, END);
-    if !placed(c.what, p) {
-        j.source = 0;
-    }
+    let mut j = refused_job(
+        way_of(k / 540),
+        c,
+        highest(what, p),
+        call,
+        head_at(call, Head::End),
+    );
+    j.tried = placed(what, p);
     j
 }
 
@@ -199,29 +203,34 @@ pub fn due_job(k: usize) -> Job {
     let pair = k % 3267 / 27;
     let variant = k % 27 / 3;
     let call = call_at(k);
-    let mut j = due_of(3267 <= k, pair / 11, pair % 11, variant, call);
-    j.loud = variant == 0;
-    if variant == 0 {
-        j.head = head_at(call, DUE);
-    }
-    j
-}
-
-// The lower is not above the higher; 0 is none, so that each stands alone too.
-fn due_of(octave: bool, low: usize, high: usize, variant: usize, call: u8) -> Job {
+    let low = pair / 11;
+    let high = pair % 11;
     let mut j = refused_job(
-        octave,
+        way_of(k / 3267),
         fault(low, variant / 3),
         fault(high, variant % 3),
         call,
+        due_head(call, variant),
     );
+    j.loud = variant == 0;
     j.low = low;
     j.high = high;
-    if high < low {
-        j.source = 0;
-    }
-    if high == 0 {
-        j.source = 0;
-    }
+    j.tried = ordered(low, high);
     j
+}
+
+fn due_head(call: Call, variant: usize) -> Head {
+    if variant == 0 {
+        head_at(call, Head::Due)
+    } else {
+        Head::Quiet
+    }
+}
+
+// Whether the lower is not above the higher, and there is a higher one; 0 is none, so that each stands alone too.
+fn ordered(low: usize, high: usize) -> bool {
+    if high == 0 {
+        return false;
+    }
+    low <= high
 }

@@ -1,17 +1,14 @@
 // The requirement's worked cases, written out page after page.
 
 use crate::changes::none;
-use crate::jobs::CASE;
+use crate::jobs::Head;
 use crate::jobs::Job;
-use crate::jobs::QUIET;
-use crate::jobs::WORKED;
-use second::away::Ask;
-use second::away::PLAIN;
-use second::away::PREPARE;
-use second::away::QUICK;
-use second::away::columns_of;
-use second::finder::lowest;
-use second::totals::less_one;
+use crate::jobs::Source;
+use crate::shapes::ask_of;
+use crate::shapes::way_of;
+use second::asks::Ask;
+use second::asks::Call;
+use second::asks::columns_of;
 use second::totals::more;
 use second::totals::put_byte;
 use second::totals::size;
@@ -67,24 +64,15 @@ fn item(k: usize, i: usize) -> u8 {
 }
 
 // What a case asks, from its first bookmark.
-pub fn case_ask(k: usize) -> Ask {
+fn case_ask(k: usize) -> Ask {
     let h = size(item(k, 1));
-    let cells = size(item(k, 2));
-    let room = size(item(k, 5));
-    let octave = item(k, 4) == 1;
-    let shift = lowest(octave);
-    Ask {
+    ask_of(
         h,
-        cells,
-        notes: size(item(k, 3)),
-        sets: less_one(columns_of(cells, h)),
-        table: 4096,
-        columns: room,
-        shifts: room,
-        octave,
-        column: 1,
-        shift,
-    }
+        columns_of(size(item(k, 2)), h),
+        size(item(k, 3)),
+        way_of(size(item(k, 4))),
+        size(item(k, 5)),
+    )
 }
 
 // Puts a case's score into the lent buffer.
@@ -104,32 +92,42 @@ pub fn load_theme(theme: &mut [u8], k: usize) {
 pub fn worked_job(k: usize) -> Job {
     let a = case_ask(k / 4);
     let c = none();
-    let call = (k % 4) as u8;
     Job {
-        source: WORKED,
+        tried: true,
+        source: Source::Worked,
         sets_of: k / 4,
         score: k / 4,
         theme: k / 4,
         a,
         c,
         d: c,
-        call,
-        whole: call != PREPARE,
+        call: call_at(k % 4),
+        whole: 0 < k % 4,
         deep: true,
-        loud: loud_at(call),
-        head: head_of(call),
+        loud: loud_at(k % 4),
+        head: head_at(k % 4),
         low: 0,
         high: 0,
     }
 }
 
-fn loud_at(call: u8) -> bool {
-    match call {
-        PLAIN | QUICK => true,
+fn call_at(what: usize) -> Call {
+    match what {
+        0 => Call::Prepare,
+        1 => Call::Plain,
+        2 => Call::Quick,
+        _ => Call::Both,
+    }
+}
+
+fn loud_at(what: usize) -> bool {
+    match what {
+        1 | 2 => true,
         _ => false,
     }
 }
 
-fn head_of(call: u8) -> u8 {
-    if call == PLAIN { CASE } else { QUIET }
+// A case is written before its first pages.
+fn head_at(what: usize) -> Head {
+    if what == 1 { Head::Case } else { Head::Quiet }
 }

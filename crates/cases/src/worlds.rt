@@ -2,16 +2,14 @@
 // theme of two and three notes over those pitches, both ways.
 
 use crate::changes::none;
+use crate::jobs::Head;
 use crate::jobs::Job;
-use crate::jobs::QUIET;
-use crate::jobs::WORLD;
-use second::away::Ask;
-use second::away::BOTH;
-use second::away::PREPARE;
-use second::finder::lowest;
-use second::totals::less_one;
+use crate::jobs::Source;
+use crate::shapes::ask_of;
+use crate::shapes::room_of;
+use crate::shapes::way_of;
+use second::asks::Call;
 use second::totals::more;
-use second::totals::product;
 use second::totals::put_byte;
 
 // The cells; the first three are the pitches.
@@ -33,34 +31,6 @@ pub fn spell(s: &mut [u8], many: usize, x: usize, base: usize) {
     for i in 0..many {
         put_byte(s, i, world_cell(rest % base));
         rest = rest / base;
-    }
-}
-
-// The rooms that pages are tried at.
-pub fn room_of(k: usize) -> usize {
-    match k % 5 {
-        0 => 1,
-        1 => 2,
-        2 => 3,
-        3 => 7,
-        _ => 40,
-    }
-}
-
-// What is asked of a score from the first bookmark on.
-pub fn ask_of(h: usize, n: usize, m: usize, octave: bool, room: usize) -> Ask {
-    let shift = lowest(octave);
-    Ask {
-        h,
-        cells: product(n, h),
-        notes: m,
-        sets: less_one(n),
-        table: 4096,
-        columns: room,
-        shifts: room,
-        octave,
-        column: 1,
-        shift,
     }
 }
 
@@ -107,12 +77,13 @@ pub fn world_job(k: usize) -> Job {
         tracks_of(w),
         columns_in(w),
         notes_of(y / 2),
-        y % 2 == 1,
+        way_of(y),
         room_of(more(x, y)),
     );
     let c = none();
     Job {
-        source: WORLD,
+        tried: true,
+        source: Source::World,
         sets_of: x,
         score: x,
         theme: y / 2,
@@ -123,13 +94,13 @@ pub fn world_job(k: usize) -> Job {
         whole: y < 72,
         deep: x == 0,
         loud: false,
-        head: QUIET,
+        head: Head::Quiet,
         low: 0,
         high: 0,
     }
 }
 
 // The sets are tried last.
-fn call_of(y: usize) -> u8 {
-    if y < 72 { BOTH } else { PREPARE }
+fn call_of(y: usize) -> Call {
+    if y < 72 { Call::Both } else { Call::Prepare }
 }

@@ -1,33 +1,14 @@
 // What is turned away, read off the requirement's table row by row, beside the library and without it.
 
+use crate::asks::Ask;
+use crate::asks::Call;
+use crate::asks::columns_of;
 use crate::totals::byte;
 use crate::totals::less_one;
 use crate::totals::more;
 use crate::totals::set;
 use crate::totals::size16;
-
-// What is asked: how much of each lent buffer is handed over, and the numbers beside.
-pub struct Ask {
-    pub h: usize,
-    pub cells: usize,
-    pub notes: usize,
-    pub sets: usize,
-    pub table: usize,
-    pub columns: usize,
-    pub shifts: usize,
-    pub octave: bool,
-    pub column: u16,
-    pub shift: i16,
-}
-
-// The calls: preparation, plain and quick search, and these two beside one another.
-pub const PREPARE: u8 = 0;
-
-pub const PLAIN: u8 = 1;
-
-pub const QUICK: u8 = 2;
-
-pub const BOTH: u8 = 3;
+use crate::ways::marked_by;
 
 // The number of a refusal and its place; 0 where nothing is turned away.
 pub struct Away {
@@ -37,14 +18,6 @@ pub struct Away {
 
 fn row(number: u8) -> Away {
     Away { number, place: 0 }
-}
-
-// How many columns so many cells make.
-pub fn columns_of(cells: usize, h: usize) -> usize {
-    if h == 0 {
-        return 0;
-    }
-    cells / h
 }
 
 // The first of so many bytes that lies from low to high, or how many there are.
@@ -138,60 +111,42 @@ fn of_sets(sets: &[u16], many: usize, table: usize) -> Away {
     row(8)
 }
 
-// Rows 9 and 10.
-fn of_page(
-    columns: usize,
-    shifts: usize,
-    n: usize,
-    column: usize,
-    shift: i16,
-    octave: bool,
-) -> Away {
-    if columns == 0 {
+// Rows 9 and 10, for a score of n columns.
+fn of_page(a: Ask, n: usize) -> Away {
+    if a.columns == 0 {
         return row(9);
     }
-    if columns != shifts {
+    if a.columns != a.shifts {
         return row(9);
     }
-    if column == 0 {
+    if a.column == 0 {
         return row(10);
     }
-    if more(n, 1) < column {
+    if more(n, 1) < size16(a.column) {
         return row(10);
     }
-    if octave {
-        if shift < 0 {
-            return row(10);
-        }
-        if 12 < shift {
-            return row(10);
-        }
+    let way = a.way;
+    if marked_by(way, a.shift) {
         return row(0);
     }
-    if shift < -127 {
-        return row(10);
-    }
-    if 128 < shift {
-        return row(10);
-    }
-    row(0)
+    row(10)
 }
 
 // What a call is to be turned away with: preparation 1, 2, 3, 6; plain 1 to 5, 9, 10; quick 1 to 10.
-pub fn refusal(cells: &[u8], theme: &[u8], sets: &[u16], a: Ask, call: u8) -> Away {
+pub fn refusal(cells: &[u8], theme: &[u8], sets: &[u16], a: Ask, call: Call) -> Away {
     let n = columns_of(a.cells, a.h);
     let score = of_score(cells, a.cells, a.h);
     if score.number != 0 {
         return score;
     }
-    if call == PREPARE {
+    if let Call::Prepare = call {
         return of_length(n, a.sets);
     }
     let notes = of_theme(theme, a.notes);
     if notes.number != 0 {
         return notes;
     }
-    if call == QUICK {
+    if let Call::Quick = call {
         let length = of_length(n, a.sets);
         if length.number != 0 {
             return length;
@@ -201,5 +156,5 @@ pub fn refusal(cells: &[u8], theme: &[u8], sets: &[u16], a: Ask, call: u8) -> Aw
             return lent;
         }
     }
-    of_page(a.columns, a.shifts, n, size16(a.column), a.shift, a.octave)
+    of_page(a, n)
 }

@@ -2,6 +2,9 @@
 //
 // A score is read from the whole lent buffer by its number of tracks; a place that is not there is a rest. Columns count from 1.
 
+use crate::asks::Ask;
+use crate::asks::Call;
+use crate::asks::columns_of;
 use crate::totals::apart;
 use crate::totals::byte;
 use crate::totals::less_one;
@@ -9,11 +12,15 @@ use crate::totals::more;
 use crate::totals::place;
 use crate::totals::product;
 use crate::totals::set;
-use crate::totals::shift_at;
 use crate::totals::size;
 use crate::totals::twelves;
 use crate::totals::whole;
 use crate::totals::word;
+use crate::ways::Way;
+use crate::ways::lowest;
+use crate::ways::same;
+use crate::ways::shift_at;
+use crate::ways::span;
 
 // What comes first at or after a bookmark: a pair, where there is one, and the looks on the way.
 pub struct Found {
@@ -23,30 +30,14 @@ pub struct Found {
     pub looks: usize,
 }
 
-// How many shifts a way has.
-fn span(octave: bool) -> u8 {
-    if octave { 12 } else { 255 }
-}
-
-// The lowest of them.
-pub fn lowest(octave: bool) -> i16 {
-    if octave { 0 } else { -127 }
-}
-
 // Whether column j holds note p moved by c. Exact: p + c is one of its pitches. Octave: some pitch t has t - p - c divisible by
 // 12.
-fn holds(cells: &[u8], h: usize, j: usize, p: u8, c: i16, octave: bool) -> bool {
+fn holds(cells: &[u8], h: usize, j: usize, p: u8, c: i16, way: Way) -> bool {
     for track in 0..h {
         let t = byte(cells, place(j, h, track));
         if t < 128 {
-            let z = apart(t, p, c);
-            if z == 0 {
+            if same(way, apart(t, p, c)) {
                 return true;
-            }
-            if octave {
-                if twelves(z) {
-                    return true;
-                }
             }
         }
     }
@@ -54,21 +45,14 @@ fn holds(cells: &[u8], h: usize, j: usize, p: u8, c: i16, octave: bool) -> bool 
 }
 
 // How many notes stand at column j with shift c, from the first to the one before the first that is missing.
-fn standing(
-    cells: &[u8],
-    h: usize,
-    theme: &[u8],
-    m: usize,
-    octave: bool,
-    j: usize,
-    c: i16,
-) -> usize {
-    for i in 0..m {
-        if !holds(cells, h, more(j, i), byte(theme, i), c, octave) {
+fn standing(cells: &[u8], theme: &[u8], a: Ask, j: usize, c: i16) -> usize {
+    let way = a.way;
+    for i in 0..a.notes {
+        if !holds(cells, a.h, more(j, i), byte(theme, i), c, way) {
             return i;
         }
     }
-    m
+    a.notes
 }
 
 // The looks of a place at which so many notes stand: one for each note from the second to the first missing one, or to the last.
@@ -78,22 +62,15 @@ fn looks_of(stood: usize, m: usize) -> usize {
 }
 
 // The first pair of column j from a shift on.
-fn in_column(
-    cells: &[u8],
-    h: usize,
-    theme: &[u8],
-    m: usize,
-    octave: bool,
-    j: usize,
-    from: i16,
-) -> Found {
+fn in_column(cells: &[u8], theme: &[u8], a: Ask, j: usize, from: i16) -> Found {
+    let way = a.way;
     let mut looks: usize = 0;
-    for s in 0..span(octave) {
-        let c = shift_at(octave, s);
+    for s in 0..span(way) {
+        let c = shift_at(way, s);
         if from <= c {
-            let stood = standing(cells, h, theme, m, octave, j, c);
-            looks = more(looks, looks_of(stood, m));
-            if stood == m {
+            let stood = standing(cells, theme, a, j, c);
+            looks = more(looks, looks_of(stood, a.notes));
+            if stood == a.notes {
                 return Found {
                     hit: true,
                     column: j,
@@ -137,28 +114,31 @@ fn candidate(theme: &[u8], m: usize, sets: &[u16], j: usize) -> bool {
     true
 }
 
-// The first pair at or after (column, shift) in a score of n columns; quick: of the columns that the sets make candidates.
+// Whether a call looks at column j: quick at candidates alone.
+fn reached(theme: &[u8], m: usize, sets: &[u16], call: Call, j: usize) -> bool {
+    if let Call::Quick = call {
+        return candidate(theme, m, sets, j);
+    }
+    true
+}
+
+// The first pair at or after (column, shift) that a call finds; one column behind the last where there is none.
 pub fn next_pair(
     cells: &[u8],
-    h: usize,
-    n: usize,
     theme: &[u8],
-    m: usize,
     sets: &[u16],
-    octave: bool,
-    quick: bool,
+    a: Ask,
+    call: Call,
     column: usize,
     shift: i16,
 ) -> Found {
+    let way = a.way;
+    let n = columns_of(a.cells, a.h);
     let mut looks: usize = 0;
     let mut from = shift;
-    for j in column..last_start(n, m) {
-        let mut reached = true;
-        if quick {
-            reached = candidate(theme, m, sets, j);
-        }
-        if reached {
-            let f = in_column(cells, h, theme, m, octave, j, from);
+    for j in column..last_start(n, a.notes) {
+        if reached(theme, a.notes, sets, call, j) {
+            let f = in_column(cells, theme, a, j, from);
             looks = more(looks, f.looks);
             if f.hit {
                 return Found {
@@ -169,12 +149,12 @@ pub fn next_pair(
                 };
             }
         }
-        from = lowest(octave);
+        from = lowest(way);
     }
     Found {
         hit: false,
         column: more(n, 1),
-        shift: lowest(octave),
+        shift: lowest(way),
         looks,
     }
 }
@@ -185,8 +165,9 @@ fn last_start(n: usize, m: usize) -> usize {
 }
 
 // The most looks of a whole list: (n - m + 1) * h * (m - 1), or 0 where the theme is longer than the score.
-pub fn most_looks(n: usize, h: usize, m: usize) -> usize {
-    product(product(less_one(last_start(n, m)), h), less_one(m))
+pub fn most_looks(a: Ask) -> usize {
+    let starts = less_one(last_start(columns_of(a.cells, a.h), a.notes));
+    product(product(starts, a.h), less_one(a.notes))
 }
 
 // Whether some pitch x of column k and y of the next have (y - x) mod 12 = d.
@@ -194,7 +175,7 @@ fn spans(cells: &[u8], h: usize, k: usize, d: u8) -> bool {
     for track in 0..h {
         let x = byte(cells, place(k, h, track));
         if x < 128 {
-            if holds(cells, h, more(k, 1), x, whole(d), true) {
+            if holds(cells, h, more(k, 1), x, whole(d), Way::Octave) {
                 return true;
             }
         }

@@ -106,11 +106,6 @@ pub fn twelves(z: i32) -> bool {
     z % 12 == 0
 }
 
-// The shift that stands s above the lowest.
-pub fn shift_at(octave: bool, s: u8) -> i16 {
-    if octave { s as i16 } else { s as i16 - 127 }
-}
-
 // A shift raised by one.
 pub fn raised(c: i16) -> i16 {
     if c < 32767 { c + 1 } else { c }

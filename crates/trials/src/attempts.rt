@@ -9,6 +9,8 @@ use crate::report::answered;
 use crate::report::head;
 use crate::report::tail;
 use crate::turns::turn_prepare;
+use cases::arranging::arrange;
+use cases::arranging::arrange_theme;
 use cases::buffers::Cells;
 use cases::buffers::Columns;
 use cases::buffers::Sets;
@@ -16,14 +18,11 @@ use cases::buffers::Shifts;
 use cases::buffers::Table;
 use cases::buffers::Tally;
 use cases::buffers::Theme;
-use cases::compare::REFUSAL;
+use cases::compare::Fault;
 use cases::compare::Seen;
 use cases::jobs::Job;
-use cases::jobs::arrange;
-use cases::jobs::arrange_theme;
 use cases::refused::due;
-use second::away::Ask;
-use second::away::PREPARE;
+use second::asks::Call;
 use second::totals::add;
 use second::totals::size;
 
@@ -35,14 +34,14 @@ fn called(
     table: &mut Table,
     columns: &mut Columns,
     shifts: &mut Shifts,
-    a: Ask,
-    call: u8,
-    deep: bool,
+    j: Job,
 ) -> Seen {
-    if call == PREPARE {
+    let call = j.call;
+    if let Call::Prepare = call {
+        let a = j.a;
         return turn_prepare(cells, theme, sets, a);
     }
-    turned(cells, theme, sets, table, columns, shifts, a, call, deep)
+    turned(cells, theme, sets, table, columns, shifts, j)
 }
 
 // What was seen, with another number than the one that is due as a fault.
@@ -50,11 +49,17 @@ fn due_judged(j: Job, s: Seen) -> Seen {
     if j.high == 0 {
         return s;
     }
-    let mut t = s;
-    if due(j.call, j.low, j.high) != size(t.got.number) {
-        t.fault = REFUSAL;
+    let call = j.call;
+    let got = s.got;
+    if due(call, j.low, j.high) == size(got.number) {
+        return s;
     }
-    t
+    let asked = s.call;
+    Seen {
+        call: asked,
+        fault: Fault::Refusal,
+        got,
+    }
 }
 
 // A call by itself.
@@ -69,20 +74,11 @@ fn once(
     j: Job,
 ) {
     let a = j.a;
-    let s = called(
-        cells,
-        theme,
-        sets,
-        table,
-        columns,
-        shifts,
-        a,
-        j.call,
-        j.deep,
-    );
+    let s = called(cells, theme, sets, table, columns, shifts, j);
     noted(cells, theme, sets, tally, a, due_judged(j, s));
+    let call = j.call;
     let got = s.got;
-    answered(j.call, got, j.loud);
+    answered(call, got, j.loud);
 }
 
 // A whole list, or a call by itself.
@@ -97,21 +93,8 @@ fn act(
     j: Job,
 ) {
     if j.whole {
-        let a = j.a;
         add(tally, THEMES, 1);
-        list(
-            cells,
-            theme,
-            sets,
-            table,
-            columns,
-            shifts,
-            tally,
-            a,
-            j.call,
-            j.deep,
-            j.loud,
-        );
+        list(cells, theme, sets, table, columns, shifts, tally, j);
         return;
     }
     once(cells, theme, sets, table, columns, shifts, tally, j);
@@ -127,7 +110,7 @@ pub fn attempt(
     tally: &mut Tally,
     j: Job,
 ) {
-    if j.source == 0 {
+    if !j.tried {
         return;
     }
     arrange(cells, sets, j);

@@ -1,7 +1,10 @@
 // The library's pages, each on the part of the lent buffers that is asked for, with the answer as plain numbers.
 
 use cases::answers::Got;
+use cases::answers::Lengths;
+use cases::answers::part;
 use cases::answers::refused;
+use cases::answers::too_short;
 use cases::answers::unasked;
 use score::Column;
 use search::Bookmark;
@@ -9,7 +12,7 @@ use search::Page;
 use search::Way;
 use search::plain_page;
 use search::quick_page;
-use second::away::Ask;
+use second::asks::Ask;
 
 fn answer(p: Page) -> Got {
     match p {
@@ -26,8 +29,11 @@ fn answer(p: Page) -> Got {
     }
 }
 
-fn way_of(octave: bool) -> Way {
-    if octave { Way::Octave } else { Way::Exact }
+fn way_of(way: second::ways::Way) -> Way {
+    match way {
+        second::ways::Way::Exact => Way::Exact,
+        second::ways::Way::Octave => Way::Octave,
+    }
 }
 
 fn bookmark_of(column: u16, shift: i16) -> Bookmark {
@@ -44,27 +50,27 @@ pub fn ask_plain(
     shifts: &mut [i16],
     a: Ask,
 ) -> Got {
-    let many = a.cells;
-    let m = a.notes;
-    let r = a.columns;
-    let s = a.shifts;
-    if cells.len() < many {
-        return unasked();
-    }
-    if theme.len() < m {
-        return unasked();
-    }
-    if columns.len() < r {
-        return unasked();
-    }
-    if shifts.len() < s {
+    let way = a.way;
+    let many = part(a.cells, cells.len());
+    let m = part(a.notes, theme.len());
+    let r = part(a.columns, columns.len());
+    let s = part(a.shifts, shifts.len());
+    let lent = Lengths {
+        cells: many,
+        theme: m,
+        sets: a.sets,
+        table: a.table,
+        columns: r,
+        shifts: s,
+    };
+    if too_short(lent, a) {
         return unasked();
     }
     answer(plain_page(
         &cells[..many],
         a.h,
         &theme[..m],
-        way_of(a.octave),
+        way_of(way),
         bookmark_of(a.column, a.shift),
         &mut columns[..r],
         &mut shifts[..s],
@@ -80,35 +86,29 @@ pub fn ask_quick(
     shifts: &mut [i16],
     a: Ask,
 ) -> Got {
-    let many = a.cells;
-    let m = a.notes;
-    let last = a.sets;
-    let words = a.table;
-    let r = a.columns;
-    let s = a.shifts;
-    if cells.len() < many {
-        return unasked();
-    }
-    if theme.len() < m {
-        return unasked();
-    }
-    if sets.len() < last {
-        return unasked();
-    }
-    if table.len() < words {
-        return unasked();
-    }
-    if columns.len() < r {
-        return unasked();
-    }
-    if shifts.len() < s {
+    let way = a.way;
+    let many = part(a.cells, cells.len());
+    let m = part(a.notes, theme.len());
+    let last = part(a.sets, sets.len());
+    let words = part(a.table, table.len());
+    let r = part(a.columns, columns.len());
+    let s = part(a.shifts, shifts.len());
+    let lent = Lengths {
+        cells: many,
+        theme: m,
+        sets: last,
+        table: words,
+        columns: r,
+        shifts: s,
+    };
+    if too_short(lent, a) {
         return unasked();
     }
     answer(quick_page(
         &cells[..many],
         a.h,
         &theme[..m],
-        way_of(a.octave),
+        way_of(way),
         bookmark_of(a.column, a.shift),
         &sets[..last],
         &mut table[..words],

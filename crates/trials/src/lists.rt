@@ -5,7 +5,7 @@ use crate::report::PAGES;
 use crate::report::PAIRS;
 use crate::report::REFUSALS;
 use crate::report::SCORES;
-use crate::report::differs;
+use crate::report::differing;
 use crate::report::page;
 use crate::turns::turn_both;
 use crate::turns::turn_plain;
@@ -17,23 +17,19 @@ use cases::buffers::Shifts;
 use cases::buffers::Table;
 use cases::buffers::Tally;
 use cases::changes::at;
-use cases::compare::LOOKS;
-use cases::compare::PAGES as PAGES_FAULT;
-use cases::compare::REFUSAL;
+use cases::compare::Fault;
 use cases::compare::Seen;
-use second::away::Ask;
-use second::away::BOTH;
-use second::away::PLAIN;
-use second::away::PREPARE;
-use second::away::QUICK;
-use second::away::columns_of;
-use second::finder::lowest;
+use cases::compare::differs;
+use cases::jobs::Job;
+use second::asks::Ask;
+use second::asks::Call;
 use second::finder::most_looks;
 use second::totals::add;
 use second::totals::count;
 use second::totals::more;
 use second::totals::product;
 use second::totals::size32;
+use second::ways::lowest;
 
 // No list has so many pages.
 const MOST: usize = 70000;
@@ -43,10 +39,11 @@ const SHOWN: u64 = 8;
 
 // Counts what was seen, and writes it out where it differs.
 pub fn noted(cells: &[u8], theme: &[u8], sets: &[u16], tally: &mut Tally, a: Ask, s: Seen) -> bool {
-    if s.fault != 0 {
+    let fault = s.fault;
+    if differs(fault) {
         add(tally, DIFFERED, 1);
         if count(tally, DIFFERED) <= SHOWN {
-            differs(cells, theme, sets, a, s.call, s.fault, s.got);
+            differing(cells, theme, sets, a, s);
         }
         return false;
     }
@@ -54,22 +51,22 @@ pub fn noted(cells: &[u8], theme: &[u8], sets: &[u16], tally: &mut Tally, a: Ask
         add(tally, REFUSALS, 1);
         return true;
     }
-    if s.call == PREPARE {
-        add(tally, SCORES, 1);
-        return true;
-    }
-    page_noted(tally, s.call, s.got.written);
+    let call = s.call;
+    accepted(tally, call, s.got.written);
     true
 }
 
-// How many calls turned a page.
-fn calls_in(call: u8) -> usize {
-    if call == BOTH { 2 } else { 1 }
+// Counts what an accepted call made: the sets of a score, or a page, for each call that turned it.
+fn accepted(tally: &mut Tally, call: Call, written: usize) {
+    match call {
+        Call::Prepare => add(tally, SCORES, 1),
+        Call::Both => page_noted(tally, 2, written),
+        _ => page_noted(tally, 1, written),
+    }
 }
 
-// Counts a page and its pairs, for each call that turned it.
-fn page_noted(tally: &mut Tally, call: u8, written: usize) {
-    let calls = calls_in(call);
+// Counts a page and its pairs, for so many calls.
+fn page_noted(tally: &mut Tally, calls: usize, written: usize) {
     add(tally, PAGES, calls as u64);
     add(tally, PAIRS, product(written, calls) as u64);
 }
@@ -105,37 +102,40 @@ fn turned_on(r: Reading, got: Got) -> Reading {
 }
 
 // What differs of a list: where it is over, floor(L / r) + 1 pages, and no more looks than the bound.
-fn whole_fault(a: Ask, r: Reading) -> u8 {
+fn whole_fault(a: Ask, r: Reading) -> Fault {
     if !r.over {
-        return 0;
+        return Fault::Nothing;
     }
     if r.pages != pages_for(r.pairs, a.columns) {
-        return PAGES_FAULT;
+        return Fault::Pages;
     }
-    if most_looks(columns_of(a.cells, a.h), a.h, a.notes) < r.looks {
-        return LOOKS;
+    if most_looks(a) < r.looks {
+        return Fault::Looks;
     }
-    0
+    Fault::Nothing
 }
 
-// What was seen of a page, and of the list where it is over. A list is asked for where nothing is turned away.
+// What differs of a page that is no refusal. A list is asked for where nothing is turned away.
+fn list_fault(a: Ask, r: Reading, number: u8) -> Fault {
+    if number != 0 {
+        return Fault::Refusal;
+    }
+    whole_fault(a, r)
+}
+
+// What was seen of a page, and of the list where it is over.
 fn judged(a: Ask, r: Reading, s: Seen) -> Seen {
-    if s.fault != 0 {
+    let seen = s.fault;
+    if differs(seen) {
         return s;
     }
+    let call = s.call;
     let got = s.got;
-    let mut fault = whole_fault(a, r);
-    if got.number != 0 {
-        fault = REFUSAL;
-    }
-    Seen {
-        call: s.call,
-        fault,
-        got,
-    }
+    let fault = list_fault(a, r, got.number);
+    Seen { call, fault, got }
 }
 
-// One page of a call; of both, where the sets are the score's own.
+// One page of a job; of both calls, where the sets are the score's own.
 pub fn turned(
     cells: &[u8],
     theme: &[u8],
@@ -143,17 +143,24 @@ pub fn turned(
     table: &mut Table,
     columns: &mut Columns,
     shifts: &mut Shifts,
-    a: Ask,
-    call: u8,
-    deep: bool,
+    j: Job,
 ) -> Seen {
-    if call == PLAIN {
-        return turn_plain(cells, theme, sets, columns, shifts, a);
+    let a = j.a;
+    let call = j.call;
+    match call {
+        Call::Plain => turn_plain(cells, theme, sets, columns, shifts, a),
+        Call::Quick => turn_quick(cells, theme, sets, table, columns, shifts, a, j.deep),
+        _ => turn_both(cells, theme, sets, table, columns, shifts, a, j.deep),
     }
-    if call == QUICK {
-        return turn_quick(cells, theme, sets, table, columns, shifts, a, deep);
-    }
-    turn_both(cells, theme, sets, table, columns, shifts, a, deep)
+}
+
+// The job from where the list goes on.
+fn going_on(j: Job, r: Reading) -> Job {
+    let a = j.a;
+    let b = at(a, r.column, r.shift);
+    let mut on = j;
+    on.a = b;
+    on
 }
 
 // One page more. Where it differs the list is over.
@@ -165,26 +172,38 @@ fn read_on(
     columns: &mut Columns,
     shifts: &mut Shifts,
     tally: &mut Tally,
-    a: Ask,
-    call: u8,
-    deep: bool,
-    loud: bool,
+    j: Job,
     r: Reading,
 ) -> Reading {
-    let b = at(a, r.column, r.shift);
-    let s = turned(cells, theme, sets, table, columns, shifts, b, call, deep);
+    let on = going_on(j, r);
+    let s = turned(cells, theme, sets, table, columns, shifts, on);
+    let a = on.a;
+    let call = j.call;
     let got = s.got;
-    if loud {
-        page(columns, shifts, b, call, got);
+    if j.loud {
+        page(columns, shifts, a, call, got);
     }
     let mut next = turned_on(r, got);
-    if !noted(cells, theme, sets, tally, b, judged(a, next, s)) {
+    if !noted(cells, theme, sets, tally, a, judged(a, next, s)) {
         next.over = true;
     }
     next
 }
 
-// All pages from the first bookmark on; loud: each is written out.
+// A list of which nothing was read.
+fn unread(a: Ask) -> Reading {
+    let way = a.way;
+    Reading {
+        column: 1,
+        shift: lowest(way),
+        pages: 0,
+        pairs: 0,
+        looks: 0,
+        over: false,
+    }
+}
+
+// All pages of a job from the first bookmark on; where it is loud, each is written out.
 pub fn list(
     cells: &[u8],
     theme: &[u8],
@@ -193,48 +212,26 @@ pub fn list(
     columns: &mut Columns,
     shifts: &mut Shifts,
     tally: &mut Tally,
-    a: Ask,
-    call: u8,
-    deep: bool,
-    loud: bool,
+    j: Job,
 ) {
-    let shift = lowest(a.octave);
-    let mut r = Reading {
-        column: 1,
-        shift,
-        pages: 0,
-        pairs: 0,
-        looks: 0,
-        over: false,
-    };
+    let a = j.a;
+    let mut r = unread(a);
     for p in 0..MOST {
         if r.over {
             return;
         }
-        r = read_on(
-            cells,
-            theme,
-            sets,
-            table,
-            columns,
-            shifts,
-            tally,
-            a,
-            call,
-            deep,
-            loud,
-            r,
-        );
+        r = read_on(cells, theme, sets, table, columns, shifts, tally, j, r);
     }
+    let call = j.call;
     noted(cells, theme, sets, tally, a, endless(call));
 }
 
 // A list without an end.
-fn endless(call: u8) -> Seen {
+fn endless(call: Call) -> Seen {
     let got = refused(0, 0);
     Seen {
         call,
-        fault: PAGES_FAULT,
+        fault: Fault::Pages,
         got,
     }
 }

@@ -13,8 +13,8 @@ use cases::buffers::Shifts;
 use cases::buffers::Table;
 use cases::buffers::Tally;
 use cases::buffers::Theme;
-use cases::families::JOBS;
 use cases::families::job;
+use cases::families::jobs;
 use report::totals;
 
 fn main() {
@@ -45,7 +45,7 @@ fn run(
     shifts: &mut Shifts,
     tally: &mut Tally,
 ) {
-    for k in 0..JOBS {
+    for k in 0..jobs() {
         attempt(cells, theme, sets, table, columns, shifts, tally, job(k));
     }
     totals(tally);

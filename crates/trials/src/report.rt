@@ -2,24 +2,24 @@
 
 use cases::answers::Got;
 use cases::changes::Change;
-use cases::changes::SHIFT;
+use cases::changes::What;
 use cases::changes::end_shift;
 use cases::changes::placed;
-use cases::jobs::CASE;
-use cases::jobs::DUE;
-use cases::jobs::END;
+use cases::compare::Fault;
+use cases::compare::Seen;
+use cases::jobs::Head;
 use cases::jobs::Job;
 use libc::STDOUT_FILENO;
-use second::away::Ask;
-use second::away::QUICK;
+use second::asks::Ask;
+use second::asks::Call;
 use second::totals::byte;
 use second::totals::count;
 use second::totals::distance;
-use second::totals::more;
 use second::totals::set;
 use second::totals::shift;
 use second::totals::size;
 use second::totals::size16;
+use second::ways::Way;
 
 // The counts, by their places.
 pub const SCORES: usize = 0;
@@ -83,16 +83,20 @@ fn pairs(columns: &[u16], shifts: &[i16], many: usize) {
     }
 }
 
-fn way(octave: bool) {
-    if octave {
-        say(b" octave");
-    } else {
-        say(b" exact");
+fn way_name(way: Way) {
+    match way {
+        Way::Exact => say(b" exact"),
+        Way::Octave => say(b" octave"),
     }
 }
 
-fn call_name(call: u8) {
-    word_of(b"prepare plain quick both ", size(call));
+fn call_name(call: Call) {
+    match call {
+        Call::Prepare => say(b" prepare"),
+        Call::Plain => say(b" plain"),
+        Call::Quick => say(b" quick"),
+        Call::Both => say(b" both"),
+    }
 }
 
 // A case, whole: the score, the theme and the way.
@@ -103,7 +107,8 @@ fn case(cells: &[u8], theme: &[u8], a: Ask) {
     bytes(cells, a.cells);
     say(b" theme");
     bytes(theme, a.notes);
-    way(a.octave);
+    let way = a.way;
+    way_name(way);
 }
 
 // A worked case and its sets, a line each.
@@ -117,7 +122,7 @@ fn worked_case(cells: &[u8], theme: &[u8], s: &[u16], a: Ask) {
 }
 
 // Where a page begins, and its room.
-fn opening(a: Ask, call: u8) {
+fn opening(a: Ask, call: Call) {
     call_name(call);
     say(b" from");
     pair(size16(a.column), a.shift);
@@ -126,7 +131,7 @@ fn opening(a: Ask, call: u8) {
 }
 
 // A page's answer.
-pub fn page(columns: &[u16], shifts: &[i16], a: Ask, call: u8, got: Got) {
+pub fn page(columns: &[u16], shifts: &[i16], a: Ask, call: Call, got: Got) {
     say(b" ");
     opening(a, call);
     say(b":");
@@ -143,36 +148,28 @@ pub fn page(columns: &[u16], shifts: &[i16], a: Ask, call: u8, got: Got) {
     line();
 }
 
-// A letter.
-fn letter(b: u8) {
-    let one = [b];
-    say(&one);
-}
-
-// The k-th of some words that are parted by a space, from 0, with a space before it.
-fn word_of(words: &[u8], k: usize) {
-    letter(32);
-    let mut at: usize = 0;
-    for i in 0..words.len() {
-        let b = byte(words, i);
-        if b == 32 {
-            at = more(at, 1);
-        } else if at == k {
-            letter(b);
-        }
+fn fault_name(fault: Fault) {
+    match fault {
+        Fault::Nothing => say(b" -"),
+        Fault::Refusal => say(b" refusal"),
+        Fault::Pair => say(b" pair"),
+        Fault::Written => say(b" written"),
+        Fault::Next => say(b" next"),
+        Fault::Finished => say(b" finished"),
+        Fault::Looks => say(b" looks"),
+        Fault::Untouched => say(b" untouched"),
+        Fault::Sets => say(b" sets"),
+        Fault::Table => say(b" table"),
+        Fault::Pages => say(b" pages"),
+        Fault::Beside => say(b" quick-beside-plain"),
     }
 }
 
-// What differs, by its number.
-fn fault_name(fault: u8) {
-    word_of(
-        b"- refusal pair written next finished looks untouched sets table pages quick-beside-plain ",
-        size(fault),
-    );
-}
-
 // A case that differs, with the sizes of what is lent and the library's answer.
-pub fn differs(cells: &[u8], theme: &[u8], s: &[u16], a: Ask, call: u8, fault: u8, got: Got) {
+pub fn differing(cells: &[u8], theme: &[u8], s: &[u16], a: Ask, seen: Seen) {
+    let fault = seen.fault;
+    let call = seen.call;
+    let got = seen.got;
     say(b"\nDIFFERS in");
     fault_name(fault);
     say(b":");
@@ -194,7 +191,7 @@ pub fn differs(cells: &[u8], theme: &[u8], s: &[u16], a: Ask, call: u8, fault: u
 }
 
 // What a call answered, where it is to be said: its refusal and the place, or that it was accepted.
-pub fn answered(call: u8, got: Got, loud: bool) {
+pub fn answered(call: Call, got: Got, loud: bool) {
     if !loud {
         return;
     }
@@ -208,26 +205,44 @@ pub fn answered(call: u8, got: Got, loud: bool) {
     number(got.place);
 }
 
-// What is changed.
-fn what_name(what: u16) {
-    word_of(
-        b"- tracks columns cells cell notes note sets set table room room-of-columns room-of-shifts bookmark-column bookmark-shift ",
-        size16(what),
-    );
+fn what_name(what: What) {
+    match what {
+        What::Nothing => say(b" -"),
+        What::Tracks => say(b" tracks"),
+        What::Columns => say(b" columns"),
+        What::Cells => say(b" cells"),
+        What::Cell => say(b" cell"),
+        What::Notes => say(b" notes"),
+        What::Note => say(b" note"),
+        What::Sets => say(b" sets"),
+        What::Set => say(b" set"),
+        What::Table => say(b" table"),
+        What::Room => say(b" room"),
+        What::ColumnRoom => say(b" room-of-columns"),
+        What::ShiftRoom => say(b" room-of-shifts"),
+        What::Column => say(b" bookmark-column"),
+        What::Shift => say(b" bookmark-shift"),
+    }
+}
+
+// The number that something gets; a shift goes by its own number.
+fn value_name(what: What, value: u16) {
+    if let What::Shift = what {
+        say(b" ");
+        signed(end_shift(value));
+    } else {
+        number(size16(value));
+    }
 }
 
 // A change to an accepted call.
-fn change_name(octave: bool, c: Change) {
+fn change_name(way: Way, c: Change) {
+    let what = c.what;
     say(b"end:");
-    way(octave);
-    what_name(c.what);
-    if c.what == SHIFT {
-        say(b" ");
-        signed(end_shift(c.value));
-    } else {
-        number(size16(c.value));
-    }
-    if placed(c.what, 1) {
+    way_name(way);
+    what_name(what);
+    value_name(what, c.value);
+    if placed(what, 1) {
         say(b" at");
         number(c.place);
     }
@@ -235,9 +250,9 @@ fn change_name(octave: bool, c: Change) {
 }
 
 // Two refusals that are due, the lower one 0 where there is one alone.
-fn faults_name(octave: bool, low: usize, high: usize) {
+fn faults_name(way: Way, low: usize, high: usize) {
     say(b"due:");
-    way(octave);
+    way_name(way);
     if 0 < low {
         number(low);
         say(b" and");
@@ -249,17 +264,14 @@ fn faults_name(octave: bool, low: usize, high: usize) {
 // What stands before a job's answers.
 pub fn head(cells: &[u8], theme: &[u8], s: &[u16], j: Job) {
     let a = j.a;
-    if j.head == CASE {
-        worked_case(cells, theme, s, a);
-        return;
-    }
-    if j.head == END {
-        let c = j.c;
-        change_name(a.octave, c);
-        return;
-    }
-    if j.head == DUE {
-        faults_name(a.octave, j.low, j.high);
+    let c = j.c;
+    let way = a.way;
+    let first = j.head;
+    match first {
+        Head::Quiet => {}
+        Head::Case => worked_case(cells, theme, s, a),
+        Head::End => change_name(way, c),
+        Head::Due => faults_name(way, j.low, j.high),
     }
 }
 
@@ -271,7 +283,8 @@ pub fn tail(j: Job) {
     if !j.loud {
         return;
     }
-    if j.call == QUICK {
+    let call = j.call;
+    if let Call::Quick = call {
         line();
     }
 }

@@ -9,17 +9,15 @@ use cases::buffers::Shifts;
 use cases::buffers::Table;
 use cases::compare::Seen;
 use cases::compare::beside_fault;
+use cases::compare::differs;
 use cases::compare::page_fault;
 use cases::compare::quick_fault;
 use cases::compare::sets_fault;
 use cases::marks::mark_sets;
 use cases::marks::mark_shifts;
 use cases::marks::mark_words;
-use second::away::Ask;
-use second::away::BOTH;
-use second::away::PLAIN;
-use second::away::PREPARE;
-use second::away::QUICK;
+use second::asks::Ask;
+use second::asks::Call;
 use second::totals::more;
 
 fn mark_page(columns: &mut Columns, shifts: &mut Shifts, a: Ask) {
@@ -37,9 +35,9 @@ pub fn turn_plain(
 ) -> Seen {
     mark_page(columns, shifts, a);
     let got = ask_plain(cells, theme, columns, shifts, a);
-    let fault = page_fault(cells, theme, sets, columns, shifts, a, PLAIN, got);
+    let fault = page_fault(cells, theme, sets, columns, shifts, a, Call::Plain, got);
     Seen {
-        call: PLAIN,
+        call: Call::Plain,
         fault,
         got,
     }
@@ -61,7 +59,7 @@ pub fn turn_quick(
     let got = ask_quick(cells, theme, sets, table, columns, shifts, a);
     let fault = quick_fault(cells, theme, sets, table, columns, shifts, a, deep, got);
     Seen {
-        call: QUICK,
+        call: Call::Quick,
         fault,
         got,
     }
@@ -76,7 +74,7 @@ pub fn turn_prepare(cells: &[u8], theme: &[u8], sets: &mut Sets, a: Ask) -> Seen
     let got = ask_prepare(cells, sets, a);
     let fault = sets_fault(cells, theme, sets, a, got);
     Seen {
-        call: PREPARE,
+        call: Call::Prepare,
         fault,
         got,
     }
@@ -94,18 +92,20 @@ pub fn turn_both(
     deep: bool,
 ) -> Seen {
     let p = turn_plain(cells, theme, sets, columns, shifts, a);
-    if p.fault != 0 {
+    let fault_of_plain = p.fault;
+    if differs(fault_of_plain) {
         return p;
     }
     let q = turn_quick(cells, theme, sets, table, columns, shifts, a, deep);
-    if q.fault != 0 {
+    let fault_of_quick = q.fault;
+    if differs(fault_of_quick) {
         return q;
     }
     let plain = p.got;
     let got = q.got;
     let fault = beside_fault(plain, got);
     Seen {
-        call: BOTH,
+        call: Call::Both,
         fault,
         got,
     }

@@ -5,10 +5,13 @@ use Rattle.trials.proofs.run.Statement.{statement}
 use Rattle.trials.proofs.run.Tie as tie
 
 abbrev Inv-loop : tie.InvT-loop
-Inv-loop cells₀ theme₀ sets₀ table₀ columns₀ shifts₀ tally₀ k₀ cells theme sets table columns shifts tally k = Unit {0}
+Inv-loop cells₀ theme₀ sets₀ table₀ columns₀ shifts₀ tally₀ k₀ k-end cells theme sets table columns shifts tally k = Unit {0}
 
 abbrev μ-loop : tie.MeasureT-loop
-μ-loop cells₀ theme₀ sets₀ table₀ columns₀ shifts₀ tally₀ k₀ cells theme sets table columns shifts tally k = 344666 - k
+μ-loop cells₀ theme₀ sets₀ table₀ columns₀ shifts₀ tally₀ k₀ k-end cells theme sets table columns shifts tally k = k-end - k
+
+jobs-requires : tie.Need-jobs-requires Inv-loop μ-loop
+jobs-requires c κs = search needs
 
 loop-holds : tie.Need-loop-holds Inv-loop μ-loop
 loop-holds c = search needs
@@ -40,6 +43,7 @@ run-spec =
     (tie.spec
     Inv-loop
     μ-loop
+    jobs-requires
     loop-holds
     job-requires
     attempt-requires

@@ -5,10 +5,10 @@ use Rattle.cases.proofs.compare.follow.Statement.{statement}
 use Rattle.cases.proofs.compare.follow.Tie as tie
 
 abbrev Inv-loop : tie.InvT-loop
-Inv-loop cells theme sets columns shifts a quick got column₀ c₀ looks₀ k₀ k-end column c looks k = Unit {0}
+Inv-loop cells theme sets columns shifts a call got column₀ c₀ looks₀ k₀ k-end column c looks k = Unit {0}
 
 abbrev μ-loop : tie.MeasureT-loop
-μ-loop cells theme sets columns shifts a quick got column₀ c₀ looks₀ k₀ k-end column c looks k = k-end - k
+μ-loop cells theme sets columns shifts a call got column₀ c₀ looks₀ k₀ k-end column c looks k = k-end - k
 
 size16-requires : tie.Need-size16-requires Inv-loop μ-loop
 size16-requires c κs = search needs
@@ -16,8 +16,8 @@ size16-requires c κs = search needs
 loop-holds : tie.Need-loop-holds Inv-loop μ-loop
 loop-holds c = search needs
 
-next-of-requires : tie.Need-next-of-requires Inv-loop μ-loop
-next-of-requires c κs = search needs
+next-pair-requires : tie.Need-next-pair-requires Inv-loop μ-loop
+next-pair-requires c κs = search needs
 
 more-requires : tie.Need-more-requires Inv-loop μ-loop
 more-requires c κs = search needs
@@ -60,7 +60,7 @@ follow-spec =
     μ-loop
     size16-requires
     loop-holds
-    next-of-requires
+    next-pair-requires
     more-requires
     turn-fault-requires
     returns

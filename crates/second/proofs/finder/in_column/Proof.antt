@@ -5,10 +5,10 @@ use Rattle.second.proofs.finder.in_column.Statement.{statement}
 use Rattle.second.proofs.finder.in_column.Tie as tie
 
 abbrev Inv-loop : tie.InvT-loop
-Inv-loop cells h theme m octave j from looks₀ s₀ s-end looks s = Unit {0}
+Inv-loop cells theme a j from way looks₀ s₀ s-end looks s = Unit {0}
 
 abbrev μ-loop : tie.MeasureT-loop
-μ-loop cells h theme m octave j from looks₀ s₀ s-end looks s = s-end - s
+μ-loop cells theme a j from way looks₀ s₀ s-end looks s = s-end - s
 
 span-requires : tie.Need-span-requires Inv-loop μ-loop
 span-requires c κs = search needs

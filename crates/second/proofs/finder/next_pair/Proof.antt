@@ -5,10 +5,13 @@ use Rattle.second.proofs.finder.next_pair.Statement.{statement}
 use Rattle.second.proofs.finder.next_pair.Tie as tie
 
 abbrev Inv-loop : tie.InvT-loop
-Inv-loop cells h n theme m sets octave quick column shift looks₀ from₀ j₀ j-end looks from j = Unit {0}
+Inv-loop cells theme sets a call column shift way n looks₀ from₀ j₀ j-end looks from j = Unit {0}
 
 abbrev μ-loop : tie.MeasureT-loop
-μ-loop cells h n theme m sets octave quick column shift looks₀ from₀ j₀ j-end looks from j = j-end - j
+μ-loop cells theme sets a call column shift way n looks₀ from₀ j₀ j-end looks from j = j-end - j
+
+columns-of-requires : tie.Need-columns-of-requires Inv-loop μ-loop
+columns-of-requires c κs = search needs
 
 last-start-requires : tie.Need-last-start-requires Inv-loop μ-loop
 last-start-requires c κs = search needs
@@ -16,8 +19,8 @@ last-start-requires c κs = search needs
 loop-holds : tie.Need-loop-holds Inv-loop μ-loop
 loop-holds c = search needs
 
-candidate-requires : tie.Need-candidate-requires Inv-loop μ-loop
-candidate-requires c κs = search needs
+reached-requires : tie.Need-reached-requires Inv-loop μ-loop
+reached-requires c κs = search needs
 
 in-column-requires : tie.Need-in-column-requires Inv-loop μ-loop
 in-column-requires c κs = search needs
@@ -55,9 +58,10 @@ next-pair-spec =
     (tie.spec
     Inv-loop
     μ-loop
+    columns-of-requires
     last-start-requires
     loop-holds
-    candidate-requires
+    reached-requires
     in-column-requires
     more-requires
     returns

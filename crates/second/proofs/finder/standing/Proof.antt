@@ -5,10 +5,10 @@ use Rattle.second.proofs.finder.standing.Statement.{statement}
 use Rattle.second.proofs.finder.standing.Tie as tie
 
 abbrev Inv-loop : tie.InvT-loop
-Inv-loop cells h theme m octave j c i₀ i = Unit {0}
+Inv-loop cells theme a j c way i₀ i-end i = Unit {0}
 
 abbrev μ-loop : tie.MeasureT-loop
-μ-loop cells h theme m octave j c i₀ i = m - i
+μ-loop cells theme a j c way i₀ i-end i = i-end - i
 
 loop-holds : tie.Need-loop-holds Inv-loop μ-loop
 loop-holds c = search needs

@@ -5,13 +5,13 @@ use Rattle.trials.proofs.lists.list.Statement.{statement}
 use Rattle.trials.proofs.lists.list.Tie as tie
 
 abbrev Inv-loop : tie.InvT-loop
-Inv-loop cells theme sets table₀ columns₀ shifts₀ tally₀ a call deep loud shift r₀ p₀ table columns shifts tally r p = Unit {0}
+Inv-loop cells theme sets table₀ columns₀ shifts₀ tally₀ j a r₀ p₀ table columns shifts tally r p = Unit {0}
 
 abbrev μ-loop : tie.MeasureT-loop
-μ-loop cells theme sets table₀ columns₀ shifts₀ tally₀ a call deep loud shift r₀ p₀ table columns shifts tally r p = 70000 - p
+μ-loop cells theme sets table₀ columns₀ shifts₀ tally₀ j a r₀ p₀ table columns shifts tally r p = 70000 - p
 
-lowest-requires : tie.Need-lowest-requires Inv-loop μ-loop
-lowest-requires c κs = search needs
+unread-requires : tie.Need-unread-requires Inv-loop μ-loop
+unread-requires c κs = search needs
 
 loop-holds : tie.Need-loop-holds Inv-loop μ-loop
 loop-holds c = search needs
@@ -46,7 +46,7 @@ list-spec =
     (tie.spec
     Inv-loop
     μ-loop
-    lowest-requires
+    unread-requires
     loop-holds
     returns
     read-on-requires

@@ -1,0 +1,67 @@
+// A job put into the lent buffers: its score, the sets of that score or of another one, its theme, and the changes to them.
+
+use crate::answers::ask_prepare;
+use crate::buffers::Cells;
+use crate::buffers::Sets;
+use crate::buffers::Theme;
+use crate::changes::Change;
+use crate::changes::change_bytes;
+use crate::changes::change_sets;
+use crate::jobs::Job;
+use crate::jobs::Source;
+use crate::random::fill;
+use crate::random::fill_theme;
+use crate::worked::load;
+use crate::worked::load_theme;
+use crate::worlds::spell;
+use second::asks::Ask;
+
+// Puts a score into the lent buffer.
+fn put_score(cells: &mut Cells, source: Source, k: usize, many: usize) {
+    match source {
+        Source::Worked => load(cells, k),
+        Source::World => spell(cells, many, k, 4),
+        Source::Random => fill(cells, many, k),
+    }
+}
+
+fn put_theme(cells: &[u8], theme: &mut Theme, source: Source, k: usize, a: Ask) {
+    match source {
+        Source::Worked => load_theme(theme, k),
+        Source::World => spell(theme, 3, k, 3),
+        Source::Random => fill_theme(cells, theme, a, k),
+    }
+}
+
+// The sets of the score, where it is one, with two changes.
+fn put_sets(cells: &[u8], sets: &mut Sets, a: Ask, c: Change, d: Change) {
+    ask_prepare(cells, sets, a);
+    change_sets(sets, c);
+    change_sets(sets, d);
+}
+
+fn put_changes(cells: &mut Cells, theme: &mut Theme, c: Change, d: Change) {
+    change_bytes(cells, theme, c);
+    change_bytes(cells, theme, d);
+}
+
+// The score and its sets, or those of another one.
+pub fn arrange(cells: &mut Cells, sets: &mut Sets, j: Job) {
+    let source = j.source;
+    let a = j.a;
+    let c = j.c;
+    let d = j.d;
+    put_score(cells, source, j.sets_of, a.cells);
+    put_sets(cells, sets, a, c, d);
+    put_score(cells, source, j.score, a.cells);
+}
+
+// The theme, and the changes.
+pub fn arrange_theme(cells: &mut Cells, theme: &mut Theme, j: Job) {
+    let source = j.source;
+    let a = j.a;
+    let c = j.c;
+    let d = j.d;
+    put_theme(cells, theme, source, j.theme, a);
+    put_changes(cells, theme, c, d);
+}
