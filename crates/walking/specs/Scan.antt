@@ -9,7 +9,7 @@ use lib.ListN.{length, getD}
 use Rattle.theory.specs.Bits.{bit}
 use Rattle.theory.specs.Register.{regFrom}
 use Rattle.walking.specs.Candidates.{candidate}
-use Rattle.filter.specs.Table.{wordBits}
+use Rattle.filter.specs.Limits.{wordBits}
 
 -- the table's word for entry k of the sets, from 0
 abbrev pub entryWord : (table sets : List ℕ) → ℕ → ℕ

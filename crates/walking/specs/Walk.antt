@@ -15,7 +15,7 @@ use Rattle.score.specs.Score.{pitch, columnAt, column, columnsIn}
 use Rattle.asking.specs.declared.way.Way.{Way}
 use Rattle.asking.specs.declared.way.Way.the-variants.{Exact, Octave}
 use Rattle.asking.specs.Way.{span, holds}
-use Rattle.filter.specs.Table.{wordBits}
+use Rattle.filter.specs.Limits.{wordBits}
 use Rattle.score.specs.Score.{note}
 use Rattle.walking.specs.Starts.{Place, place, codes, starts, hit, looks}
 use Rattle.walking.specs.Candidates.{quickStarts}

@@ -14,7 +14,7 @@ use Rattle.theory.specs.Pages.{from}
 use Rattle.theory.specs.Register.{regFrom}
 use Rattle.score.specs.Score.{columnsIn, scoreOf}
 use Rattle.asking.specs.declared.way.Way.{Way}
-use Rattle.filter.specs.Table.{wordBits}
+use Rattle.filter.specs.Limits.{wordBits}
 use Rattle.walking.specs.Starts.{key, starts}
 use Rattle.walking.specs.Candidates.{candidate}
 use Rattle.walking.specs.Scan.{entryWord, Runs, Seeks, keepOf, Filters, Comes}

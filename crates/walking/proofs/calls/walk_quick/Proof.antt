@@ -11,7 +11,7 @@ use Rattle.asking.specs.Way.{codeOf}
 use Rattle.asking.specs.Codes.{codeGiven}
 use Rattle.asking.proofs.Coding.{code-given}
 use Rattle.asking.proofs.Rows.{quick-clear}
-use Rattle.filter.specs.Table.{wordBits}
+use Rattle.filter.specs.Limits.{wordBits}
 use Rattle.filter.proofs.Words.{table-length, after-filled}
 use Rattle.walking.proofs.Answers.{accepted-ready, accepted-lent, finds-away, finds-done, plain-begins, quick-asks, table-kept, table-filled}
 use Rattle.walking.proofs.ring.Laws.{cached-none}
