@@ -1,19 +1,21 @@
 -- The bits of words: of a column, of the starts at which it holds a note, and of a word that was moved. Moved by a note, the word of a column
 -- has the starts at which it holds the note (`moved-held`). Assumes nothing.
-use mathlib.Core.Path.{_≡_, sym, ap, _∙_}
+use mathlib.Core.Path.{_≡_, ap, _∙_}
 use mathlib.Core.Bool.{Bool, true, false, cond}
 use mathlib.Core.List.{List}
-use Prim.Native.Nat.{ℕ, _+_, _-_, _%_, _^_, _≤_, _<_}
-use native.Mathlib.Nat.{mod-lt, zero-lt-suc}
-use native.Mathlib.Decide.{decLe, decLt}
+use Prim.Native.Nat.{ℕ, _+_, _-_, _*_, _/_, _%_, _^_, _≤_, _<_, max}
+use native.Mathlib.Nat.{mod-lt, zero-lt-suc, add-comm}
+use native.Mathlib.Decide.{decLe}
 use native.Mathlib.Omega.{arith}
+use lib.Bits.{bitOr}
 use lib.Dec.{eqb, leb}
-use lib.Pow.{ones-lt}
+use lib.Pow.{ones-lt, pow-pos}
 use borrow.Author.Tests.{le-leb, lt-leb, eq-eqb, ne-eqb}
 use Rattle.theory.specs.Bits.{bit, number}
-use Rattle.theory.proofs.Bits.{bit-lt, bit-high, bit-number, number-lt, number-same}
+use Rattle.theory.proofs.Bits.{bit-lt, bit-or, bit-shr, bit-mod, bit-high, bit-number, number-lt, number-unique, number-same}
 use Rattle.score.specs.declared.quantities.Pitch.{Pitch}
 use Rattle.preparing.proofs.ClassSets.{present, present-lt}
+use Rattle.preparing.proofs.Turning.{turned-bit}
 use Rattle.asking.specs.declared.way.Way.{Way}
 use Rattle.asking.specs.declared.way.Way.the-variants.{Exact, Octave}
 use Rattle.asking.specs.Way.{holds}
@@ -71,6 +73,25 @@ all-octave = value-few 4095
 
 -- ---- moved by a note
 
+pub turned-lt : (d x : ℕ) → turnedWord d x < 2 ^ 12
+unfolding turnedWord
+turned-lt d x = mod-lt _ (pow-pos 12)
+
+-- a bit that is turned comes from d above, or from 12 - d below
+pub turned-bits : (d x i : ℕ) → i < 12 → bit (turnedWord d x) i ≡ max (bit x (d + i)) (bit (x * 2 ^ (12 - d)) i)
+unfolding turnedWord
+turned-bits d x i k =
+    bit-mod (bitOr (x / 2 ^ d) (x * 2 ^ (12 - d))) i 12 k ∙ bit-or (x / 2 ^ d) (x * 2 ^ (12 - d)) i
+    ∙ ap (λ (n : ℕ). max n (bit (x * 2 ^ (12 - d)) i)) (bit-shr x d i)
+
+-- which is one bit, where there are twelve
+turned-is : (d x : ℕ) → d < 12 → x < 2 ^ 12 → turnedWord d x ≡ number 12 (λ i. bit x ((i + d) % 12))
+turned-is d x l h =
+    number-unique 12 (λ i. bit x ((i + d) % 12)) (λ i. bit-lt x ((i + d) % 12)) (turnedWord d x) (turned-lt d x)
+    (λ i k.
+    turned-bits d x i k ∙ rw (← bit-shr x d i, ← bit-mod (x * 2 ^ (12 - d)) i 12 k) (turned-bit 12 x d i (omega arith) h l k)
+    ∙ ap (λ (n : ℕ). bit x (n % 12)) (add-comm d i))
+
 module _ (first p : Pitch) (column : List ℕ) where
   -- the pitch that is sought from the i-th start lies i + p - first up, or there is none
   shifted : first .0 ≤ 127 → (i : ℕ)
@@ -97,6 +118,7 @@ module _ (first p : Pitch) (column : List ℕ) where
       rw (holds-octave (0 + i) p column, e) (word-bit Octave column ((p .0 + (0 + i)) % 12) (mod-lt (p .0 + (0 + i)) (zero-lt-suc 11)))
 
 pub moved-held : (way : Way) (first p : Pitch) (column : List ℕ) → first .0 ≤ 127 → movedWord way first p (columnWord way column) ≡ heldWord way first p column
-unfolding shiftedWord turnedWord heldWord
+unfolding shiftedWord heldWord
 moved-held Exact first p column f = number-same 128 _ _ (shifted first p column f)
-moved-held Octave first p column f = number-same 12 _ _ (round first p column)
+moved-held Octave first p column f =
+    turned-is (p .0 % 12) (columnWord Octave column) (mod-lt (p .0) (zero-lt-suc 11)) (word-lt Octave column) ∙ number-same 12 _ _ (round first p column)

@@ -1,21 +1,21 @@
 -- Shifts of the halves are shifts of the one number: down (`down-near`, `down-far`) and up (`up-near`, `up-far`), each by up to 63 places or
 -- by 64 and more; and twelve bits turned round (`turned-round`). Then the word moved by a note. Assumes nothing.
-use mathlib.Core.Path.{_≡_, sym, ap, _∙_}
+use mathlib.Core.Path.{_≡_, sym, ap, ap₂, _∙_}
 use mathlib.Core.Bool.{Bool, true, false, cond}
 use Prim.Native.Nat.{ℕ, _+_, _-_, _*_, _/_, _%_, _^_, _≤_, _<_, zero-le, max}
-use native.Mathlib.Nat.{mod-lt, add-comm, lt-of-le-of-lt}
+use native.Mathlib.Nat.{mod-lt, lt-of-le-of-lt}
 use native.Mathlib.Decide.{decLt}
 use native.Mathlib.Omega.{arith}
-use lib.Bits.{bitOr, bitAnd, or-lt, and-mask, mask-lt}
+use lib.Bits.{bitOr, bitAnd, or-lt, and-mask, or-mod}
 use lib.Dec.{leb}
-use lib.Pow.{pow-pos, shr-le}
+use lib.Pow.{pow-pos, shr-le, mod-mod-pow}
 use borrow.Author.Tests.{le-leb, lt-leb}
 use Rattle.theory.specs.Bits.{bit, number}
-use Rattle.theory.proofs.Bits.{bit-lt, bit-or, bit-shr, bit-mod, bit-high, number-unique, number-same}
+use Rattle.theory.proofs.Bits.{bit-lt, bit-or, bit-shr, bit-shl, bit-shl-low, bit-high, bit-ext, number-unique}
 use Rattle.theory.proofs.Masks.{shl-high, shl-low}
-use Rattle.preparing.proofs.Turning.{turned-bit}
 use Rattle.masks.specs.Masks.{value, turnedWord, shiftedWord}
 use Rattle.masks.proofs.Halves.{Halves, value-lt, value-is, bit-lower, bit-upper}
+use Rattle.masks.proofs.HeldWords.{turned-lt, turned-bits}
 
 no-bit : (i : ℕ) → bit 0 i ≡ 0
 no-bit i = bit-high 0 i 0 (omega arith) zero-le
@@ -146,28 +146,30 @@ module _ (low high d : ℕ) (h : Halves low high) where
       (λ i k. shl-bit i (bit 0 i) (omega arith) (λ m. absurd (omega arith)) (λ m. no-bit i))
       (λ i k. shl-bit (64 + i) (bit 0 i) (omega arith) (λ m. absurd (omega arith)) (λ m. no-bit i))
 
--- ---- twelve bits turned round, as code writes them
+-- ---- twelve bits turned round
 
-module _ (low d : ℕ) (l : d < 12) where
-  abbrev classes : ℕ
-  classes = bitAnd low 4095
-
-  abbrev both : ℕ
-  both = bitOr (classes / 2 ^ d) (classes * 2 ^ (12 - d) % 2 ^ 64)
-
-  pub turned-round : bitAnd both 4095 ≡ turnedWord d low
-  unfolding turnedWord
-  turned-round =
-      number-unique 12 (λ i. bit low ((i + d) % 12)) (λ i. bit-lt low ((i + d) % 12)) (bitAnd both 4095) (mask-lt both 12)
-      (λ i k.
-      ap (λ (n : ℕ). bit n i) (and-mask both 12) ∙ bit-mod both i 12 k ∙ bit-or (classes / 2 ^ d) (classes * 2 ^ (12 - d) % 2 ^ 64) i
-      ∙ turned-bit 64 classes d i (omega arith) (mask-lt low 12) l k ∙ ap (λ (n : ℕ). bit classes (n % 12)) (add-comm d i)
-      ∙ ap (λ (n : ℕ). bit n ((i + d) % 12)) (and-mask low 12) ∙ bit-mod low ((i + d) % 12) 12 (omega arith))
-
--- the twelve lowest bits are in the lower half
-pub turned-low : (d low high : ℕ) → Halves low high → turnedWord d low ≡ turnedWord d (value low high)
+-- as code writes them
+pub turned-round : (low d : ℕ) → bitAnd (bitOr (low / 2 ^ d) (low * 2 ^ (12 - d) % 2 ^ 64)) 4095 ≡ turnedWord d low
 unfolding turnedWord
-turned-low d low high h = number-same 12 _ _ (λ i. sym (bit-lower low high h ((i + d) % 12) (omega arith)))
+turned-round low d =
+    and-mask (bitOr (low / 2 ^ d) (low * 2 ^ (12 - d) % 2 ^ 64)) 12 ∙ or-mod (low / 2 ^ d) (low * 2 ^ (12 - d) % 2 ^ 64) 12
+    ∙ ap (bitOr (low / 2 ^ d % 2 ^ 12)) (mod-mod-pow (low * 2 ^ (12 - d)) 52 12) ∙ sym (or-mod (low / 2 ^ d) (low * 2 ^ (12 - d)) 12)
+
+-- the lower half alone is turned
+pub turned-low : (d low high : ℕ) → d < 12 → Halves low high → turnedWord d low ≡ turnedWord d (value low high)
+turned-low d low high l h =
+    bit-ext 12 (turnedWord d low) (turnedWord d (value low high)) (turned-lt d low) (turned-lt d (value low high))
+    (λ i k. turned-bits d low i k ∙ ap₂ max (same (d + i) (omega arith)) (up i k (decLt i (12 - d))) ∙ sym (turned-bits d (value low high) i k))
+  where
+    same : (i : ℕ) → i < 64 → bit low i ≡ bit (value low high) i
+    same i k = sym (bit-lower low high h i k)
+
+    up : (i : ℕ) → i < 12 → Dec (i < 12 - d) → bit (low * 2 ^ (12 - d)) i ≡ bit (value low high * 2 ^ (12 - d)) i
+    up i k (yes n) = bit-shl-low low (12 - d) i n ∙ sym (bit-shl-low (value low high) (12 - d) i n)
+    up i k (no n) =
+        let e : 12 - d + (i - (12 - d)) ≡ i = omega arith in
+        ap (bit (low * 2 ^ (12 - d))) (sym e) ∙ bit-shl low (12 - d) (i - (12 - d)) ∙ same (i - (12 - d)) (omega arith)
+        ∙ sym (bit-shl (value low high) (12 - d) (i - (12 - d))) ∙ ap (bit (value low high * 2 ^ (12 - d))) e
 
 -- ---- the word moved by a note: down where the note is above the first, up where it is below
 

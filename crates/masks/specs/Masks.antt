@@ -3,7 +3,8 @@
 -- else is said by halves. Assumes nothing.
 use mathlib.Core.Bool.{Bool, cond}
 use mathlib.Core.List.{List}
-use Prim.Native.Nat.{ℕ, _+_, _-_, _*_, _%_, _^_}
+use Prim.Native.Nat.{ℕ, _+_, _-_, _*_, _/_, _%_, _^_}
+use lib.Bits.{bitOr}
 use lib.Dec.{eqb, leb}
 use Rattle.theory.specs.Bits.{bit, number}
 use Rattle.theory.specs.Lists.{some}
@@ -51,7 +52,7 @@ allStarts way = 2 ^ width way - 1
 
 -- twelve bits turned down by d: what falls out below comes in above
 unfoldable pub turnedWord : (d x : ℕ) → ℕ
-turnedWord d x = number 12 (λ i. bit x ((i + d) % 12))
+turnedWord d x = bitOr (x / 2 ^ d) (x * 2 ^ (12 - d)) % 2 ^ 12
 
 -- 128 bits moved by the distance of a note from the first note: bit i is the one that far above, and 0 where there is none
 unfoldable pub shiftedWord : (first p x : ℕ) → ℕ

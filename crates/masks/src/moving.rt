@@ -5,7 +5,7 @@ use crate::word::Word;
 use asking::Way;
 use score::Pitch;
 ghost use mathlib.Core.Path.{_≡_};
-ghost use Prim.Native.Nat.{_+_, _*_, _/_, _%_, _^_, _<_};
+ghost use Prim.Native.Nat.{_*_, _/_, _%_, _^_, _<_};
 ghost use Rattle.masks.specs.Masks.{value, columnWord, turnedWord, movedWord};
 
 // The word moved down by d places.
@@ -50,17 +50,16 @@ fn up(w: Word, d: u8) -> Word
     }
 }
 
-// The twelve lowest bits turned down by d places, 0 to 11: what falls out below comes in above.
+// Twelve bits turned down by d places, 0 to 11: what falls out below comes in above.
 fn turned(low: u64, d: u8) -> u64
     requires { ⌜ d < 12 ⌝ }
     ensures { λ r. ⌜ r ≡ turnedWord d low ⌝ }
 {
-    let classes = low & 4095;
-    ((classes >> d) | (classes << (12 - d))) & 4095
+    ((low >> d) | (low << (12 - d))) & 4095
 }
 
 // The word moved by the note p, for a theme that begins with `first`: of the word of a column, the starts at which it holds p.
-// What comes from outside the word is 0, notes above 127 move it as far as they say, and in octave bits above the twelfth are not looked at.
+// What comes from outside the word is 0, notes above 127 move it as far as they say, and in octave twelve bits are given.
 pub fn moved(way: Way, w: Word, first: Pitch, p: Pitch) -> Word
     ensures { λ r. ⌜ value (r .low) (r .high) ≡ movedWord way first p (value (w .low) (w .high)) ⌝ }
 {

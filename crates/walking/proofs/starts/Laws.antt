@@ -10,7 +10,7 @@ use native.Mathlib.Omega.{arith}
 use lib.Dec.{leb, eqb}
 use lib.ListN.{length, getD, take, drop, length-take, length-drop, drop-of-length-le}
 use lib.Seq.{drop-cons, getD-take, getD-drop}
-use borrow.Author.Tests.{le-leb, leb-true, eq-eqb, ne-eqb, eqb-true, eqb-false}
+use borrow.Author.Tests.{le-leb, leb-true}
 use Rattle.theory.specs.Lists.{some, lower, lowest}
 use Rattle.theory.proofs.Lowest.{lowest-first, first-agree}
 use Rattle.score.specs.declared.quantities.Pitch.{Pitch}

@@ -2,6 +2,7 @@
 -- Assumes nothing.
 use borrow.Author.Needs.{needs}
 use mathlib.Core.Path.{_∙_}
+use native.Mathlib.Nat.{mod-lt, zero-lt-suc}
 use native.Mathlib.Omega.{arith}
 use Rattle.masks.proofs.Halves.{value-few, value-lt}
 use Rattle.masks.proofs.Shifting.{shifted-down, shifted-up, turned-low}
@@ -41,7 +42,7 @@ returns-3 : tie.Need-returns-3
 returns-3 c =
     let s = c .before .before .before .before .args in
     rw (c .before .before .enum-told2 .given .1)
-    (value-few _ ∙ c .turned .ensures ∙ turned-low _ (s .w .low) (s .w .high) (record { lower = omega arith; upper = omega arith }))
+    (value-few _ ∙ c .turned .ensures ∙ turned-low _ (s .w .low) (s .w .high) (mod-lt _ (zero-lt-suc 11)) (record { lower = omega arith; upper = omega arith }))
 
 pub moved-spec : {M : Type 1} → statement M
 moved-spec =

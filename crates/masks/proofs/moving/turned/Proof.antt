@@ -17,7 +17,7 @@ shl-result : tie.Need-shl-result
 shl-result c = search needs
 
 returns : tie.Need-returns
-returns c = turned-round (c .args .low) (c .args .d) (c .pre)
+returns c = turned-round (c .args .low) (c .args .d)
 
 pub turned-spec : {M : Type 1} → statement M
 turned-spec = tie.close (tie.spec shr-result sub-result cast-result shl-result returns)
