@@ -2,7 +2,7 @@
 use borrow.Author.Needs.{needs}
 use Prim.Native.Nat.{zero-le}
 use native.Mathlib.Omega.{arith}
-use Rattle.masks.proofs.Halves.{Halves, value-few-ones, value-ones}
+use Rattle.masks.proofs.Halves.{Halves, value-ones-le, value-ones}
 use Rattle.walking.proofs.alive.AtOnce.{at-once}
 use Rattle.walking.proofs.alive.try_alive.Statement.{statement}
 use Rattle.walking.proofs.alive.try_alive.Tie as tie
@@ -13,7 +13,7 @@ follow-requires c κs = search needs
 add-hits : tie.Need-add-hits
 add-hits c =
     let w = c .before .before .before .before .before .follow .result .word in
-    omega (arith, value-few-ones (w .low) (w .high) (record { lower = omega arith; upper = omega arith }))
+    omega (arith, value-ones-le (w .low) (w .high) (record { lower = omega arith; upper = omega arith }))
 
 sub-if1 : tie.Need-sub-if1
 sub-if1 c = search needs
@@ -21,7 +21,7 @@ sub-if1 c = search needs
 cast-if1 : tie.Need-cast-if1
 cast-if1 c =
     let w = c .before .before .before .before .before .follow .result .word in
-    omega (arith, value-few-ones (w .low) (w .high) (record { lower = omega arith; upper = omega arith }))
+    omega (arith, value-ones-le (w .low) (w .high) (record { lower = omega arith; upper = omega arith }))
 
 try-column-requires : tie.Need-try-column-requires
 try-column-requires c κs = let s = c .before .before .before .before .before .before .before .before .before .before .before .before .before .before in (s .pre .0, (s .pre .1 .0, (zero-le, s .pre .1 .1 .0 .0, s .pre .1 .1 .0 .1)))
