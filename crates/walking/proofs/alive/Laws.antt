@@ -1,7 +1,7 @@
 -- All starts of a column at once: the starts by their word, the notes that follow one by one, and what a column gives where
 -- there is room for all its hits. Assumes nothing.
 use mathlib.Core.Path.{_≡_, refl, sym, ap, _∙_}
-use mathlib.Core.Bool.{Bool, true, false, _&&_}
+use mathlib.Core.Bool.{Bool, true, false, _&&_, _||_}
 use mathlib.Core.List.{List, [], map, _++_, append-nil}
 use Prim.Native.Nat.{ℕ, suc, _+_, _-_, _*_, _^_, _≤_, _<_, zero-le}
 use native.Mathlib.Nat.{lt-of-le-of-lt}
@@ -54,6 +54,10 @@ small-length way first low high s = codes-length way first low high (small-low w
 pub both-left : (a b : Bool) → (a && b) ≡ true → a ≡ true
 both-left true b e = refl
 both-left false b e = e
+
+pub either-left : (a b : Bool) → (a || b) ≡ false → a ≡ false
+either-left true b e = e
+either-left false b e = refl
 
 -- a bit that is set is one of those used
 low-used : (way : Way) (low high i : ℕ) → Small way low high → bit low i ≡ 1 → i < 64 → i < width way
