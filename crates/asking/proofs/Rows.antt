@@ -11,13 +11,15 @@ use lib.IntN.{ℤ, pos, _+ℤ_}
 use lib.ListN.{length}
 use lib.Signed.{ltZ, _≤ℤ_, ltZ-no, ltZ-yes, clashℤ}
 use borrow.Author.Tests.{eq-eqb, ne-eqb, eqb-true, eqb-false, le-ltb, ltb-false, not-false}
+use Rattle.score.specs.Limits.{mostTracks, mostColumns, tableWords}
 use Rattle.score.specs.Score.{columnsIn}
-use Rattle.score.specs.Refusals.{Row, row1, row2, row3, row6, row7}
+use Rattle.score.specs.Refusals.{Row, row1, row2, row6}
+use Rattle.asking.specs.Limits.{mostNotes}
 use Rattle.asking.specs.declared.way.Way.{Way}
 use Rattle.asking.specs.declared.bookmark.Bookmark.{Bookmark}
 use Rattle.asking.specs.Way.{Range, rangeOf}
-use Rattle.asking.specs.Refusals.{row4, row5, row8, row9, row10, plainRows, quickRows}
-use Rattle.asking.specs.Asking.{Accepted, AcceptedSets, InRange, PlainAsks, QuickAsks}
+use Rattle.asking.specs.Refusals.{row4, row8, row9, row10, requestRows, setsRows, pageRows, plainRows, quickRows}
+use Rattle.asking.specs.Asking.{Accepted, AcceptedSets, InRange, PageAsks, PlainAsks, QuickAsks}
 use Rattle.score.proofs.Judged.{Clear, clear-append, clear-split}
 
 -- ---- tests that fail
@@ -45,22 +47,22 @@ not-overZ a b = (λ e. ltZ-no (subst (λ (t : Bool). T (not t)) (sym e) tt), λ 
 
 -- ---- row by row; rows 3, 5 and 7 say themselves that some entry is bad
 
-pub row1-clear : (h : ℕ) → (row1 h .applies ≡ false) ↔ ((1 ≤ h) × (h ≤ 16))
-row1-clear h = neither (eqb h 0) (ltb 16 h) (not-zero h) (not-over 16 h)
+pub row1-clear : (h : ℕ) → (row1 h .applies ≡ false) ↔ ((1 ≤ h) × (h ≤ mostTracks))
+row1-clear h = neither (eqb h 0) (ltb mostTracks h) (not-zero h) (not-over mostTracks h)
 
-pub row2-clear : (cells : List ℕ) (h : ℕ) → (row2 cells h .applies ≡ false) ↔ (((length cells % h ≡ 0) × (1 ≤ columnsIn cells h)) × (columnsIn cells h ≤ 2048))
+pub row2-clear : (cells : List ℕ) (h : ℕ) → (row2 cells h .applies ≡ false) ↔ (((length cells % h ≡ 0) × (1 ≤ columnsIn cells h)) × (columnsIn cells h ≤ mostColumns))
 row2-clear cells h =
-    neither (not (eqb (length cells % h) 0) || eqb (columnsIn cells h) 0) (ltb 2048 (columnsIn cells h))
-    (neither (not (eqb (length cells % h) 0)) (eqb (columnsIn cells h) 0) (equal (length cells % h) 0) (not-zero (columnsIn cells h))) (not-over 2048 (columnsIn cells h))
+    neither (not (eqb (length cells % h) 0) || eqb (columnsIn cells h) 0) (ltb mostColumns (columnsIn cells h))
+    (neither (not (eqb (length cells % h) 0)) (eqb (columnsIn cells h) 0) (equal (length cells % h) 0) (not-zero (columnsIn cells h))) (not-over mostColumns (columnsIn cells h))
 
-pub row4-clear : (theme : List ℕ) → (row4 theme .applies ≡ false) ↔ ((2 ≤ length theme) × (length theme ≤ 32))
-row4-clear theme = neither (ltb (length theme) 2) (ltb 32 (length theme)) (not-over (length theme) 2) (not-over 32 (length theme))
+pub row4-clear : (most : ℕ) (theme : List ℕ) → (row4 most theme .applies ≡ false) ↔ ((2 ≤ length theme) × (length theme ≤ most))
+row4-clear most theme = neither (ltb (length theme) 2) (ltb most (length theme)) (not-over (length theme) 2) (not-over most (length theme))
 
 pub row6-clear : (cells : List ℕ) (h : ℕ) (sets : List ℕ) → (row6 cells h sets .applies ≡ false) ↔ (length sets ≡ columnsIn cells h - 1)
 row6-clear cells h sets = equal (length sets) (columnsIn cells h - 1)
 
-pub row8-clear : (table : List ℕ) → (row8 (length table) .applies ≡ false) ↔ (length table ≡ 4096)
-row8-clear table = equal (length table) 4096
+pub row8-clear : (table : List ℕ) → (row8 (length table) .applies ≡ false) ↔ (length table ≡ tableWords)
+row8-clear table = equal (length table) tableWords
 
 pub row9-clear : (columns : List ℕ) (shifts : List ℤ) → (row9 (length columns) (length shifts) .applies ≡ false) ↔ ((1 ≤ length columns) × (length shifts ≡ length columns))
 row9-clear columns shifts =
@@ -87,34 +89,24 @@ module _ (range : Range) (n : ℕ) (b : Bookmark) where
 
 -- ---- the rows of a call
 
--- of a score and a theme, of lent sets and a table, of a room and a bookmark
-abbrev pub scoreRows : (cells : List ℕ) (h : ℕ) (theme : List ℕ) → List Row
-scoreRows cells h theme = row1 h ∷ row2 cells h ∷ row3 cells ∷ row4 theme ∷ row5 theme ∷ []
-
-abbrev pub setsRows : (cells : List ℕ) (h : ℕ) (sets table : List ℕ) → List Row
-setsRows cells h sets table = row6 cells h sets ∷ row7 sets ∷ row8 (length table) ∷ []
-
-abbrev pub pageRows : Range → (n : ℕ) → Bookmark → (columns : List ℕ) (shifts : List ℤ) → List Row
-pageRows range n b columns shifts = row9 (length columns) (length shifts) ∷ row10 range n b ∷ []
-
-module _ (cells : List ℕ) (h : ℕ) (theme : List ℕ) where
-  pub accepted-clear : Accepted cells h theme ↔ Clear (scoreRows cells h theme)
+module _ (most : ℕ) (cells : List ℕ) (h : ℕ) (theme : List ℕ) where
+  pub accepted-clear : Accepted most cells h theme ↔ Clear (requestRows most cells h theme)
   accepted-clear = (of, to)
     where
-      of : Accepted cells h theme → Clear (scoreRows cells h theme)
+      of : Accepted most cells h theme → Clear (requestRows most cells h theme)
       of a = (
         row1-clear h .1 (a .tracks-some, a .tracks-few),
         (
           row2-clear cells h .1 ((a .columns-whole, a .columns-some), a .columns-few),
-          (a .cells-good, (row4-clear theme .1 (a .notes-some, a .notes-few), (a .notes-good, tt))),
+          (a .cells-good, (row4-clear most theme .1 (a .notes-some, a .notes-few), (a .notes-good, tt))),
         ),
       )
 
-      to : Clear (scoreRows cells h theme) → Accepted cells h theme
+      to : Clear (requestRows most cells h theme) → Accepted most cells h theme
       to c =
           let tracks = row1-clear h .0 (c .0) in
           let columns = row2-clear cells h .0 (c .1 .0) in
-          let notes = row4-clear theme .0 (c .1 .1 .1 .0) in
+          let notes = row4-clear most theme .0 (c .1 .1 .1 .0) in
           record {
             tracks-some = tracks .0;
             tracks-few = tracks .1;
@@ -127,14 +119,14 @@ module _ (cells : List ℕ) (h : ℕ) (theme : List ℕ) where
             notes-good = c .1 .1 .1 .1 .0;
           }
 
-pub sets-clear : (cells : List ℕ) (h : ℕ) (sets table : List ℕ) → (AcceptedSets cells h sets × (length table ≡ 4096)) ↔ Clear (setsRows cells h sets table)
+pub sets-clear : (cells : List ℕ) (h : ℕ) (sets table : List ℕ) → (AcceptedSets cells h sets × (length table ≡ tableWords)) ↔ Clear (setsRows cells h sets (length table))
 sets-clear cells h sets table = (
   λ a. (row6-clear cells h sets .1 (a .0 .one-less), (a .0 .sets-good, (row8-clear table .1 (a .1), tt))),
   λ c. (record { one-less = row6-clear cells h sets .0 (c .0); sets-good = c .1 .0 }, row8-clear table .0 (c .1 .1 .0)),
 )
 
 module _ (range : Range) (n : ℕ) (b : Bookmark) (columns : List ℕ) (shifts : List ℤ) where
-  pub page-clear : ((1 ≤ length columns) × (length shifts ≡ length columns) × InRange range n b) ↔ Clear (pageRows range n b columns shifts)
+  pub page-clear : ((1 ≤ length columns) × (length shifts ≡ length columns) × InRange range n b) ↔ Clear (pageRows range n b (length columns) (length shifts))
   page-clear = (
     λ a. (row9-clear columns shifts .1 (a .0, a .1), (row10-clear range n b .1 (a .2), tt)),
     λ c. let r = row9-clear columns shifts .0 (c .0) in (r .0, r .1, row10-clear range n b .0 (c .1 .0)),
@@ -143,28 +135,47 @@ module _ (range : Range) (n : ℕ) (b : Bookmark) (columns : List ℕ) (shifts :
 -- ---- a call is asked right exactly where none of its rows applies
 
 module _ (cells : List ℕ) (h : ℕ) (theme : List ℕ) (way : Way) (b : Bookmark) (columns : List ℕ) (shifts : List ℤ) where
+  abbrev request : List Row
+  request = requestRows mostNotes cells h theme
+
+  abbrev page : List Row
+  page = pageRows (rangeOf way) (columnsIn cells h) b (length columns) (length shifts)
+
+  abbrev PageClear : Type 0
+  PageClear = (1 ≤ length columns) × (length shifts ≡ length columns) × InRange (rangeOf way) (columnsIn cells h) b
+
+  page-right : PageClear ↔ Clear page
+  page-right = page-clear (rangeOf way) (columnsIn cells h) b columns shifts
+
+  page-asks : {most : ℕ} → Accepted most cells h theme → PageClear → PageAsks most cells h theme way b columns shifts
+  page-asks a p = record { accepted = a; room = p .0; same-room = p .1; marked = p .2 }
+
   pub plain-clear : PlainAsks cells h theme way b columns shifts ↔ Clear (plainRows cells h theme way b columns shifts)
   plain-clear = (
-    λ a. clear-append (scoreRows cells h theme) (pageRows (rangeOf way) (columnsIn cells h) b columns shifts) (accepted-clear cells h theme .0 (a .accepted))
-        (page-clear (rangeOf way) (columnsIn cells h) b columns shifts .0 (a .room, a .same-room, a .marked)),
-    λ c. let d = clear-split (scoreRows cells h theme) (pageRows (rangeOf way) (columnsIn cells h) b columns shifts) c in
-        let p = page-clear (rangeOf way) (columnsIn cells h) b columns shifts .1 (d .1) in
-        record { accepted = accepted-clear cells h theme .1 (d .0); room = p .0; same-room = p .1; marked = p .2 },
+    λ a. clear-append request page (accepted-clear mostNotes cells h theme .0 (a .accepted)) (page-right .0 (a .room, a .same-room, a .marked)),
+    λ c. let d = clear-split request page c in page-asks (accepted-clear mostNotes cells h theme .1 (d .0)) (page-right .1 (d .1)),
   )
 
 module _ (cells : List ℕ) (h : ℕ) (theme : List ℕ) (way : Way) (b : Bookmark) (sets table columns : List ℕ) (shifts : List ℤ) where
+  abbrev asked : List Row
+  asked = requestRows mostNotes cells h theme
+
+  abbrev lent : List Row
+  lent = setsRows cells h sets (length table)
+
+  abbrev after : List Row
+  after = pageRows (rangeOf way) (columnsIn cells h) b (length columns) (length shifts)
+
   pub quick-clear : QuickAsks cells h theme way b sets table columns shifts ↔ Clear (quickRows cells h theme way b sets table columns shifts)
   quick-clear = (
-    λ a. clear-append (scoreRows cells h theme) (setsRows cells h sets table ++ pageRows (rangeOf way) (columnsIn cells h) b columns shifts)
-        (accepted-clear cells h theme .0 (a .plain .accepted))
-        (clear-append (setsRows cells h sets table) (pageRows (rangeOf way) (columnsIn cells h) b columns shifts) (sets-clear cells h sets table .0 (a .with-sets, a .table-long))
-        (page-clear (rangeOf way) (columnsIn cells h) b columns shifts .0 (a .plain .room, a .plain .same-room, a .plain .marked))),
-    λ c. let d = clear-split (scoreRows cells h theme) (setsRows cells h sets table ++ pageRows (rangeOf way) (columnsIn cells h) b columns shifts) c in
-        let e = clear-split (setsRows cells h sets table) (pageRows (rangeOf way) (columnsIn cells h) b columns shifts) (d .1) in
+    λ a. clear-append asked (lent ++ after) (accepted-clear mostNotes cells h theme .0 (a .plain .accepted))
+        (clear-append lent after (sets-clear cells h sets table .0 (a .with-sets, a .table-long))
+        (page-right cells h theme way b columns shifts .0 (a .plain .room, a .plain .same-room, a .plain .marked))),
+    λ c. let d = clear-split asked (lent ++ after) c in
+        let e = clear-split lent after (d .1) in
         let s = sets-clear cells h sets table .1 (e .0) in
-        let p = page-clear (rangeOf way) (columnsIn cells h) b columns shifts .1 (e .1) in
         record {
-          plain = record { accepted = accepted-clear cells h theme .1 (d .0); room = p .0; same-room = p .1; marked = p .2 };
+          plain = page-asks cells h theme way b columns shifts (accepted-clear mostNotes cells h theme .1 (d .0)) (page-right cells h theme way b columns shifts .1 (e .1));
           with-sets = s .0;
           table-long = s .1;
         },

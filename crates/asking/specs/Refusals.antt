@@ -1,33 +1,35 @@
 -- The rows of the table of refusals that a search adds: 4, 5, 8, 9, 10; rows 1 to 3, 6 and 7 are the score's. Last, the
--- rows of each call, in order: `plainRows` and `quickRows`. Assumes nothing.
+-- rows that belong together, and those of each call, in order: `plainRows` and `quickRows`. Assumes nothing.
 use mathlib.Core.Bool.{Bool, not, _||_}
-use mathlib.Core.List.{List, [], _∷_}
+use mathlib.Core.List.{List, [], _∷_, _++_}
 use Prim.Native.Nat.{ℕ, _+_}
 use lib.Dec.{ltb, eqb}
 use lib.IntN.{ℤ, pos, _+ℤ_}
 use lib.ListN.{length}
 use lib.Signed.{ltZ}
 use Rattle.theory.specs.Lists.{some, first}
+use Rattle.score.specs.Limits.{highestPitch, tableWords}
 use Rattle.score.specs.Score.{columnsIn}
 use Rattle.score.specs.Refusals.{Row, row, row1, row2, row3, row6, row7}
 use Rattle.asking.specs.declared.way.Way.{Way}
 use Rattle.asking.specs.declared.bookmark.Bookmark.{Bookmark}
+use Rattle.asking.specs.Limits.{mostNotes}
 use Rattle.asking.specs.Way.{Range, rangeOf}
 
--- 4: theme under 2 or over 32 notes
-abbrev pub row4 : (theme : List ℕ) → Row
-row4 theme = row 4 (ltb (length theme) 2 || ltb 32 (length theme)) 0
+-- 4: theme under 2 or over `most` notes, which a call names: 32
+abbrev pub row4 : (most : ℕ) (theme : List ℕ) → Row
+row4 most theme = row 4 (ltb (length theme) 2 || ltb most (length theme)) 0
 
 -- 5: a theme byte over 127; the first such, from 0
 abbrev pub badNote : ℕ → Bool
-badNote p = ltb 127 p
+badNote p = ltb highestPitch p
 
 abbrev pub row5 : (theme : List ℕ) → Row
 row5 theme = row 5 (some badNote theme) (first badNote theme)
 
 -- 8: theme table isn't 4,096 long
 abbrev pub row8 : (long : ℕ) → Row
-row8 long = row 8 (not (eqb long 4096)) 0
+row8 long = row 8 (not (eqb long tableWords)) 0
 
 -- 9: r is 0, or the two buffers differ in length
 abbrev pub row9 : (r other : ℕ) → Row
@@ -40,15 +42,32 @@ row10 range n b =
     (eqb (b .column .0) 0 || ltb (n + 1) (b .column .0) || ltZ (b .shift) (range .lowest) || ltZ (range .highest +ℤ pos 1) (b .shift))
     0
 
+-- ---- rows that belong together
+
+-- a theme: 4, 5
+abbrev pub themeRows : (most : ℕ) (theme : List ℕ) → List Row
+themeRows most theme = row4 most theme ∷ row5 theme ∷ []
+
+-- a score and a theme: 1 to 5
+abbrev pub requestRows : (most : ℕ) (cells : List ℕ) (h : ℕ) (theme : List ℕ) → List Row
+requestRows most cells h theme = row1 h ∷ row2 cells h ∷ row3 cells ∷ themeRows most theme
+
+-- lent sets, and a table of this length: 6 to 8
+abbrev pub setsRows : (cells : List ℕ) (h : ℕ) (sets : List ℕ) (table : ℕ) → List Row
+setsRows cells h sets table = row6 cells h sets ∷ row7 sets ∷ row8 table ∷ []
+
+-- two buffers of these lengths, and a bookmark: 9, 10
+abbrev pub pageRows : Range → (n : ℕ) → Bookmark → (r other : ℕ) → List Row
+pageRows range n b r other = row9 r other ∷ row10 range n b ∷ []
+
 -- ---- the rows of each call, in order
 
 -- plain: 1 to 5, 9, 10
 abbrev pub plainRows : (cells : List ℕ) (h : ℕ) (theme : List ℕ) → Way → Bookmark → (columns : List ℕ) (shifts : List ℤ) → List Row
 plainRows cells h theme way b columns shifts =
-    row1 h ∷ row2 cells h ∷ row3 cells ∷ row4 theme ∷ row5 theme ∷ row9 (length columns) (length shifts) ∷ row10 (rangeOf way) (columnsIn cells h) b ∷ []
+    requestRows mostNotes cells h theme ++ pageRows (rangeOf way) (columnsIn cells h) b (length columns) (length shifts)
 
 -- quick: 1 to 10
 abbrev pub quickRows : (cells : List ℕ) (h : ℕ) (theme : List ℕ) → Way → Bookmark → (sets table columns : List ℕ) (shifts : List ℤ) → List Row
 quickRows cells h theme way b sets table columns shifts =
-    row1 h ∷ row2 cells h ∷ row3 cells ∷ row4 theme ∷ row5 theme ∷ row6 cells h sets ∷ row7 sets ∷ row8 (length table)
-    ∷ row9 (length columns) (length shifts) ∷ row10 (rangeOf way) (columnsIn cells h) b ∷ []
+    requestRows mostNotes cells h theme ++ setsRows cells h sets (length table) ++ pageRows (rangeOf way) (columnsIn cells h) b (length columns) (length shifts)

@@ -1,25 +1,39 @@
-// What a search turns away besides the score: the theme, the table, the room and the bookmark; and the checks of each call
-// in order. Every check is total, and says what the rows of the table of refusals say.
+// What a search turns away besides the score: the theme, the table, the room and the bookmark; the checks that calls share,
+// and those of each call in order. Every check is total, and says what the rows of the table of refusals say.
 
 use crate::bookmark::Bookmark;
 use crate::codes::out_of_range;
+use crate::limits::MOST_NOTES;
 use crate::way::Way;
 use score::Column;
+use score::HIGHEST_PITCH;
 use score::Refusal;
+use score::TABLE_WORDS;
 use score::Verdict;
 use score::check_score;
 use score::check_sets;
 use score::columns_in;
 ghost use mathlib.Core.Path.{_≡_};
 ghost use mathlib.Core.Bool.{_||_};
-ghost use mathlib.Core.List.{[], _∷_};
+ghost use mathlib.Core.List.{_++_};
 ghost use Prim.Native.Nat.{_+_};
 ghost use lib.Dec.{eqb, ltb};
 ghost use Rattle.theory.specs.Lists.{some, first};
 ghost use Rattle.score.specs.Score.{columnsIn};
-ghost use Rattle.score.specs.Refusals.{verdict, row1, row2, row3, row6, row7};
+ghost use Rattle.score.specs.Refusals.{verdict};
+ghost use Rattle.asking.specs.Limits.{mostNotes};
 ghost use Rattle.asking.specs.Way.{rangeOf};
-ghost use Rattle.asking.specs.Refusals.{badNote, row4, row5, row8, row9, row10};
+ghost use Rattle.asking.specs.Refusals.{badNote, row10, themeRows, requestRows, setsRows, pageRows};
+
+// Refusals 1 to 5, for a score and a theme of `most` notes at most.
+pub fn check_request(cells: &[u8], tracks: usize, theme: &[u8], most: usize) -> Verdict
+    ensures { λ v. ⌜ v ≡ verdict (requestRows most (now (cells .entry)) tracks (now (theme .entry))) ⌝ }
+{
+    if let Verdict::Refused(e) = check_score(cells, tracks) {
+        return Verdict::Refused(e);
+    }
+    check_theme(theme, most)
+}
 
 // Refusals 1 to 5, 9 and 10, for a plain page with room r and as many shifts as `other`.
 pub fn check_plain(
@@ -31,12 +45,9 @@ pub fn check_plain(
     r: usize,
     other: usize,
 ) -> Verdict
-    ensures { λ v. ⌜ v ≡ verdict (row1 tracks ∷ row2 (now (cells .entry)) tracks ∷ row3 (now (cells .entry)) ∷ row4 (now (theme .entry)) ∷ row5 (now (theme .entry)) ∷ row9 r other ∷ row10 (rangeOf way) (columnsIn (now (cells .entry)) tracks) bookmark ∷ []) ⌝ }
+    ensures { λ v. ⌜ v ≡ verdict (requestRows mostNotes (now (cells .entry)) tracks (now (theme .entry)) ++ pageRows (rangeOf way) (columnsIn (now (cells .entry)) tracks) bookmark r other) ⌝ }
 {
-    if let Verdict::Refused(e) = check_score(cells, tracks) {
-        return Verdict::Refused(e);
-    }
-    if let Verdict::Refused(e) = check_theme(theme) {
+    if let Verdict::Refused(e) = check_request(cells, tracks, theme, MOST_NOTES) {
         return Verdict::Refused(e);
     }
     check_page(way, columns_in(cells, tracks), bookmark, r, other)
@@ -54,18 +65,15 @@ pub fn check_quick(
     r: usize,
     other: usize,
 ) -> Verdict
-    ensures { λ v. ⌜ v ≡ verdict (row1 tracks ∷ row2 (now (cells .entry)) tracks ∷ row3 (now (cells .entry)) ∷ row4 (now (theme .entry)) ∷ row5 (now (theme .entry)) ∷ row6 (now (cells .entry)) tracks (now (sets .entry)) ∷ row7 (now (sets .entry)) ∷ row8 table ∷ row9 r other ∷ row10 (rangeOf way) (columnsIn (now (cells .entry)) tracks) bookmark ∷ []) ⌝ }
+    ensures { λ v. ⌜ v ≡ verdict (requestRows mostNotes (now (cells .entry)) tracks (now (theme .entry)) ++ setsRows (now (cells .entry)) tracks (now (sets .entry)) table ++ pageRows (rangeOf way) (columnsIn (now (cells .entry)) tracks) bookmark r other) ⌝ }
 {
-    if let Verdict::Refused(e) = check_score(cells, tracks) {
-        return Verdict::Refused(e);
-    }
-    if let Verdict::Refused(e) = check_theme(theme) {
+    if let Verdict::Refused(e) = check_request(cells, tracks, theme, MOST_NOTES) {
         return Verdict::Refused(e);
     }
     if let Verdict::Refused(e) = check_sets(cells, tracks, sets) {
         return Verdict::Refused(e);
     }
-    if table != 4096 {
+    if table != TABLE_WORDS {
         return refused(8, 0);
     }
     let n = columns_in(cells, tracks);
@@ -79,11 +87,11 @@ fn refused(number: u8, place: usize) -> Verdict
     Verdict::Refused(Refusal { number, place })
 }
 
-// Refusals 4 and 5: the number of notes, and the notes themselves.
-fn check_theme(theme: &[u8]) -> Verdict
-    ensures { λ r. ⌜ r ≡ verdict (row4 (now (theme .entry)) ∷ row5 (now (theme .entry)) ∷ []) ⌝ }
+// Refusals 4 and 5: the number of notes, 2 to `most`, and the notes themselves.
+pub fn check_theme(theme: &[u8], most: usize) -> Verdict
+    ensures { λ r. ⌜ r ≡ verdict (themeRows most (now (theme .entry))) ⌝ }
 {
-    if (theme.len() < 2) | (32 < theme.len()) {
+    if (theme.len() < 2) | (most < theme.len()) {
         return refused(4, 0);
     }
     if any_bad_note(theme) {
@@ -93,8 +101,8 @@ fn check_theme(theme: &[u8]) -> Verdict
 }
 
 // Refusals 9 and 10: the room of the two buffers, and the bookmark.
-fn check_page(way: Way, n: usize, bookmark: Bookmark, r: usize, other: usize) -> Verdict
-    ensures { λ v. ⌜ v ≡ verdict (row9 r other ∷ row10 (rangeOf way) n bookmark ∷ []) ⌝ }
+pub fn check_page(way: Way, n: usize, bookmark: Bookmark, r: usize, other: usize) -> Verdict
+    ensures { λ v. ⌜ v ≡ verdict (pageRows (rangeOf way) n bookmark r other) ⌝ }
 {
     if (r == 0) | (other != r) {
         return refused(9, 0);
@@ -131,7 +139,7 @@ fn any_bad_note(theme: &[u8]) -> bool
     let mut bad = false;
     let mut i = 0;
     while i < theme.len() {
-        bad = bad | (127 < theme[i]);
+        bad = bad | (HIGHEST_PITCH < theme[i]);
         i += 1;
     }
     bad
@@ -143,7 +151,7 @@ fn first_bad_note(theme: &[u8]) -> usize
 {
     let mut i = 0;
     while i < theme.len() {
-        if 127 < theme[i] {
+        if HIGHEST_PITCH < theme[i] {
             return i;
         }
         i += 1;

@@ -7,10 +7,10 @@ use mathlib.Core.List.{List, [], _∷_}
 use Prim.Native.Nat.{ℕ, zero, suc, _+_, _≤_, zero-le}
 use native.Mathlib.Nat.{mul-le-mul}
 use native.Mathlib.Omega.{arith}
-use lib.IntN.{ℤ}
-use lib.ListN.{length}
-use Rattle.theory.specs.Pages.{pageHits, pageLooks, from}
+use lib.ListN.{length, length-map}
+use Rattle.theory.specs.Pages.{pageHits, pageLooks}
 use Rattle.theory.proofs.Lists.{some-first}
+use Rattle.score.specs.Limits.{mostTracks, mostColumns, mostCells}
 use Rattle.score.specs.declared.refusals.Refusal.{Refusal}
 use Rattle.score.specs.Score.{columnsIn, scoreOf}
 use Rattle.score.specs.Refusals.{Row, judge, row1, row2, row3, row6, row7, badCell, badSet}
@@ -18,19 +18,19 @@ use Rattle.score.specs.Sets.{sets as setsOf}
 use Rattle.preparing.specs.declared.sets.Preparation.the-variants.{Prepared, Refused as Away}
 use Rattle.preparing.specs.Preparing.{Filled, prepared}
 use Rattle.score.proofs.Columns.{columns-whole}
+use Rattle.asking.specs.Limits.{mostNotes}
 use Rattle.asking.specs.declared.way.Way.{Way}
 use Rattle.asking.specs.declared.bookmark.Bookmark.{Bookmark}
-use Rattle.walking.specs.Starts.{Place, key, starts, hit, looks}
+use Rattle.walking.specs.Starts.{Place, looks}
 use Rattle.asking.specs.Way.{rangeOf}
-use Rattle.asking.specs.Bookmarks.{keyOf}
-use Rattle.asking.specs.Refusals.{row4, row5, row8, badNote}
-use Rattle.filter.specs.Table.{themeTable}
-use Rattle.search.specs.Page.{Leaf, QuickLeaf, leaf, plainPage, quickPage}
-use Rattle.walking.specs.Candidates.{quickStarts}
-use Rattle.asking.specs.Refusals.{plainRows, quickRows}
-use Rattle.asking.proofs.Rows.{row1-clear, row2-clear, row4-clear, row6-clear, pageRows}
-use Rattle.search.proofs.PlainCall.{plainRefused, plainLeaf}
-use Rattle.search.proofs.QuickCall.{quickRefused, quickLeaf}
+use Rattle.asking.specs.Refusals.{row4, row5, row8, badNote, pageRows}
+use Rattle.filter.specs.Table.{wordBits, themeTable}
+use Rattle.paging.specs.Lent.{Lent}
+use Rattle.paging.specs.Search.{Search, left}
+use Rattle.paging.specs.Page.{Leaf, leaf, away}
+use Rattle.search.specs.Pairs.{plainSearch, quickSearch}
+use Rattle.search.specs.Page.{rowsOfPlain, rowsOfQuick, plainPage, quickPage}
+use Rattle.asking.proofs.Rows.{row1-clear, row2-clear, row4-clear, row6-clear}
 use Rattle.finder_c.specs.Small.{SmallPlace, SmallPreparation, SmallPage}
 
 -- ---- rows
@@ -55,11 +55,11 @@ nowhere = record { place = omega arith }
 
 -- ---- rows that name one
 
-cells-few : (cells : List ℕ) (h : ℕ) → row1 h .applies ≡ false → row2 cells h .applies ≡ false → length cells ≤ 32768
+cells-few : (cells : List ℕ) (h : ℕ) → row1 h .applies ≡ false → row2 cells h .applies ≡ false → length cells ≤ mostCells
 cells-few cells h a b =
     let one = row1-clear h .0 a in
     let two = row2-clear cells h .0 b in
-    omega (arith, columns-whole cells h (two .0 .0), mul-le-mul {n₁ = columnsIn cells h} {m₁ = h} {n₂ = 2048} {m₂ = 16} (two .1) (one .1))
+    omega (arith, columns-whole cells h (two .0 .0), mul-le-mul {n₁ = columnsIn cells h} {m₁ = h} {n₂ = mostColumns} {m₂ = mostTracks} (two .1) (one .1))
 
 score-small : (X : Type 0) (cells : List ℕ) (h : ℕ) (rows : List Row) → (row2 cells h .applies ≡ false → SmallRows X rows)
     → SmallRows X (row1 h ∷ row2 cells h ∷ row3 cells ∷ rows)
@@ -68,10 +68,10 @@ score-small X cells h rows more = (
   λ a. (λ e. nowhere, λ b. (λ e. record { place = omega (arith, some-first badCell cells e, cells-few cells h a b) }, λ d. more b)),
 )
 
-theme-small : (X : Type 0) (theme : List ℕ) (rows : List Row) → (2 ≤ length theme → SmallRows X rows) → SmallRows X (row4 theme ∷ row5 theme ∷ rows)
+theme-small : (X : Type 0) (theme : List ℕ) (rows : List Row) → (2 ≤ length theme → SmallRows X rows) → SmallRows X (row4 mostNotes theme ∷ row5 theme ∷ rows)
 theme-small X theme rows more = (
   λ e. nowhere,
-  λ a. (λ e. record { place = omega (arith, some-first badNote theme e, row4-clear theme .0 a .1) }, λ d. more (row4-clear theme .0 a .0)),
+  λ a. (λ e. record { place = omega (arith, some-first badNote theme e, row4-clear mostNotes theme .0 a .1) }, λ d. more (row4-clear mostNotes theme .0 a .0)),
 )
 
 sets-small : (X : Type 0) (cells : List ℕ) (h : ℕ) (sets : List ℕ) (rows : List Row) → row2 cells h .applies ≡ false → SmallRows X rows
@@ -108,30 +108,32 @@ prepared-small cells h sets =
     (record { answer = Prepared; sets = setsOf (scoreOf cells h) }) (λ r s. s) (row1 h ∷ row2 cells h ∷ row3 cells ∷ row6 cells h sets ∷ [])
     (score-small _ cells h (row6 cells h sets ∷ []) (λ b. (λ e. nowhere, λ d. tt {0})))
 
-module _ (cells : List ℕ) (h : ℕ) (theme : List ℕ) (way : Way) (b : Bookmark) (reached : List Place) (columns : List ℕ) (shifts : List ℤ) where
+module _ (cells : List ℕ) (h : ℕ) (theme : List ℕ) (way : Way) (b : Bookmark) (buffers : Lent) where
+  -- a page of any search whose starts cost a look at least
+  search-pays : (S : Search Place) → ((s : Place) → 1 ≤ S .looks s) → SmallPage (leaf S b buffers .answer)
+  search-pays S pays =
+      let r = length (buffers .columns) in
+      record { written = omega (arith, length-map (pageHits (S .hit) r (left S b)) (S .shown), page-pays (S .hit) (S .looks) pays r (left S b)) }
+
   -- the rows of the room and of the bookmark, and then the page
-  page-small : 2 ≤ length theme
-      → SmallRows (SmallPage (leaf way (scoreOf cells h) theme reached b columns shifts .answer)) (pageRows (rangeOf way) (columnsIn cells h) b columns shifts)
-  page-small m = (
-    λ e. nowhere,
-    λ a. (λ e. nowhere, λ d. record { written = page-pays (hit way (scoreOf cells h) theme) (looks way (scoreOf cells h) theme) (looks-some way (scoreOf cells h) theme m) (length columns) (from key (keyOf way b) reached) }),
-  )
+  page-small : (S : Search Place) → ((s : Place) → 1 ≤ S .looks s)
+      → SmallRows (SmallPage (leaf S b buffers .answer)) (pageRows (rangeOf way) (columnsIn cells h) b (length (buffers .columns)) (length (buffers .shifts)))
+  page-small S pays = (λ e. nowhere, λ a. (λ e. nowhere, λ d. search-pays S pays))
 
-module _ (cells : List ℕ) (h : ℕ) (theme : List ℕ) (way : Way) (b : Bookmark) where
-  pub plain-small : (columns : List ℕ) (shifts : List ℤ) → SmallPage (plainPage cells h theme way b columns shifts .answer)
+  pub plain-small : SmallPage (plainPage cells h theme way b buffers .answer)
   unfolding plainPage
-  plain-small columns shifts =
-      let page = pageRows (rangeOf way) (columnsIn cells h) b columns shifts in
-      judge-small (λ (l : Leaf). SmallPage (l .answer)) (plainRefused cells h theme way b columns shifts) (plainLeaf cells h theme way b columns shifts) (λ r s. s) (plainRows cells h theme way b columns shifts)
-      (score-small _ cells h (row4 theme ∷ row5 theme ∷ page) (λ e. theme-small _ theme page (page-small cells h theme way b (starts way (scoreOf cells h) theme) columns shifts)))
+  plain-small =
+      let page = pageRows (rangeOf way) (columnsIn cells h) b (length (buffers .columns)) (length (buffers .shifts)) in
+      let S = plainSearch way (scoreOf cells h) theme in
+      judge-small (λ (l : Leaf). SmallPage (l .answer)) (away buffers) (leaf S b buffers) (λ r s. s) (rowsOfPlain cells h theme way b buffers)
+      (score-small _ cells h (row4 mostNotes theme ∷ row5 theme ∷ page) (λ e. theme-small _ theme page (λ m. page-small S (looks-some way (scoreOf cells h) theme m))))
 
-  pub quick-small : (sets table columns : List ℕ) (shifts : List ℤ) → SmallPage (quickPage cells h theme way b sets table columns shifts .leaf .answer)
+  pub quick-small : (sets table : List ℕ) → SmallPage (quickPage cells h theme way b sets table buffers .answer)
   unfolding quickPage
-  quick-small sets table columns shifts =
-      let page = pageRows (rangeOf way) (columnsIn cells h) b columns shifts in
-      let lent = row6 cells h sets ∷ row7 sets ∷ row8 (length table) ∷ page in
-      let reached = quickStarts way (scoreOf cells h) theme (themeTable theme) sets in
-      judge-small (λ (q : QuickLeaf). SmallPage (q .leaf .answer)) (quickRefused cells h theme way b sets table columns shifts)
-      (quickLeaf cells h theme way b sets table columns shifts) (λ r s. s) (quickRows cells h theme way b sets table columns shifts)
-      (score-small _ cells h (row4 theme ∷ row5 theme ∷ lent)
-      (λ e. theme-small _ theme lent (λ m. sets-small _ cells h sets (row8 (length table) ∷ page) e (λ t. nowhere, λ t. page-small cells h theme way b reached columns shifts m))))
+  quick-small sets table =
+      let page = pageRows (rangeOf way) (columnsIn cells h) b (length (buffers .columns)) (length (buffers .shifts)) in
+      let rows = row6 cells h sets ∷ row7 sets ∷ row8 (length table) ∷ page in
+      let S = quickSearch wordBits way (scoreOf cells h) theme (themeTable wordBits theme) sets in
+      judge-small (λ (l : Leaf). SmallPage (l .answer)) (away buffers) (leaf S b buffers) (λ r s. s) (rowsOfQuick cells h theme way b sets table buffers)
+      (score-small _ cells h (row4 mostNotes theme ∷ row5 theme ∷ rows)
+      (λ e. theme-small _ theme rows (λ m. sets-small _ cells h sets (row8 (length table) ∷ page) e (λ t. nowhere, λ t. page-small S (looks-some way (scoreOf cells h) theme m)))))

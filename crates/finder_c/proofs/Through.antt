@@ -1,6 +1,6 @@
 -- From the calls of `preparing` and `search` to the exported ones: what was answered, told in numbers, is what the contract
 -- says; a call that is none changes nothing. Assumes nothing.
-use mathlib.Core.Path.{_≡_, sym, ap, _∙_, subst}
+use mathlib.Core.Path.{_≡_, sym, ap, _∙_, subst, subst₂}
 use mathlib.Core.Bool.{Bool, true, false, cond, not, _||_, true≢false}
 use mathlib.Core.List.{List}
 use Prim.Native.Nat.{ℕ}
@@ -11,11 +11,13 @@ use borrow.Author.Tests.{eqb-true, not-false}
 use Rattle.preparing.specs.declared.sets.Preparation.{Preparation}
 use Rattle.preparing.specs.Preparing.{Prepares}
 use Rattle.asking.specs.declared.way.Way.{Way}
-use Rattle.search.specs.declared.page.Page.{Page}
-use Rattle.search.specs.Page.{PlainPages, QuickPages, plainPage, quickPage}
-use Rattle.finder_c.specs.Numbers.{wayOf, noCall, preparationNumber, pageNumber, pageNumbers}
+use Rattle.paging.specs.declared.page.Page.{Page}
+use Rattle.paging.specs.Lent.{Lent}
+use Rattle.paging.specs.Page.{Leaf, Pages}
+use Rattle.search.specs.Page.{PlainPages, QuickPages}
+use Rattle.finder_c.specs.Numbers.{wayOf, noCall, preparationNumber, pageNumber, pageNumbers, answerNumbers, notCalled}
 use Rattle.finder_c.specs.Small.{SmallPreparation, SmallPage}
-use Rattle.finder_c.specs.Calls.{CPrepares, CPlainPages, CQuickPages, CLeaf, CQuickLeaf, bookmark, leafNumbers, quickNumbers, noLeaf}
+use Rattle.finder_c.specs.Calls.{CPrepares, CPages, CPlainPages, CQuickPages, CLeaf, bookmark, leafNumbers, noLeaf}
 use Rattle.finder_c.proofs.SmallAnswers.{prepared-small, plain-small, quick-small}
 
 -- ---- an answer given is small
@@ -23,22 +25,22 @@ use Rattle.finder_c.proofs.SmallAnswers.{prepared-small, plain-small, q
 pub prepares-small : {cells : List ℕ} {h : ℕ} {sets : List ℕ} {p : Preparation} {sets′ : List ℕ} → Prepares cells h sets p sets′ → SmallPreparation p
 prepares-small {cells} {h} {sets} r = subst SmallPreparation (sym (r .answers)) (prepared-small cells h sets)
 
-pub plain-pages-small : {cells : List ℕ} {h : ℕ} {theme : List ℕ} {way : Way} {column : ℕ} {shift : ℤ} {columns : List ℕ} {shifts : List ℤ} {p : Page}
-    {columns′ : List ℕ} {shifts′ : List ℤ} → PlainPages cells h theme way (bookmark column shift) columns shifts p columns′ shifts′ → SmallPage p
-plain-pages-small {cells} {h} {theme} {way} {column} {shift} {columns} {shifts} r =
-    subst SmallPage (sym (r .answers)) (plain-small cells h theme way (bookmark column shift) columns shifts)
+pub plain-pages-small : {cells : List ℕ} {h : ℕ} {theme : List ℕ} {way : Way} {column : ℕ} {shift : ℤ} {buffers after : Lent} {p : Page}
+    → PlainPages cells h theme way (bookmark column shift) buffers p after → SmallPage p
+plain-pages-small {cells} {h} {theme} {way} {column} {shift} {buffers} r =
+    subst SmallPage (sym (r .pages .answers)) (plain-small cells h theme way (bookmark column shift) buffers)
 
-pub quick-pages-small : {cells : List ℕ} {h : ℕ} {theme : List ℕ} {way : Way} {column : ℕ} {shift : ℤ} {sets table columns : List ℕ} {shifts : List ℤ} {p : Page}
-    {table′ columns′ : List ℕ} {shifts′ : List ℤ} → QuickPages cells h theme way (bookmark column shift) sets table columns shifts p table′ columns′ shifts′ → SmallPage p
-quick-pages-small {cells} {h} {theme} {way} {column} {shift} {sets} {table} {columns} {shifts} r =
-    subst SmallPage (sym (r .answers)) (quick-small cells h theme way (bookmark column shift) sets table columns shifts)
+pub quick-pages-small : {cells : List ℕ} {h : ℕ} {theme : List ℕ} {way : Way} {column : ℕ} {shift : ℤ} {sets table table′ : List ℕ} {buffers after : Lent} {p : Page}
+    → QuickPages cells h theme way (bookmark column shift) sets table buffers p table′ after → SmallPage p
+quick-pages-small {cells} {h} {theme} {way} {column} {shift} {sets} {table} {buffers = buffers} r =
+    subst SmallPage (sym (r .pages .answers)) (quick-small cells h theme way (bookmark column shift) buffers sets table)
 
 -- ---- whether it is a call
 
-pub call-long : (way len : ℕ) → noCall way len ≡ false → len ≡ 5
-call-long way len e = eqb-true len 5 (not-false (eqb len 5) (step (ltb 1 way) e))
+pub call-long : (way len : ℕ) → noCall way len ≡ false → len ≡ answerNumbers
+call-long way len e = eqb-true len answerNumbers (not-false (eqb len answerNumbers) (step (ltb 1 way) e))
   where
-    step : (b : Bool) → (b || not (eqb len 5)) ≡ false → not (eqb len 5) ≡ false
+    step : (b : Bool) → (b || not (eqb len answerNumbers)) ≡ false → not (eqb len answerNumbers) ≡ false
     step true e = absurd (true≢false e)
     step false e = e
 
@@ -48,43 +50,39 @@ pub prepares-through : {cells : List ℕ} {h : ℕ} {sets : List ℕ} {p : Prepa
     → CPrepares cells h sets r sets′
 prepares-through a e = record { results = e ∙ ap preparationNumber (a .answers); fills = a .fills }
 
+-- a page in numbers, where it is a call
+pages-through : {page : Leaf} {p : Page} {after : Lent} (buffers : Lent) (answer : List ℤ) {answer′ : List ℤ} (way : ℕ) {r : ℤ} → noCall way (length answer) ≡ false
+    → Pages page p after → r ≡ pageNumber p → answer′ ≡ pageNumbers p answer
+    → CPages (cond (noCall way (length answer)) (noLeaf buffers answer) (leafNumbers page answer)) r after answer′
+pages-through {page} buffers answer way e a n ns =
+    let c : cond (noCall way (length answer)) (noLeaf buffers answer) (leafNumbers page answer) ≡ leafNumbers page answer = rw e in
+    record {
+      results = n ∙ ap pageNumber (a .answers) ∙ sym (ap (λ (l : CLeaf). l .result) c);
+      writes = a .writes ∙ sym (ap (λ (l : CLeaf). l .buffers) c);
+      writes-answer = ns ∙ ap (λ (q : Page). pageNumbers q answer) (a .answers) ∙ sym (ap (λ (l : CLeaf). l .answer) c);
+    }
+
 module _ {cells : List ℕ} {h : ℕ} {theme : List ℕ} {way column : ℕ} {shift : ℤ} where
-  pub plain-none : {columns : List ℕ} {shifts answer : List ℤ} → noCall way (length answer) ≡ true
-      → CPlainPages cells h theme way column shift columns shifts answer (pos 255) columns shifts answer
-  plain-none {columns} {shifts} {answer} e = record { results = rw e; writes-columns = rw e; writes-shifts = rw e; writes-answer = rw e }
+  pub plain-none : {buffers : Lent} {answer : List ℤ} → noCall way (length answer) ≡ true
+      → CPlainPages cells h theme way column shift buffers answer (pos notCalled) buffers answer
+  plain-none e = record { pages = record { results = rw e; writes = rw e; writes-answer = rw e } }
 
-  pub quick-none : {sets table columns : List ℕ} {shifts answer : List ℤ} → noCall way (length answer) ≡ true
-      → CQuickPages cells h theme way column shift sets table columns shifts answer (pos 255) table columns shifts answer
-  quick-none {sets} {table} {columns} {shifts} {answer} e =
-      record { results = rw e; fills-table = rw e; writes-columns = rw e; writes-shifts = rw e; writes-answer = rw e }
+  pub quick-none : {sets table : List ℕ} {buffers : Lent} {answer : List ℤ} → noCall way (length answer) ≡ true
+      → CQuickPages cells h theme way column shift sets table buffers answer (pos notCalled) table buffers answer
+  quick-none e = record { pages = record { results = rw e; writes = rw e; writes-answer = rw e }; fills-table = rw e }
 
-  pub plain-through : {columns : List ℕ} {shifts answer : List ℤ} {w : Way} {z : ℤ} {p : Page} {r : ℤ} {columns′ : List ℕ} {shifts′ answer′ : List ℤ}
-      → noCall way (length answer) ≡ false → w ≡ wayOf way → z ≡ shift → PlainPages cells h theme w (bookmark column z) columns shifts p columns′ shifts′
+  pub plain-through : {buffers after : Lent} {answer answer′ : List ℤ} {w : Way} {z : ℤ} {p : Page} {r : ℤ}
+      → noCall way (length answer) ≡ false → w ≡ wayOf way → z ≡ shift → PlainPages cells h theme w (bookmark column z) buffers p after
       → r ≡ pageNumber p → answer′ ≡ pageNumbers p answer
-      → CPlainPages cells h theme way column shift columns shifts answer r columns′ shifts′ answer′
-  plain-through {columns} {shifts} {answer} {w} {z} {p} {r} {columns′} {shifts′} {answer′} e v k a n ns =
-      let q = plainPage cells h theme (wayOf way) (bookmark column shift) columns shifts in
-      let b = subst (λ (w : Way). PlainPages cells h theme w (bookmark column shift) columns shifts p columns′ shifts′) v (subst (λ (z : ℤ). PlainPages cells h theme w (bookmark column z) columns shifts p columns′ shifts′) k a) in
-      let c : cond (noCall way (length answer)) (noLeaf columns shifts answer) (leafNumbers q answer) ≡ leafNumbers q answer = rw e in
-      record {
-        results = n ∙ ap pageNumber (b .answers) ∙ sym (ap (λ (l : CLeaf). l .result) c);
-        writes-columns = b .writes-columns ∙ sym (ap (λ (l : CLeaf). l .columns) c);
-        writes-shifts = b .writes-shifts ∙ sym (ap (λ (l : CLeaf). l .shifts) c);
-        writes-answer = ns ∙ ap (λ (p : Page). pageNumbers p answer) (b .answers) ∙ sym (ap (λ (l : CLeaf). l .answer) c);
-      }
+      → CPlainPages cells h theme way column shift buffers answer r after answer′
+  plain-through {buffers} {after} {answer} {p = p} e v k a n ns =
+      let b = subst₂ (λ (w : Way) (z : ℤ). PlainPages cells h theme w (bookmark column z) buffers p after) v k a in
+      record { pages = pages-through buffers answer way e (b .pages) n ns }
 
-  pub quick-through : {sets table columns : List ℕ} {shifts answer : List ℤ} {w : Way} {z : ℤ} {p : Page} {r : ℤ} {table′ columns′ : List ℕ} {shifts′ answer′ : List ℤ}
-      → noCall way (length answer) ≡ false → w ≡ wayOf way → z ≡ shift → QuickPages cells h theme w (bookmark column z) sets table columns shifts p table′ columns′ shifts′
+  pub quick-through : {sets table table′ : List ℕ} {buffers after : Lent} {answer answer′ : List ℤ} {w : Way} {z : ℤ} {p : Page} {r : ℤ}
+      → noCall way (length answer) ≡ false → w ≡ wayOf way → z ≡ shift → QuickPages cells h theme w (bookmark column z) sets table buffers p table′ after
       → r ≡ pageNumber p → answer′ ≡ pageNumbers p answer
-      → CQuickPages cells h theme way column shift sets table columns shifts answer r table′ columns′ shifts′ answer′
-  quick-through {sets} {table} {columns} {shifts} {answer} {w} {z} {p} {r} {table′} {columns′} {shifts′} {answer′} e v k a n ns =
-      let q = quickPage cells h theme (wayOf way) (bookmark column shift) sets table columns shifts in
-      let b = subst (λ (w : Way). QuickPages cells h theme w (bookmark column shift) sets table columns shifts p table′ columns′ shifts′) v (subst (λ (z : ℤ). QuickPages cells h theme w (bookmark column z) sets table columns shifts p table′ columns′ shifts′) k a) in
-      let c : cond (noCall way (length answer)) (record { leaf = noLeaf columns shifts answer; table = table }) (quickNumbers q answer) ≡ quickNumbers q answer = rw e in
-      record {
-        results = n ∙ ap pageNumber (b .answers) ∙ sym (ap (λ (l : CQuickLeaf). l .leaf .result) c);
-        fills-table = b .fills-table ∙ sym (ap (λ (l : CQuickLeaf). l .table) c);
-        writes-columns = b .writes-columns ∙ sym (ap (λ (l : CQuickLeaf). l .leaf .columns) c);
-        writes-shifts = b .writes-shifts ∙ sym (ap (λ (l : CQuickLeaf). l .leaf .shifts) c);
-        writes-answer = ns ∙ ap (λ (p : Page). pageNumbers p answer) (b .answers) ∙ sym (ap (λ (l : CQuickLeaf). l .leaf .answer) c);
-      }
+      → CQuickPages cells h theme way column shift sets table buffers answer r table′ after answer′
+  quick-through {sets} {table} {table′} {buffers} {after} {answer} {p = p} e v k a n ns =
+      let b = subst₂ (λ (w : Way) (z : ℤ). QuickPages cells h theme w (bookmark column z) sets table buffers p table′ after) v k a in
+      record { pages = pages-through buffers answer way e (b .pages) n ns; fills-table = rw e (b .fills-table) }

@@ -10,9 +10,17 @@ use Rattle.preparing.specs.declared.sets.Preparation.{Preparation}
 use Rattle.preparing.specs.declared.sets.Preparation.the-variants as preparation
 use Rattle.asking.specs.declared.way.Way.{Way}
 use Rattle.asking.specs.declared.way.Way.the-variants.{Exact, Octave}
-use Rattle.search.specs.declared.page.Turn.{Turn}
-use Rattle.search.specs.declared.page.Page.{Page}
-use Rattle.search.specs.declared.page.Page.the-variants.{Turned, Refused}
+use Rattle.paging.specs.declared.page.Turn.{Turn}
+use Rattle.paging.specs.declared.page.Page.{Page}
+use Rattle.paging.specs.declared.page.Page.the-variants.{Turned, Refused}
+
+-- how many numbers the answer of a page has
+abbrev pub answerNumbers : ℕ
+answerNumbers = 5
+
+-- the result where there was no call
+abbrev pub notCalled : ℕ
+notCalled = 255
 
 -- 0 exact, 1 octave
 abbrev pub wayOf : ℕ → Way
@@ -20,7 +28,7 @@ wayOf way = cond (eqb way 0) Exact Octave
 
 -- the number is no way, or the answer has not five places: the result is 255
 abbrev pub noCall : (way len : ℕ) → Bool
-noCall way len = ltb 1 way || not (eqb len 5)
+noCall way len = ltb 1 way || not (eqb len answerNumbers)
 
 abbrev pub refusalNumber : Refusal → ℤ
 refusalNumber r = pos (r .number + 256 * r .place)

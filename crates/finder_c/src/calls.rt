@@ -1,6 +1,7 @@
 // The exported calls. A slice is a pointer and a length in C, and a number is itself. No call asks anything of its caller
 // but that the memory lent is there: what cannot be answered is refused, and a refused call writes nothing.
 
+use crate::told::NOT_CALLED;
 use crate::told::no_call;
 use crate::told::told_page;
 use crate::told::told_preparation;
@@ -10,6 +11,7 @@ use score::Column;
 use search::Bookmark;
 use search::plain_page;
 use search::quick_page;
+ghost use Rattle.paging.specs.Lent.{lent};
 ghost use Rattle.finder_c.specs.Calls.{CPrepares, CPlainPages, CQuickPages};
 
 // Fills all n - 1 sets of the score: 0. Otherwise the refusal, 1, 2, 3 or 6, as number + 256 * place.
@@ -34,10 +36,10 @@ pub extern "C" fn finder_plain_page(
     shifts: &mut [i16],
     answer: &mut [i64],
 ) -> i64
-    ensures { λ r. ⌜ CPlainPages (now (cells .entry)) tracks (now (theme .entry)) way column shift (now (columns .entry)) (now (shifts .entry)) (now (answer .entry)) r (now (columns .exit)) (now (shifts .exit)) (now (answer .exit)) ⌝ }
+    ensures { λ r. ⌜ CPlainPages (now (cells .entry)) tracks (now (theme .entry)) way column shift (lent (now (columns .entry)) (now (shifts .entry))) (now (answer .entry)) r (lent (now (columns .exit)) (now (shifts .exit))) (now (answer .exit)) ⌝ }
 {
     if no_call(way, answer.len()) {
-        return 255;
+        return NOT_CALLED;
     }
     let bookmark = Bookmark {
         column: Column(column),
@@ -62,10 +64,10 @@ pub extern "C" fn finder_quick_page(
     shifts: &mut [i16],
     answer: &mut [i64],
 ) -> i64
-    ensures { λ r. ⌜ CQuickPages (now (cells .entry)) tracks (now (theme .entry)) way column shift (now (sets .entry)) (now (table .entry)) (now (columns .entry)) (now (shifts .entry)) (now (answer .entry)) r (now (table .exit)) (now (columns .exit)) (now (shifts .exit)) (now (answer .exit)) ⌝ }
+    ensures { λ r. ⌜ CQuickPages (now (cells .entry)) tracks (now (theme .entry)) way column shift (now (sets .entry)) (now (table .entry)) (lent (now (columns .entry)) (now (shifts .entry))) (now (answer .entry)) r (now (table .exit)) (lent (now (columns .exit)) (now (shifts .exit))) (now (answer .exit)) ⌝ }
 {
     if no_call(way, answer.len()) {
-        return 255;
+        return NOT_CALLED;
     }
     let bookmark = Bookmark {
         column: Column(column),

@@ -8,8 +8,14 @@ use search::Way;
 ghost use mathlib.Core.Path.{_≡_};
 ghost use mathlib.Core.List.{[], _∷_};
 ghost use lib.ListN.{length};
-ghost use Rattle.finder_c.specs.Numbers.{wayOf, noCall, refusalNumber, preparationNumber, pageNumber, turnNumbers, pageNumbers};
+ghost use Rattle.finder_c.specs.Numbers.{answerNumbers, wayOf, noCall, refusalNumber, preparationNumber, pageNumber, turnNumbers, pageNumbers};
 ghost use Rattle.finder_c.specs.Small.{SmallPlace, SmallPreparation, SmallPage, SmallTurn};
+
+// How many numbers the answer of a page has.
+pub const ANSWER_NUMBERS: usize = 5;
+
+// The result where there was no call.
+pub const NOT_CALLED: i64 = 255;
 
 // The way of a number that is one: 0 exact, 1 octave.
 pub fn way_of(way: u8) -> Way
@@ -22,7 +28,7 @@ pub fn way_of(way: u8) -> Way
 pub fn no_call(way: u8, len: usize) -> bool
     ensures { λ r. ⌜ r ≡ noCall way len ⌝ }
 {
-    (1 < way) | (len != 5)
+    (1 < way) | (len != ANSWER_NUMBERS)
 }
 
 // A refusal's number + 256 * its place.
@@ -46,7 +52,7 @@ pub fn told_preparation(p: Preparation) -> i64
 
 // Writes the five places of an answer.
 fn put_five(answer: &mut [i64], a: i64, b: i64, c: i64, d: i64, e: i64)
-    requires { ⌜ length (now answer) ≡ 5 ⌝ }
+    requires { ⌜ length (now answer) ≡ answerNumbers ⌝ }
     ensures { λ _. ⌜ now (answer .exit) ≡ a ∷ b ∷ c ∷ d ∷ e ∷ [] ⌝ }
 {
     answer[0] = a;
@@ -66,7 +72,7 @@ fn wide(shift: i16) -> i64
 // Writes the five numbers of a page.
 fn write_turn(t: Turn, answer: &mut [i64])
     requires { ⌜ SmallTurn t ⌝ }
-    requires { ⌜ length (now answer) ≡ 5 ⌝ }
+    requires { ⌜ length (now answer) ≡ answerNumbers ⌝ }
     ensures { λ _. ⌜ now (answer .exit) ≡ turnNumbers t ⌝ }
 {
     let written = t.written as i64;
@@ -86,7 +92,7 @@ fn write_turn(t: Turn, answer: &mut [i64])
 // The result of a page call, with the five numbers of a page written; a refused call writes nothing.
 pub fn told_page(p: Page, answer: &mut [i64]) -> i64
     requires { ⌜ SmallPage p ⌝ }
-    requires { ⌜ length (now answer) ≡ 5 ⌝ }
+    requires { ⌜ length (now answer) ≡ answerNumbers ⌝ }
     ensures { λ r. ⌜ r ≡ pageNumber p ⌝ }
     ensures { λ _. ⌜ now (answer .exit) ≡ pageNumbers p (now (answer .entry)) ⌝ }
 {

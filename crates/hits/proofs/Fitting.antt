@@ -5,18 +5,17 @@ use mathlib.Core.Bool.{Bool, true, false, _&&_, cond}
 use mathlib.Core.List.{List, [], _∷_}
 use Prim.Native.Nat.{ℕ, _+_, _^_, _≤_, _<_}
 use native.Mathlib.Omega.{arith}
-use lib.Bits.{bitOr, and-le-l, and-le-r, or-add-and}
-use lib.Count.{ones, ones-le}
+use lib.Count.{ones}
 use lib.Dec.{leb}
 use lib.IntN.{ℤ}
-use lib.ListN.{length, length-append}
+use lib.ListN.{length}
 use borrow.Author.Tests.{le-leb, lt-leb}
-use Rattle.theory.specs.Marks.{marks}
 use Rattle.theory.proofs.Marks.{marks-zero, marks-ones}
 use Rattle.score.specs.declared.quantities.Pitch.{Pitch}
 use Rattle.asking.specs.declared.way.Way.{Way}
 use Rattle.asking.specs.declared.way.Way.the-variants.{Exact, Octave}
-use Rattle.hits.specs.Writing.{lowCode, codesOf, wordCodes, startCodes, fitting, Puts}
+use Rattle.masks.specs.Masks.{lowCode}
+use Rattle.hits.specs.Writing.{codesOf, wordCodes, startCodes, fitting, Puts}
 
 -- ---- what fits
 
@@ -60,43 +59,32 @@ module _ (at : ℕ) (columns : List ℕ) (shifts : List ℤ) where
 
 -- ---- the codes of a word
 
-pub ones-few : (low high : ℕ) → low < 2 ^ 64 → high < 2 ^ 64 → ones low + ones high ≤ 128
-ones-few low high l h = omega (arith, ones-le 64 low l, ones-le 64 high h)
-
--- a word has no bit where neither half has
-pub or-none-left : (x y : ℕ) → bitOr x y ≡ 0 → x ≡ 0
-or-none-left x y e = omega (arith, e, or-add-and x y, and-le-r x y)
-
-pub or-none-right : (x y : ℕ) → bitOr x y ≡ 0 → y ≡ 0
-or-none-right x y e = omega (arith, e, or-add-and x y, and-le-l x y)
-
 pub low-code-le : (way : Way) (first : Pitch) → lowCode way first ≤ 127
 low-code-le Exact first = omega arith
 low-code-le Octave first = omega arith
 
-pub codes-none : (way : Way) (first : Pitch) → codesOf way first 0 0 ≡ []
-codes-none way first = rw (marks-zero 64 (lowCode way first), marks-zero 64 (lowCode way first + 64))
+pub codes-none : (way : Way) (first : Pitch) → codesOf way first 0 ≡ []
+codes-none way first = marks-zero 128 (lowCode way first)
 
-module _ (way : Way) (first : Pitch) (low high : ℕ) where
-  -- as many as the halves have ones
-  pub codes-length : low < 2 ^ 64 → high < 2 ^ 64 → length (codesOf way first low high) ≡ ones low + ones high
-  codes-length l h =
-      length-append (marks 64 (lowCode way first) low) (marks 64 (lowCode way first + 64) high)
-      ∙ rw (marks-ones 64 (lowCode way first) low l, marks-ones 64 (lowCode way first + 64) high h)
+module _ (way : Way) (first : Pitch) (word : ℕ) where
+  -- as many as the word has ones
+  pub codes-length : word < 2 ^ 128 → length (codesOf way first word) ≡ ones word
+  codes-length h = marks-ones 128 (lowCode way first) word h
 
-  pub word-codes : first .0 ≤ 127 → wordCodes way first low high ≡ codesOf way first low high
+  pub word-codes : first .0 ≤ 127 → wordCodes way first word ≡ codesOf way first word
   word-codes h = rw (le-leb _ _ h)
 
-  pub word-none : 127 < first .0 → wordCodes way first low high ≡ []
+  pub word-none : 127 < first .0 → wordCodes way first word ≡ []
   word-none h = rw (lt-leb _ _ h)
 
   -- all of a word's codes are written where there is room for them
-  pub puts-word : low < 2 ^ 64 → high < 2 ^ 64 → first .0 ≤ 127 → (j at : ℕ) (columns : List ℕ) (shifts : List ℤ)
-      → at + (ones low + ones high) ≤ length columns → at + (ones low + ones high) ≤ length shifts → (at′ : ℕ) (columns′ : List ℕ) (shifts′ : List ℤ)
-      → Puts way j (fitting (wordCodes way first low high) at columns shifts) at columns shifts at′ columns′ shifts′ → Puts way j (codesOf way first low high) at columns shifts at′ columns′ shifts′
-  puts-word l h f j at columns shifts a b at′ columns′ shifts′ p =
-      let n = codes-length l h in
-      puts-fitting at columns shifts (codesOf way first low high) way j at′ columns′ shifts′ (omega (arith, n)) (omega (arith, n)) (rw (word-codes f) at p)
+  pub puts-word : word < 2 ^ 128 → first .0 ≤ 127 → (j at : ℕ) (columns : List ℕ) (shifts : List ℤ)
+      → at + ones word ≤ length columns → at + ones word ≤ length shifts → (at′ : ℕ) (columns′ : List ℕ) (shifts′ : List ℤ)
+      → Puts way j (fitting (wordCodes way first word) at columns shifts) at columns shifts at′ columns′ shifts′
+      → Puts way j (codesOf way first word) at columns shifts at′ columns′ shifts′
+  puts-word h f j at columns shifts a b at′ columns′ shifts′ p =
+      let n = codes-length h in
+      puts-fitting at columns shifts (codesOf way first word) way j at′ columns′ shifts′ (omega (arith, n)) (omega (arith, n)) (rw (word-codes f) at p)
 
 -- ---- the code of one start
 

@@ -2,8 +2,8 @@
 -- what is `fitting` settles both calls: the place behind, and both buffers. Assumes nothing.
 use mathlib.Core.Path.{_≡_}
 use mathlib.Core.Bool.{Bool, _&&_, cond}
-use mathlib.Core.List.{List, [], _∷_, map, _++_}
-use Prim.Native.Nat.{ℕ, _+_, _-_}
+use mathlib.Core.List.{List, [], _∷_, map}
+use Prim.Native.Nat.{ℕ, _+_}
 use lib.Dec.{leb}
 use lib.IntN.{ℤ}
 use lib.ListN.{length}
@@ -11,24 +11,18 @@ use lib.Seq.{sets as stored}
 use Rattle.theory.specs.Marks.{marks}
 use Rattle.score.specs.declared.quantities.Pitch.{Pitch}
 use Rattle.asking.specs.declared.way.Way.{Way}
-use Rattle.asking.specs.declared.way.Way.the-variants.{Exact, Octave}
 use Rattle.asking.specs.Way.{shiftOf}
+use Rattle.masks.specs.Masks.{lowCode}
 
 -- ---- the codes
 
--- a word of 128 bits, in two halves of 64, has a bit for each hit: in exact the bit is the pitch of the first note, in octave the
--- code itself; the code that the lowest bit stands for
-abbrev pub lowCode : Way → (first : Pitch) → ℕ
-lowCode Exact first = 127 - first .0
-lowCode Octave first = 0
-
--- the codes that a word marks
-abbrev pub codesOf : Way → (first : Pitch) → (low high : ℕ) → List ℕ
-codesOf way first low high = marks 64 (lowCode way first) low ++ marks 64 (lowCode way first + 64) high
+-- the codes that a word of starts marks
+abbrev pub codesOf : Way → (first : Pitch) → (word : ℕ) → List ℕ
+codesOf way first word = marks 128 (lowCode way first) word
 
 -- a first note that is no pitch has none
-abbrev pub wordCodes : Way → (first : Pitch) → (low high : ℕ) → List ℕ
-wordCodes way first low high = cond (leb (first .0) 127) (codesOf way first low high) []
+abbrev pub wordCodes : Way → (first : Pitch) → (word : ℕ) → List ℕ
+wordCodes way first word = cond (leb (first .0) 127) (codesOf way first word) []
 
 -- the code of one start: none where it is no hit, or where the code is above 255
 abbrev pub startCodes : (hit : Bool) (code : ℕ) → List ℕ

@@ -3,6 +3,7 @@
 
 use asking::Way;
 use asking::shift_of;
+use masks::Word;
 use score::Column;
 use score::Pitch;
 ghost use mathlib.Core.Path.{_≡_};
@@ -11,7 +12,8 @@ ghost use lib.Count.{ones};
 ghost use lib.Dec.{leb};
 ghost use lib.ListN.{length};
 ghost use Rattle.theory.specs.Marks.{marks};
-ghost use Rattle.hits.specs.Writing.{lowCode, wordCodes, startCodes, fitting, Puts};
+ghost use Rattle.masks.specs.Masks.{value, lowCode};
+ghost use Rattle.hits.specs.Writing.{wordCodes, startCodes, fitting, Puts};
 
 // A buffer of this length has room for so many hits from a place on.
 fn has_room(length: usize, from: usize, hits: usize) -> bool
@@ -65,14 +67,15 @@ pub fn put_hits(
     columns: &mut [u16],
     shifts: &mut [i16],
     from: usize,
-    low: u64,
-    high: u64,
+    word: Word,
     first: Pitch,
     column: Column,
     way: Way,
 ) -> usize
-    ensures { λ r. ⌜ Puts way (column .0) (fitting (wordCodes way first low high) from (now (columns .entry)) (now (shifts .entry))) from (now (columns .entry)) (now (shifts .entry)) r (now (columns .exit)) (now (shifts .exit)) ⌝ }
+    ensures { λ r. ⌜ Puts way (column .0) (fitting (wordCodes way first (value (word .low) (word .high))) from (now (columns .entry)) (now (shifts .entry))) from (now (columns .entry)) (now (shifts .entry)) r (now (columns .exit)) (now (shifts .exit)) ⌝ }
 {
+    let low = word.low;
+    let high = word.high;
     // most columns have none
     if (low | high) == 0 {
         return from;

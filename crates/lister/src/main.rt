@@ -5,12 +5,14 @@
 
 use libc::STDIN_FILENO;
 use libc::STDOUT_FILENO;
+use listing::INPUT_ROOM;
 use listing::Listing;
+use listing::ROOM;
 use listing::list;
 
 fn main() {
-    let mut input = [0u8; 143502];
-    let mut out = [0u8; 458546];
+    let mut input = [0u8; INPUT_ROOM];
+    let mut out = [0u8; ROOM];
     run(&mut input, &mut out);
 }
 

@@ -9,8 +9,10 @@ use native.Mathlib.Omega.{arith}
 use lib.ListN.{length, take, drop, length-drop, take-append-drop}
 use borrow.Author.Tests.{lt-leb, le-ltb}
 use Rattle.theory.specs.Lists.{some}
+use Rattle.score.specs.Limits.{mostTracks, mostColumns, highestPitch, restCell}
 use Rattle.score.specs.Score.{cut, columnsIn, scoreOf}
 use Rattle.score.specs.Refusals.{badCell}
+use Rattle.asking.specs.Limits.{mostNotes}
 use Rattle.asking.specs.Refusals.{badNote}
 use Rattle.asking.specs.Asking.{Accepted}
 use Rattle.reading.specs.Reading.{Theme}
@@ -19,7 +21,7 @@ use Rattle.listing.specs.Texts.{Each, IsNote, IsCell, IsChord, IsTheme}
 -- ---- no cell and no note is bad
 
 cell-good : (c : ℕ) → IsCell c → badCell c ≡ false
-cell-good c r = ⊎-elim (λ (l : c ≤ 127). rw (lt-leb 128 c (omega arith))) (λ (e : c ≡ 255). rw e) r
+cell-good c r = ⊎-elim (λ (l : c ≤ highestPitch). rw (le-ltb highestPitch c l)) (λ (e : c ≡ restCell). rw e) r
 
 cells-good : (cells : List ℕ) → Each IsCell cells → some badCell cells ≡ false
 cells-good [] r = refl
@@ -27,7 +29,7 @@ cells-good (c ∷ cells) r = rw (cell-good c (r .0)) (cells-good cells (r .1))
 
 notes-good : (notes : List ℕ) → Each IsNote notes → some badNote notes ≡ false
 notes-good [] r = refl
-notes-good (p ∷ notes) r = rw (le-ltb 127 p (r .0)) (notes-good notes (r .1))
+notes-good (p ∷ notes) r = rw (le-ltb highestPitch p (r .0)) (notes-good notes (r .1))
 
 some-append : (test : ℕ → Bool) (a b : List ℕ) → some test a ≡ false → some test b ≡ false → some test (a ++ b) ≡ false
 some-append test [] b e f = f
@@ -57,7 +59,7 @@ module _ (n h : ℕ) (cells : List ℕ) (some-tracks : 1 ≤ h) (e : length cell
   pub score-is : scoreOf cells h ≡ cut n h cells
   score-is = ap (λ (k : ℕ). cut k h cells) columns-are
 
-  pub accepted-of : (theme : Theme) → IsTheme theme → h ≤ 16 → 1 ≤ n → n ≤ 2048 → Each (IsChord h) (cut n h cells) → Accepted cells h (theme .notes)
+  pub accepted-of : (theme : Theme) → IsTheme theme → h ≤ mostTracks → 1 ≤ n → n ≤ mostColumns → Each (IsChord h) (cut n h cells) → Accepted mostNotes cells h (theme .notes)
   accepted-of theme t few a b r =
       record {
         tracks-some = some-tracks;

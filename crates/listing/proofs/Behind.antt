@@ -9,6 +9,8 @@ use Prim.Native.Nat.{ℕ, zero, suc, _+_, _-_, _*_, _≤_, _<_}
 use native.Mathlib.Omega.{arith}
 use lib.Dec.{eqb}
 use lib.ListN.{length, take, drop, length-append, take-append-drop}
+use Rattle.listing.specs.Listing.{inputRoom}
+use Rattle.score.specs.Limits.{mostTracks, mostColumns, highestPitch, restCell}
 use Rattle.asking.specs.declared.way.Way.{Way}
 use Rattle.asking.specs.declared.way.Way.the-variants.{Exact, Octave}
 use Rattle.words.specs.Words.{Read, got, bad}
@@ -19,13 +21,14 @@ use Rattle.listing.specs.Answer.{answer, output}
 use Rattle.words.proofs.Places.{bad-got}
 use Rattle.telling.proofs.Widths.{decimal-le}
 use Rattle.listing.proofs.RightLines.{chord-is, theme-is}
-use Rattle.listing.proofs.Texts.{note-text, some-text, chord-text, theme-text}
+use Rattle.listing.proofs.Rights.{note-text}
+use Rattle.listing.proofs.Texts.{some-text, chord-text, theme-text}
 
 -- ---- how long a line is
 
 cell-length : (value : ℕ) → IsCell value → length (cellText value) ≤ 3
 cell-length value h =
-    ⊎-elim (λ (l : value ≤ 127). rw (note-text value l) (decimal-le 2 value (omega arith))) (λ (e : value ≡ 255). rw e (omega arith)) h
+    ⊎-elim (λ (l : value ≤ highestPitch). rw (note-text value l) (decimal-le 2 value (omega arith))) (λ (e : value ≡ restCell). rw e (omega arith)) h
 
 fields-length : (values : List ℕ) → Each IsCell values → length (fieldsText values) ≤ 1 + 4 * length values
 unfolding fieldsText
@@ -36,7 +39,7 @@ notes-cells : (notes : List ℕ) → Each IsNote notes → Each IsCell notes
 notes-cells [] h = h
 notes-cells (p ∷ notes) h = (inl (h .0), notes-cells notes (h .1))
 
-chord-length : (column : List ℕ) → length column ≤ 16 → Each IsCell column → length (chordText column) ≤ 70
+chord-length : (column : List ℕ) → length column ≤ mostTracks → Each IsCell column → length (chordText column) ≤ 70
 chord-length column l h = omega (arith, length-append chordWord (fieldsText column), fields-length column h)
 
 way-length : (way : Way) → length (wayWord way) ≤ 6
@@ -115,33 +118,33 @@ chords-cut (suc left) g k text h =
 -- ---- a theme line that is cut, and the whole
 
 module _ (input : List ℕ) where
-  theme-cut-bad : themeLine input ≡ bad → themeLine (take 143502 input) ≡ bad
-  theme-cut-bad e = step (themeLine (take 143502 input)) refl
+  theme-cut-bad : themeLine input ≡ bad → themeLine (take inputRoom input) ≡ bad
+  theme-cut-bad e = step (themeLine (take inputRoom input)) refl
     where
-      step : (r : Read Theme) → themeLine (take 143502 input) ≡ r → r ≡ bad
+      step : (r : Read Theme) → themeLine (take inputRoom input) ≡ r → r ≡ bad
       step bad p = refl
       step (got theme rest) p =
-          let w = theme-is (take 143502 input) p in
+          let w = theme-is (take inputRoom input) p in
           absurd
           (bad-got
-          (sym e ∙ ap themeLine (whole (themeText theme) rest input 143502 (w .is)) ∙ theme-text theme (rest ++ drop 143502 input) (w .right)))
+          (sym e ∙ ap themeLine (whole (themeText theme) rest input inputRoom (w .is)) ∙ theme-text theme (rest ++ drop inputRoom input) (w .right)))
 
-  pub meaning-behind : meaning (take 143502 input) ≡ meaning input
+  pub meaning-behind : meaning (take inputRoom input) ≡ meaning input
   unfolding meaning
   meaning-behind = step (themeLine input) refl
     where
-      step : (r : Read Theme) → themeLine input ≡ r → withTheme (themeLine (take 143502 input)) ≡ withTheme (themeLine input)
+      step : (r : Read Theme) → themeLine input ≡ r → withTheme (themeLine (take inputRoom input)) ≡ withTheme (themeLine input)
       step bad e = rw (e, theme-cut-bad e)
       step (got theme rest) e =
           let w = theme-is input e in
           let l : length (themeText theme) ≤ 141 = theme-length theme (w .right) in
-          let cut : themeLine (take 143502 input) ≡ got theme (take (143502 - length (themeText theme)) rest) =
-          ap (λ (t : List ℕ). themeLine (take 143502 t)) (w .is)
-          ∙ ap themeLine (take-front (themeText theme) rest (143502 - length (themeText theme)) 143502 (omega arith))
-          ∙ theme-text theme (take (143502 - length (themeText theme)) rest) (w .right)
+          let cut : themeLine (take inputRoom input) ≡ got theme (take (inputRoom - length (themeText theme)) rest) =
+          ap (λ (t : List ℕ). themeLine (take inputRoom t)) (w .is)
+          ∙ ap themeLine (take-front (themeText theme) rest (inputRoom - length (themeText theme)) inputRoom (omega arith))
+          ∙ theme-text theme (take (inputRoom - length (themeText theme)) rest) (w .right)
           in
-          rw (e, cut) (ap (withChords theme) (chords-cut 2048 0 (143502 - length (themeText theme)) rest (omega arith)))
+          rw (e, cut) (ap (withChords theme) (chords-cut mostColumns 0 (inputRoom - length (themeText theme)) rest (omega arith)))
 
-  pub output-behind : output (take 143502 input) ≡ output input
+  pub output-behind : output (take inputRoom input) ≡ output input
   unfolding output
   output-behind = ap answer meaning-behind

@@ -21,19 +21,19 @@ use Rattle.listing.proofs.Outputs.{output-few}
 
 module _ (input out : List ℕ) where
   pub list-short : length out < room → Lists input out Short out
-  list-short h = record { answers = rw (lt-ltb (length out) 458546 h); writes = rw (lt-ltb (length out) 458546 h) }
+  list-short h = record { answers = rw (lt-ltb (length out) room h); writes = rw (lt-ltb (length out) room h) }
 
   module _ (h : room ≤ length out) {r : Telling} {out′ : List ℕ} (w : Tells (told (output input) out) r out′) where
     told-is : r ≡ Told (length (output input))
     unfolding told
-    told-is = w .answers ∙ rw (le-ltb (length out) 458546 h)
+    told-is = w .answers ∙ rw (le-ltb (length out) room h)
 
     pub list-written : {n : ℕ} → r ≡ Told n → Lists input out (Written n) out′
     unfolding told
     list-written {n} e =
         let d = told-is in
         let s : n ≡ length (output input) = cc in
-        record { answers = rw (le-ltb (length out) 458546 h) (ap Written s); writes = w .writes ∙ rw (le-ltb (length out) 458546 h) }
+        record { answers = rw (le-ltb (length out) room h) (ap Written s); writes = w .writes ∙ rw (le-ltb (length out) room h) }
 
     -- it is never refused, and never too short
     pub list-refused : {e : Refusal} → r ≡ Refused e → ⊥
@@ -53,8 +53,8 @@ written-same : {m n : ℕ} → Written m ≡ Written n → m ≡ n
 written-same e = cc
 
 pub lists-within : {input out out′ : List ℕ} {answer : Listing} {n : ℕ} → Lists input out answer out′ → answer ≡ Written n → n ≤ length out
-lists-within {input} {out} {out′} {answer} {n} p e = step (ltb (length out) 458546) refl (sym (p .answers) ∙ e)
+lists-within {input} {out} {out′} {answer} {n} p e = step (ltb (length out) room) refl (sym (p .answers) ∙ e)
   where
-    step : (t : Bool) → ltb (length out) 458546 ≡ t → cond t Short (Written (length (output input))) ≡ Written n → n ≤ length out
+    step : (t : Bool) → ltb (length out) room ≡ t → cond t Short (Written (length (output input))) ≡ Written n → n ≤ length out
     step true q k = absurd (short-written k)
-    step false q k = let s : length (output input) ≡ n = written-same k in omega (arith, output-few input, ltb-false (length out) 458546 q)
+    step false q k = let s : length (output input) ≡ n = written-same k in omega (arith, output-few input, ltb-false (length out) room q)

@@ -7,6 +7,8 @@ use native.Mathlib.Omega.{arith}
 use lib.ListN.{length, take, replicate, length-append}
 use lib.Seq.{take-at}
 use Rattle.theory.specs.Lists.{join}
+use Rattle.asking.specs.Limits.{mostNotes}
+use Rattle.score.specs.Limits.{mostTracks, mostColumns, mostCells}
 use Rattle.asking.specs.declared.way.Way.{Way}
 use Rattle.reading.specs.declared.request.Reading.{Reading}
 use Rattle.reading.specs.declared.request.Reading.the-variants.{Bad}
@@ -22,7 +24,7 @@ use Rattle.listing.proofs.Outputs.{meaning-right, cells-long, right-sco
 
 -- ---- a refused line
 
-pub out-bad : {input theme cells : List ℕ} {r : Reading} {theme′ cells′ : List ℕ} → Takes input theme cells r theme′ cells′ → 32 ≤ length theme → 32768 ≤ length cells
+pub out-bad : {input theme cells : List ℕ} {r : Reading} {theme′ cells′ : List ℕ} → Takes input theme cells r theme′ cells′ → mostNotes ≤ length theme → mostCells ≤ length cells
     → {line : ℕ} → r ≡ Bad line → output input ≡ refusedLine line
 unfolding output
 out-bad t few many e = ap answer (took-bad t few many e)
@@ -51,10 +53,10 @@ module _ {input theme cells : List ℕ} {way : Way} {notes tracks columns : ℕ}
   long-is : columns * tracks ≡ length (join (t .request .columns))
   long-is = rw (t .columns-are, tracks-is) (sym (cells-long (t .request) limits))
 
-  pub cells-few : columns * tracks ≤ 32768
+  pub cells-few : columns * tracks ≤ mostCells
   cells-few =
       let l = limits in
-      mul-le-mul {n₁ = columns} {m₁ = tracks} {n₂ = 2048} {m₂ = 16} (rw (t .columns-are) (l .columns-few)) (rw tracks-is (l .tracks-few))
+      mul-le-mul {n₁ = columns} {m₁ = tracks} {n₂ = mostColumns} {m₂ = mostTracks} (rw (t .columns-are) (l .columns-few)) (rw tracks-is (l .tracks-few))
 
   -- what is lent is within the buffers
   pub notes-within : notes ≤ length theme′

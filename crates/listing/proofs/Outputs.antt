@@ -11,7 +11,9 @@ use lib.Dec.{eqb}
 use lib.ListN.{length, length-append}
 use lib.Seq.{take-at, drop-at}
 use Rattle.theory.specs.Lists.{join}
+use Rattle.score.specs.Limits.{mostColumns}
 use Rattle.score.specs.Score.{cut, scoreOf}
+use Rattle.asking.specs.Limits.{mostNotes}
 use Rattle.asking.specs.Asking.{Accepted}
 use Rattle.words.specs.Words.{Read, got, bad}
 use Rattle.reading.specs.Reading.{Theme, chordLine, themeLine}
@@ -42,7 +44,7 @@ pub meaning-right : (input : List ℕ) {q : Request} → meaning input ≡ right
 unfolding meaning textOf
 meaning-right input {q} e = step (themeLine input) refl e
   where
-    scored : (theme : Theme) (rest : List ℕ) (r : Chords) → themeLine input ≡ got theme rest → chords 2048 0 rest ≡ r → withChords theme r ≡ right q → IsText input q
+    scored : (theme : Theme) (rest : List ℕ) (r : Chords) → themeLine input ≡ got theme rest → chords mostColumns 0 rest ≡ r → withChords theme r ≡ right q → IsText input q
     scored theme rest (fault k) p c z = absurd (faulty-right z)
     scored theme rest (all []) p c z = absurd (faulty-right z)
     scored theme rest (all (column ∷ others)) p c z =
@@ -65,7 +67,7 @@ meaning-right input {q} e = step (themeLine input) refl e
 
     step : (r : Read Theme) → themeLine input ≡ r → withTheme r ≡ right q → IsText input q
     step bad p z = absurd (faulty-right z)
-    step (got theme rest) p z = scored theme rest (chords 2048 0 rest) p refl z
+    step (got theme rest) p z = scored theme rest (chords mostColumns 0 rest) p refl z
 
 -- ---- a faulty line
 
@@ -108,14 +110,14 @@ pub meaning-faulty : (input : List ℕ) {n : ℕ} → meaning input ≡ faulty n
 unfolding meaning
 meaning-faulty input {n} e = step (themeLine input) e
   where
-    scored : (theme : Theme) (rest : List ℕ) (r : Chords) → chords 2048 0 rest ≡ r → withChords theme r ≡ faulty n → (1 ≤ n) × (n ≤ 2050)
-    scored theme rest (fault k) c z = let s : k + 2 ≡ n = faulty-same z in let l = fault-le 2048 0 rest c in (omega arith, omega arith)
+    scored : (theme : Theme) (rest : List ℕ) (r : Chords) → chords mostColumns 0 rest ≡ r → withChords theme r ≡ faulty n → (1 ≤ n) × (n ≤ 2050)
+    scored theme rest (fault k) c z = let s : k + 2 ≡ n = faulty-same z in let l = fault-le mostColumns 0 rest c in (omega arith, omega arith)
     scored theme rest (all []) c z = let s : 2 ≡ n = faulty-same z in (omega arith, omega arith)
     scored theme rest (all (column ∷ others)) c z = absurd (right-faulty z)
 
     step : (r : Read Theme) → withTheme r ≡ faulty n → (1 ≤ n) × (n ≤ 2050)
     step bad z = let s : 1 ≡ n = faulty-same z in (omega arith, omega arith)
-    step (got theme rest) z = scored theme rest (chords 2048 0 rest) refl z
+    step (got theme rest) z = scored theme rest (chords mostColumns 0 rest) refl z
 
 -- ---- the score of a right input
 
@@ -136,7 +138,7 @@ module _ (q : Request) (r : Right q) where
   right-score = score-is (length (q .columns)) (r .tracks) (join (q .columns)) (r .tracks-some) cells-long ∙ cut-join (r .tracks) (q .columns) (r .columns)
 
   -- and it is accepted by every search
-  pub right-accepted : Accepted (join (q .columns)) (r .tracks) (q .theme .notes)
+  pub right-accepted : Accepted mostNotes (join (q .columns)) (r .tracks) (q .theme .notes)
   right-accepted =
       accepted-of (length (q .columns)) (r .tracks) (join (q .columns)) (r .tracks-some) cells-long (q .theme) (r .theme) (r .tracks-few) (r .columns-some) (r .columns-few)
       (subst (Each (IsChord (r .tracks))) (sym (cut-join (r .tracks) (q .columns) (r .columns))) (r .columns))

@@ -11,6 +11,8 @@ use lib.ListN.{length, drop}
 use lib.Seq.{drop-drop}
 use borrow.Author.Tests.{leb-true, eqb-true}
 use Rattle.theory.specs.Lists.{join}
+use Rattle.asking.specs.Limits.{mostNotes}
+use Rattle.score.specs.Limits.{mostTracks}
 use Rattle.asking.specs.declared.way.Way.{Way}
 use Rattle.asking.specs.declared.way.Way.the-variants.{Exact, Octave}
 use Rattle.words.specs.Words.{Read, got, bad, next, begins}
@@ -55,7 +57,7 @@ counted-fields allowed rests left text {values} {rest} e = step (fields rests le
 
 pub record Chorded (h : ℕ) (text column rest : List ℕ) : Type 0 where
   pub tracks : tracksRight h (length column) ≡ true
-  pub few : length column ≤ 16
+  pub few : length column ≤ mostTracks
   pub right : IsChord (length column) column
   pub is : text ≡ chordText column ++ rest
 
@@ -63,9 +65,9 @@ pub chord-is : (h : ℕ) (text : List ℕ) {column rest : List ℕ} → chordLin
 unfolding chordLine
 chord-is h text {column} {rest} e = step (begins chordWord text) refl e
   where
-    step : (t : Bool) → begins chordWord text ≡ t → cond t (counted (tracksRight h) (fields true 16 (drop 5 text))) bad ≡ got column rest → Chorded h text column rest
+    step : (t : Bool) → begins chordWord text ≡ t → cond t (counted (tracksRight h) (fields true mostTracks (drop 5 text))) bad ≡ got column rest → Chorded h text column rest
     step true p k =
-        let c = counted-fields (tracksRight h) true 16 (drop 5 text) k in
+        let c = counted-fields (tracksRight h) true mostTracks (drop 5 text) k in
         record {
           tracks = c .count;
           few = c .fielded .few;
@@ -82,13 +84,13 @@ pub record Sung (text : List ℕ) (theme : Theme) (rest : List ℕ) : Type 0 whe
 
 notes-is : (way : Way) (text : List ℕ) {theme : Theme} {rest : List ℕ} → notesOf way text ≡ got theme rest
     → IsTheme theme × (theme .way ≡ way) × (text ≡ fieldsText (theme .notes) ++ rest)
-notes-is way text {theme} {rest} e = step (counted (leb 2) (fields false 32 text)) refl e
+notes-is way text {theme} {rest} e = step (counted (leb 2) (fields false mostNotes text)) refl e
   where
-    step : (r : Read (List ℕ)) → counted (leb 2) (fields false 32 text) ≡ r → next r (λ notes end. got (record { way = way; notes = notes }) end) ≡ got theme rest
+    step : (r : Read (List ℕ)) → counted (leb 2) (fields false mostNotes text) ≡ r → next r (λ notes end. got (record { way = way; notes = notes }) end) ≡ got theme rest
         → IsTheme theme × (theme .way ≡ way) × (text ≡ fieldsText (theme .notes) ++ rest)
     step bad p k = absurd (bad-got k)
     step (got notes end) p k =
-        let c = counted-fields (leb 2) false 32 text p in
+        let c = counted-fields (leb 2) false mostNotes text p in
         let t : IsTheme (record { way = way; notes = notes })
         = record { notes-some = leb-true 2 (length notes) (c .count); notes-few = c .fielded .few; notes = c .fielded .right } in
         subst (λ (u : Theme). IsTheme u × (u .way ≡ way) × (text ≡ fieldsText (u .notes) ++ rest)) (got-value k)
@@ -202,7 +204,7 @@ chords-is (suc left) h text {columns} l e = step (chords-split left h text e) (�
 -- where there is a chord, the first fixes how many cells all have
 pub record Whole (left : ℕ) (text column : List ℕ) (others : List (List ℕ)) : Type 0 where
   pub tracks-some : 1 ≤ length column
-  pub tracks-few : length column ≤ 16
+  pub tracks-few : length column ≤ mostTracks
   pub scores : Scores left (length column) text (column ∷ others)
 
 cons-head : {c d : List ℕ} {cs ds : List (List ℕ)} → c ∷ cs ≡ d ∷ ds → c ≡ d

@@ -9,6 +9,7 @@ use native.Mathlib.Omega.{arith}
 use lib.Dec.{leb, eqb}
 use lib.ListN.{length, drop}
 use borrow.Author.Tests.{leb-true, eqb-true, eqb-false, ne-eqb}
+use Rattle.score.specs.Limits.{highestPitch, restCell}
 use Rattle.telling.specs.Text.{decimal}
 use Rattle.words.specs.Words.{Read, got, bad, next, front, isDigit, moreDigits, number, cell}
 use Rattle.reading.specs.Reading.{fields}
@@ -23,7 +24,7 @@ front-cons (b ∷ text) h = refl
 -- ---- numbers
 
 -- one digit more behind a number
-decimal-step : (v d : ℕ) → 1 ≤ v → v ≤ 127 → d < 10 → decimal (v * 10 + d) ≡ decimal v ++ ((48 + d) ∷ [])
+decimal-step : (v d : ℕ) → 1 ≤ v → v ≤ highestPitch → d < 10 → decimal (v * 10 + d) ≡ decimal v ++ ((48 + d) ∷ [])
 decimal-step v d h l s =
     let q : (v * 10 + d) / 10 ≡ v = omega arith in
     let r : (v * 10 + d) % 10 ≡ d = omega arith in
@@ -31,24 +32,24 @@ decimal-step v d h l s =
 
 pub record Digits (v : ℕ) (text : List ℕ) (w : ℕ) (rest : List ℕ) : Type 0 where
   pub some : 1 ≤ w
-  pub small : w ≤ 127
+  pub small : w ≤ highestPitch
   pub is : decimal v ++ text ≡ decimal w ++ rest
 
-more-right : (v : ℕ) (text : List ℕ) {w : ℕ} {rest : List ℕ} → 1 ≤ v → v ≤ 127 → moreDigits v text ≡ got w rest → Digits v text w rest
+more-right : (v : ℕ) (text : List ℕ) {w : ℕ} {rest : List ℕ} → 1 ≤ v → v ≤ highestPitch → moreDigits v text ≡ got w rest → Digits v text w rest
 unfolding moreDigits
-more-right v text {w} {rest} h l e = step (isDigit (front text)) (leb (v * 10 + (front text - 48)) 127) refl refl e
+more-right v text {w} {rest} h l e = step (isDigit (front text)) (leb (v * 10 + (front text - 48)) highestPitch) refl refl e
   where
     same : got v text ≡ got w rest → Digits v text w rest
     same k = subst (λ (n : ℕ). Digits v text n rest) (got-value k) (subst (λ (x : List ℕ). Digits v text v x) (got-rest k) (record { some = h; small = l; is = refl }))
 
-    step : (s t : Bool) → isDigit (front text) ≡ s → leb (v * 10 + (front text - 48)) 127 ≡ t
+    step : (s t : Bool) → isDigit (front text) ≡ s → leb (v * 10 + (front text - 48)) highestPitch ≡ t
         → cond (s && t) (got (v * 10 + (front text - 48)) (drop 1 text)) (got v text) ≡ got w rest → Digits v text w rest
     step true true p q k =
         let d = digit-some (front text) p in
         let lo : 48 ≤ front text = d .0 in
         let hi : front text ≤ 57 = d .1 in
         let b : 48 + (front text - 48) ≡ front text = omega arith in
-        let m : v * 10 + (front text - 48) ≤ 127 = leb-true (v * 10 + (front text - 48)) 127 q in
+        let m : v * 10 + (front text - 48) ≤ highestPitch = leb-true (v * 10 + (front text - 48)) highestPitch q in
         let ew : v * 10 + (front text - 48) ≡ w = got-value k in
         let er : drop 1 text ≡ rest = got-rest k in
         let t : text ≡ front text ∷ drop 1 text = front-cons text (omega arith) in
@@ -67,7 +68,7 @@ more-right v text {w} {rest} h l e = step (isDigit (front text)) (leb (v * 10 + 
     step false t p q k = same k
 
 pub record Numbers (text : List ℕ) (n : ℕ) (rest : List ℕ) : Type 0 where
-  pub small : n ≤ 127
+  pub small : n ≤ highestPitch
   pub is : text ≡ decimal n ++ rest
 
 pub number-right : (text : List ℕ) {n : ℕ} {rest : List ℕ} → number text ≡ got n rest → Numbers text n rest
@@ -119,8 +120,8 @@ pub record Cells (rests : Bool) (text : List ℕ) (value : ℕ) (rest : List ℕ
   pub right : IsValue rests value
   pub is : text ≡ cellText value ++ rest
 
-note-text : (n : ℕ) → n ≤ 127 → cellText n ≡ decimal n
-note-text n h = rw (ne-eqb n 255 (λ e. omega arith))
+pub note-text : (n : ℕ) → n ≤ highestPitch → cellText n ≡ decimal n
+note-text n h = rw (ne-eqb n restCell (λ e. omega arith))
 
 pub cell-right : (rests : Bool) (text : List ℕ) {value : ℕ} {rest : List ℕ} → cell rests text ≡ got value rest → Cells rests text value rest
 unfolding cell
@@ -129,10 +130,10 @@ cell-right false text {value} {rest} e =
     record { right = n .small; is = n .is ∙ ap (λ (x : List ℕ). x ++ rest) (sym (note-text value (n .small))) }
 cell-right true text {value} {rest} e = step (eqb (front text) 45) refl e
   where
-    step : (t : Bool) → eqb (front text) 45 ≡ t → cond t (got 255 (drop 1 text)) (number text) ≡ got value rest → Cells true text value rest
+    step : (t : Bool) → eqb (front text) 45 ≡ t → cond t (got restCell (drop 1 text)) (number text) ≡ got value rest → Cells true text value rest
     step true p k =
         let f : front text ≡ 45 = eqb-true (front text) 45 p in
-        let z : 255 ≡ value = got-value k in
+        let z : restCell ≡ value = got-value k in
         record {
           right = inr (sym z);
           is =

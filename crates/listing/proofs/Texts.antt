@@ -10,6 +10,8 @@ use lib.Dec.{ltb, eqb}
 use lib.ListN.{length, drop}
 use borrow.Author.Tests.{le-leb, ltb-true, ltb-false, ne-eqb, eq-eqb}
 use Rattle.theory.specs.Lists.{join}
+use Rattle.asking.specs.Limits.{mostNotes}
+use Rattle.score.specs.Limits.{mostTracks, mostColumns, highestPitch, restCell}
 use Rattle.asking.specs.declared.way.Way.{Way}
 use Rattle.asking.specs.declared.way.Way.the-variants.{Exact, Octave}
 use Rattle.telling.specs.Text.{decimal}
@@ -19,7 +21,7 @@ use Rattle.reading.specs.Request.{Request, all, chords, right, withChords, mean
 use Rattle.listing.specs.Texts.{cellText, fieldsText, chordText, themeText, textOf, Each, IsNote, IsCell, IsChord, IsTheme, Right}
 use Rattle.words.proofs.Places.{digit-some, bad-got}
 use Rattle.telling.proofs.Decimals.{decimal-small, decimal-more}
-use Rattle.listing.proofs.Rights.{IsValue}
+use Rattle.listing.proofs.Rights.{IsValue, note-text}
 
 below-or : (n top : ℕ) → (n < top) ⊎ (top ≤ n)
 below-or n top = step (ltb n top) refl
@@ -37,11 +39,11 @@ more-none : (v : ℕ) (text : List ℕ) → isDigit (front text) ≡ false → m
 unfolding moreDigits
 more-none v text e = rw e
 
-more-one : (v d : ℕ) (rest : List ℕ) → d < 10 → v * 10 + d ≤ 127 → moreDigits v ((48 + d) ∷ rest) ≡ got (v * 10 + d) rest
+more-one : (v d : ℕ) (rest : List ℕ) → d < 10 → v * 10 + d ≤ highestPitch → moreDigits v ((48 + d) ∷ rest) ≡ got (v * 10 + d) rest
 unfolding moreDigits
 more-one v d rest h l =
     let s : 48 + d - 48 ≡ d = omega arith in
-    rw (digit-is d h, s, le-leb (v * 10 + d) 127 l)
+    rw (digit-is d h, s, le-leb (v * 10 + d) highestPitch l)
 
 number-zero : (rest : List ℕ) → number (48 ∷ rest) ≡ got 0 rest
 unfolding number
@@ -62,13 +64,13 @@ module _ (rest : List ℕ) (open′ : isDigit (front rest) ≡ false) where
   two-digits a b h l s =
       number-some a ((48 + b) ∷ rest) h l ∙ rw (more-one a b rest s (omega arith)) (more-none (a * 10 + b) rest open′)
 
-  three-digits : (a b c : ℕ) → 1 ≤ a → a < 10 → b < 10 → c < 10 → (a * 10 + b) * 10 + c ≤ 127
+  three-digits : (a b c : ℕ) → 1 ≤ a → a < 10 → b < 10 → c < 10 → (a * 10 + b) * 10 + c ≤ highestPitch
       → number ((48 + a) ∷ (48 + b) ∷ (48 + c) ∷ rest) ≡ got ((a * 10 + b) * 10 + c) rest
   three-digits a b c h l s t m =
       number-some a ((48 + b) ∷ (48 + c) ∷ rest) h l
       ∙ rw (more-one a b ((48 + c) ∷ rest) s (omega arith)) (more-one (a * 10 + b) c rest t m)
 
-  number-text : (n : ℕ) → n ≤ 127 → number (decimal n ++ rest) ≡ got n rest
+  number-text : (n : ℕ) → n ≤ highestPitch → number (decimal n ++ rest) ≡ got n rest
   number-text n h = ⊎-elim (λ (l : n < 10). rw (decimal-small n l) (one-digit n l)) tens (below-or n 10)
     where
       tens : 10 ≤ n → number (decimal n ++ rest) ≡ got n rest
@@ -98,21 +100,18 @@ number-front text {n} {rest} e = step (isDigit (front text)) refl e
     step true p k = digit-some (front text) p .0
     step false p k = absurd (bad-got k)
 
-pub note-text : (n : ℕ) → n ≤ 127 → cellText n ≡ decimal n
-note-text n h = rw (ne-eqb n 255 (λ e. omega arith))
-
 cell-text : (rests : Bool) (value : ℕ) (rest : List ℕ) → isDigit (front rest) ≡ false → IsValue rests value → cell rests (cellText value ++ rest) ≡ got value rest
 unfolding cell
 cell-text false value rest o h = rw (note-text value h) (number-text rest o value h)
 cell-text true value rest o h = ⊎-elim note still h
   where
-    note : value ≤ 127 → cell true (cellText value ++ rest) ≡ got value rest
+    note : value ≤ highestPitch → cell true (cellText value ++ rest) ≡ got value rest
     note l =
         let e = number-text rest o value l in
         let f : 48 ≤ front (decimal value ++ rest) = number-front (decimal value ++ rest) e in
         rw (note-text value l, ne-eqb (front (decimal value ++ rest)) 45 (λ k. omega arith)) e
 
-    still : value ≡ 255 → cell true (cellText value ++ rest) ≡ got value rest
+    still : value ≡ restCell → cell true (cellText value ++ rest) ≡ got value rest
     still e = rw e
 
 fields-open : (values rest : List ℕ) → isDigit (front (fieldsText values ++ rest)) ≡ false
@@ -135,18 +134,18 @@ fields-text rests (suc left) (v ∷ values) rest l h =
 
 -- ---- lines
 
-pub chord-text : (g : ℕ) (column rest : List ℕ) → tracksRight g (length column) ≡ true → length column ≤ 16 → Each IsCell column → chordLine g (chordText column ++ rest) ≡ got column rest
+pub chord-text : (g : ℕ) (column rest : List ℕ) → tracksRight g (length column) ≡ true → length column ≤ mostTracks → Each IsCell column → chordLine g (chordText column ++ rest) ≡ got column rest
 unfolding chordLine
-chord-text g column rest t l h = rw (fields-text true 16 column rest l h, t)
+chord-text g column rest t l h = rw (fields-text true mostTracks column rest l h, t)
 
 pub theme-text : (theme : Theme) (rest : List ℕ) → IsTheme theme → themeLine (themeText theme ++ rest) ≡ got theme rest
 unfolding themeLine
 theme-text theme rest h = step (theme .way) (theme .notes) (h .notes-some) (h .notes-few) (h .notes)
   where
-    step : (way : Way) (notes : List ℕ) → 2 ≤ length notes → length notes ≤ 32 → Each IsNote notes
+    step : (way : Way) (notes : List ℕ) → 2 ≤ length notes → length notes ≤ mostNotes → Each IsNote notes
         → themeLine (themeText (record { way = way; notes = notes }) ++ rest) ≡ got (record { way = way; notes = notes }) rest
-    step Exact notes s f r = rw (fields-text false 32 notes rest f r, le-leb 2 (length notes) s)
-    step Octave notes s f r = rw (fields-text false 32 notes rest f r, le-leb 2 (length notes) s)
+    step Exact notes s f r = rw (fields-text false mostNotes notes rest f r, le-leb 2 (length notes) s)
+    step Octave notes s f r = rw (fields-text false mostNotes notes rest f r, le-leb 2 (length notes) s)
 
 -- as many cells as the first chord has, which is right for it and for those behind it
 tracks-first : (h : ℕ) → 1 ≤ h → tracksRight 0 h ≡ true
@@ -158,7 +157,7 @@ tracks-same h l = rw (le-leb 1 h l, ne-eqb h 0 (λ e. omega arith), eq-eqb h h r
 pub some-text : (b : ℕ) (text : List ℕ) → eqb (length (b ∷ text)) 0 ≡ false
 some-text b text = ne-eqb (length (b ∷ text)) 0 (λ e. omega arith)
 
-chords-text : (left g h : ℕ) (columns : List (List ℕ)) → tracksRight g h ≡ true → 1 ≤ h → h ≤ 16 → length columns ≤ left → Each (IsChord h) columns
+chords-text : (left g h : ℕ) (columns : List (List ℕ)) → tracksRight g h ≡ true → 1 ≤ h → h ≤ mostTracks → length columns ≤ left → Each (IsChord h) columns
     → chords left g (join (map chordText columns)) ≡ all columns
 unfolding chords
 chords-text zero g h [] t s f l r = refl
@@ -177,8 +176,8 @@ pub meaning-text : (q : Request) → Right q → meaning (textOf q) ≡ right q
 unfolding meaning textOf
 meaning-text q h = rw (theme-text (q .theme) (join (map chordText (q .columns))) (h .theme)) (step (q .columns) (h .columns-some) (h .columns-few) (h .columns))
   where
-    step : (columns : List (List ℕ)) → 1 ≤ length columns → length columns ≤ 2048 → Each (IsChord (h .tracks)) columns
-        → withChords (q .theme) (chords 2048 0 (join (map chordText columns))) ≡ right (record { theme = q .theme; columns = columns })
+    step : (columns : List (List ℕ)) → 1 ≤ length columns → length columns ≤ mostColumns → Each (IsChord (h .tracks)) columns
+        → withChords (q .theme) (chords mostColumns 0 (join (map chordText columns))) ≡ right (record { theme = q .theme; columns = columns })
     step [] s f r = absurd (omega arith)
     step (c ∷ columns) s f r =
-        rw (chords-text 2048 0 (h .tracks) (c ∷ columns) (tracks-first (h .tracks) (h .tracks-some)) (h .tracks-some) (h .tracks-few) f r)
+        rw (chords-text mostColumns 0 (h .tracks) (c ∷ columns) (tracks-first (h .tracks) (h .tracks-some)) (h .tracks-some) (h .tracks-few) f r)

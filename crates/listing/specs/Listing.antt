@@ -12,6 +12,10 @@ use Rattle.listing.specs.declared.output.Listing.{Listing}
 use Rattle.listing.specs.declared.output.Listing.the-variants.{Written, Short}
 use Rattle.listing.specs.Answer.{output}
 
+-- room for an input: one byte more than any right input has. What lies behind it changes nothing (`output-behind`)
+abbrev pub inputRoom : ℕ
+inputRoom = 143502
+
 pub record Lists (input out : List ℕ) (answer : Listing) (out′ : List ℕ) : Type 0 where
   pub answers : answer ≡ cond (ltb (length out) room) Short (Written (length (output input)))
   pub writes : out′ ≡ cond (ltb (length out) room) out (over out (output input))

@@ -8,6 +8,8 @@ use Prim.Native.Nat.{ℕ, _≤_}
 use lib.Dec.{eqb}
 use lib.ListN.{length}
 use Rattle.theory.specs.Lists.{join}
+use Rattle.asking.specs.Limits.{mostNotes}
+use Rattle.score.specs.Limits.{mostTracks, mostColumns, highestPitch, restCell}
 use Rattle.asking.specs.declared.way.Way.{Way}
 use Rattle.asking.specs.declared.way.Way.the-variants.{Exact, Octave}
 use Rattle.reading.specs.Reading.{themeWord, exactWord, octaveWord, chordWord, Theme}
@@ -17,7 +19,7 @@ use Rattle.telling.specs.Text.{decimal}
 -- ---- the text of a request
 
 abbrev pub cellText : ℕ → List ℕ
-cellText value = cond (eqb value 255) (45 ∷ []) (decimal value)
+cellText value = cond (eqb value restCell) (45 ∷ []) (decimal value)
 
 unfoldable pub fieldsText : List ℕ → List ℕ
 fieldsText [] = 10 ∷ []
@@ -44,10 +46,10 @@ Each P (x ∷ xs) = P x × Each P xs
 
 -- a note is 0 to 127; a cell is that, or a rest
 abbrev pub IsNote : ℕ → Type 0
-IsNote value = value ≤ 127
+IsNote value = value ≤ highestPitch
 
 abbrev pub IsCell : ℕ → Type 0
-IsCell value = (value ≤ 127) ⊎ (value ≡ 255)
+IsCell value = (value ≤ highestPitch) ⊎ (value ≡ restCell)
 
 -- a chord of h cells
 pub record IsChord (h : ℕ) (column : List ℕ) : Type 0 where
@@ -57,7 +59,7 @@ pub record IsChord (h : ℕ) (column : List ℕ) : Type 0 where
 -- a theme of 2 to 32 notes
 pub record IsTheme (theme : Theme) : Type 0 where
   pub notes-some : 2 ≤ length (theme .notes)
-  pub notes-few : length (theme .notes) ≤ 32
+  pub notes-few : length (theme .notes) ≤ mostNotes
   pub notes : Each IsNote (theme .notes)
 
 -- within the limits: such a theme, 1 to 16 tracks, 1 to 2,048 chords that all have them
@@ -65,7 +67,7 @@ pub record Right (q : Request) : Type 0 where
   pub theme : IsTheme (q .theme)
   pub tracks : ℕ
   pub tracks-some : 1 ≤ tracks
-  pub tracks-few : tracks ≤ 16
+  pub tracks-few : tracks ≤ mostTracks
   pub columns-some : 1 ≤ length (q .columns)
-  pub columns-few : length (q .columns) ≤ 2048
+  pub columns-few : length (q .columns) ≤ mostColumns
   pub columns : Each (IsChord tracks) (q .columns)

@@ -9,12 +9,13 @@ use lib.Dec.{leb, eqb}
 use lib.ListN.{getD}
 use Rattle.theory.specs.Bits.{number}
 use Rattle.theory.specs.Lists.{some}
+use Rattle.score.specs.Limits.{highestPitch}
 use Rattle.score.specs.Score.{pitches}
 use Rattle.score.specs.Sets.{intervalSet, sets}
 
 -- the bit of a cell's class; a rest has none
 abbrev pub classBit : (cell : ℕ) → ℕ
-classBit cell = cond (leb cell 127) (2 ^ (cell % 12)) 0
+classBit cell = cond (leb cell highestPitch) (2 ^ (cell % 12)) 0
 
 -- a table of the class bit of every byte
 pub record ClassBits (bits : List ℕ) : Type 0 where

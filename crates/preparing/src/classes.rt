@@ -1,5 +1,6 @@
 // The class sets of columns: a bit for each of the twelve tones that is there. `sets` finds the interval sets of them.
 
+use score::HIGHEST_PITCH;
 use score::Pitch;
 ghost use mathlib.Core.Path.{_≡_};
 ghost use Prim.Native.Nat.{_+_, _*_, _%_, _≤_};
@@ -30,7 +31,7 @@ fn class_bits() -> [u16; 256]
 {
     let mut bits = [0u16; 256];
     let mut cell: u8 = 0;
-    while cell <= 127 {
+    while cell <= HIGHEST_PITCH {
         bits[cell as usize] = 1 << class_of(Pitch(cell));
         cell += 1;
     }
@@ -70,7 +71,7 @@ pub fn classes_of(column: &[u8]) -> u16
     let mut i = 0;
     while i < column.len() {
         let cell = column[i];
-        if cell <= 127 {
+        if cell <= HIGHEST_PITCH {
             mask = mask | (1 << class_of(Pitch(cell)));
         }
         i += 1;

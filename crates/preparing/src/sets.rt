@@ -3,6 +3,7 @@
 // first, in the place of the sets: each of the two loops then does one thing to column after column.
 
 use crate::classes::gather;
+use score::HIGHEST_SET;
 use score::Refusal;
 use score::Verdict;
 use score::checks::bad_length;
@@ -74,5 +75,5 @@ fn set_of(earlier: u16, later: u16) -> u16
         }
         k += 1;
     }
-    (reached & 4095) ^ 4095
+    (reached & HIGHEST_SET) ^ HIGHEST_SET
 }

@@ -9,6 +9,8 @@ use lib.Dec.{leb, eqb}
 use lib.ListN.{length, take, drop, length-drop}
 use lib.Seq.{drop-drop, length-take-le}
 use borrow.Author.Tests.{le-leb, lt-leb}
+use Rattle.asking.specs.Limits.{mostNotes}
+use Rattle.score.specs.Limits.{mostTracks}
 use Rattle.asking.specs.declared.way.Way.{Way}
 use Rattle.asking.specs.declared.way.Way.the-variants.{Exact, Octave}
 use Rattle.reading.specs.declared.lines.Line.{Line}
@@ -57,16 +59,16 @@ module _ {text : List ℕ} {limit base : ℕ} {into : List ℕ} {r : Line} {into
 
 -- ---- a chord line
 
-module _ (text : List ℕ) (from h base : ℕ) (into : List ℕ) (room : base + 16 ≤ length into) where
+module _ (text : List ℕ) (from h base : ℕ) (into : List ℕ) (room : base + mostTracks ≤ length into) where
   abbrev Chorded : Line → List ℕ → Type 0
-  Chorded r into′ = Filled text 16 base into r into′ (chordLine h (drop from text))
+  Chorded r into′ = Filled text mostTracks base into r into′ (chordLine h (drop from text))
 
   pub chord-none : begins chordWord (drop from text) ≡ false → Chorded Bad into
   unfolding chordLine
   chord-none e = record { is = rw e; within = omega arith; few = omega arith; long = refl; before = refl }
 
-  module _ (e : begins chordWord (drop from text) ≡ true) {r : Line} {into′ : List ℕ} (f : Filled text 16 base into r into′ (fields true 16 (drop (from + 5) text))) where
-    on : chordLine h (drop from text) ≡ counted (tracksRight h) (fields true 16 (drop (from + 5) text))
+  module _ (e : begins chordWord (drop from text) ≡ true) {r : Line} {into′ : List ℕ} (f : Filled text mostTracks base into r into′ (fields true mostTracks (drop (from + 5) text))) where
+    on : chordLine h (drop from text) ≡ counted (tracksRight h) (fields true mostTracks (drop (from + 5) text))
     unfolding chordLine
     on = rw (e, drop-drop 5 from text)
 
@@ -96,8 +98,8 @@ module _ (text : List ℕ) (from h base : ℕ) (into : List ℕ) (room : base + 
 
 -- ---- the notes of a theme line
 
-module _ (text : List ℕ) (from : ℕ) (way : Way) (into : List ℕ) (room : 32 ≤ length into) {r : Line} {into′ : List ℕ}
-    (f : Filled text 32 0 into r into′ (fields false 32 (drop from text))) where
+module _ (text : List ℕ) (from : ℕ) (way : Way) (into : List ℕ) (room : mostNotes ≤ length into) {r : Line} {into′ : List ℕ}
+    (f : Filled text mostNotes 0 into r into′ (fields false mostNotes (drop from text))) where
   abbrev sung : Read (List ℕ) → Read Theme
   sung q = next q (λ notes rest. got (record { way = way; notes = notes }) rest)
 

@@ -12,6 +12,7 @@ use lib.Dec.{eqb, leb}
 use lib.ListN.{length, take, drop, length-append, length-drop}
 use lib.Seq.{take-nil, take-take, drop-drop}
 use borrow.Author.Tests.{eq-eqb, ne-eqb, eqb-true, leb-true}
+use Rattle.score.specs.Limits.{mostTracks, mostColumns, mostCells}
 use Rattle.score.specs.Score.{cut}
 use Rattle.score.proofs.Columns.{cut-length}
 use Rattle.reading.specs.declared.lines.Line.{Line}
@@ -89,8 +90,8 @@ pub chord-tracks : (h : ℕ) (text : List ℕ) {c rest : List ℕ} → chordLine
 unfolding chordLine
 chord-tracks h text {c} {rest} e = step (begins chordWord text) e
   where
-    step : (t : Bool) → cond t (counted (tracksRight h) (fields true 16 (drop 5 text))) bad ≡ got c rest → tracksRight h (length c) ≡ true
-    step true q = counted-right (tracksRight h) (fields true 16 (drop 5 text)) q
+    step : (t : Bool) → cond t (counted (tracksRight h) (fields true mostTracks (drop 5 text))) bad ≡ got c rest → tracksRight h (length c) ≡ true
+    step true q = counted-right (tracksRight h) (fields true mostTracks (drop 5 text)) q
     step false q = absurd (bad-got q)
 
 pub tracks-some : (h k : ℕ) → tracksRight h k ≡ true → 1 ≤ k
@@ -121,20 +122,20 @@ cut-same (suc n) tracks count cells cells′ e t = rw (e (omega arith)) (cut-fro
 -- ---- chord lines under way
 
 pub record Scoring (text : List ℕ) (from : ℕ) (cells₀ cells : List ℕ) (at tracks columns base : ℕ) : Type 0 where
-  pub so-far : chords 2048 0 (drop from text) ≡ aboveAll (cut columns tracks cells) (chords (2048 - columns) tracks (drop at text))
+  pub so-far : chords mostColumns 0 (drop from text) ≡ aboveAll (cut columns tracks cells) (chords (mostColumns - columns) tracks (drop at text))
   pub within : at ≤ length text
-  pub few : columns ≤ 2048
-  pub narrow : tracks ≤ 16
+  pub few : columns ≤ mostColumns
+  pub narrow : tracks ≤ mostTracks
   pub some : 1 ≤ columns → 1 ≤ tracks
   pub based : base ≡ columns * tracks
   pub long : length cells ≡ length cells₀
-  pub big : 32768 ≤ length cells₀
+  pub big : mostCells ≤ length cells₀
 
 module _ (text : List ℕ) (from : ℕ) (cells₀ : List ℕ) where
-  pub scoring-start : from ≤ length text → 32768 ≤ length cells₀ → Scoring text from cells₀ cells₀ from 0 0 0
+  pub scoring-start : from ≤ length text → mostCells ≤ length cells₀ → Scoring text from cells₀ cells₀ from 0 0 0
   scoring-start h b =
       record {
-        so-far = sym (above-nil (chords 2048 0 (drop from text)));
+        so-far = sym (above-nil (chords mostColumns 0 (drop from text)));
         within = h;
         few = omega arith;
         narrow = omega arith;
@@ -145,20 +146,20 @@ module _ (text : List ℕ) (from : ℕ) (cells₀ : List ℕ) where
       }
 
   module _ {cells : List ℕ} {at tracks columns base : ℕ} (s : Scoring text from cells₀ cells at tracks columns base) where
-    pub scoring-end : length text ≤ at → Scored (Chord.Read tracks columns) cells (chords 2048 0 (drop from text))
+    pub scoring-end : length text ≤ at → Scored (Chord.Read tracks columns) cells (chords mostColumns 0 (drop from text))
     scoring-end h =
         record {
           is =
               sym
               (s .so-far
-              ∙ ap (aboveAll (cut columns tracks cells)) (chords-nil (2048 - columns) tracks (drop at text) (omega (arith, length-drop at text)))
+              ∙ ap (aboveAll (cut columns tracks cells)) (chords-nil (mostColumns - columns) tracks (drop at text) (omega (arith, length-drop at text)))
               ∙ ap all (append-nil (cut columns tracks cells)));
           few = s .few;
           narrow = s .narrow;
         }
 
     -- a fault here: as many right lines stand before it as there are columns
-    faults : chords (2048 - columns) tracks (drop at text) ≡ fault 0 → Scored (Chord.Faulty columns) cells (chords 2048 0 (drop from text))
+    faults : chords (mostColumns - columns) tracks (drop at text) ≡ fault 0 → Scored (Chord.Faulty columns) cells (chords mostColumns 0 (drop from text))
     faults e =
         record {
           is = sym (s .so-far ∙ ap (aboveAll (cut columns tracks cells)) e ∙ ap fault (omega (arith, cut-length columns tracks cells)));
@@ -170,33 +171,33 @@ module _ (text : List ℕ) (from : ℕ) (cells₀ : List ℕ) where
       left-some : length (drop at text) ≡ 0 → ⊥
       left-some e = omega (arith, length-drop at text)
 
-      pub scoring-many : columns ≡ 2048 → Scored (Chord.Faulty columns) cells (chords 2048 0 (drop from text))
+      pub scoring-many : columns ≡ mostColumns → Scored (Chord.Faulty columns) cells (chords mostColumns 0 (drop from text))
       scoring-many e =
-          let z : 2048 - columns ≡ 0 = omega arith in
+          let z : mostColumns - columns ≡ 0 = omega arith in
           faults (rw z (chords-many tracks (drop at text) left-some))
 
-      module _ (n : columns ≡ 2048 → ⊥) where
-        pub scoring-less : columns < 2048
-        scoring-less = ⊎-elim (λ (e : columns ≡ 2048). absurd (n e)) (λ l. l) (eq-or-lt-of-le (s .few))
+      module _ (n : columns ≡ mostColumns → ⊥) where
+        pub scoring-less : columns < mostColumns
+        scoring-less = ⊎-elim (λ (e : columns ≡ mostColumns). absurd (n e)) (λ l. l) (eq-or-lt-of-le (s .few))
 
         -- the next line has room
-        pub scoring-fits : base + 16 ≤ 32768
+        pub scoring-fits : base + mostTracks ≤ mostCells
         scoring-fits =
             let l = scoring-less in
-            omega (arith, s .based, mul-le-mul {n₁ = columns} {m₁ = tracks} {n₂ = 2047} {m₂ = 16} (omega arith) (s .narrow))
+            omega (arith, s .based, mul-le-mul {n₁ = columns} {m₁ = tracks} {n₂ = 2047} {m₂ = mostTracks} (omega arith) (s .narrow))
 
-        pub scoring-room : base + 16 ≤ length cells
+        pub scoring-room : base + mostTracks ≤ length cells
         scoring-room = omega (arith, scoring-fits, s .long, s .big)
 
-        on : chords (2048 - columns) tracks (drop at text)
-            ≡ onChord (chordLine tracks (drop at text)) (λ c rest. above c (chords (2048 - (columns + 1)) (length c) rest))
+        on : chords (mostColumns - columns) tracks (drop at text)
+            ≡ onChord (chordLine tracks (drop at text)) (λ c rest. above c (chords (mostColumns - (columns + 1)) (length c) rest))
         on =
             let l = scoring-less in
-            let e : 2048 - columns ≡ suc (2048 - (columns + 1)) = omega arith in
-            rw e (chords-on (2048 - (columns + 1)) tracks (drop at text) left-some)
+            let e : mostColumns - columns ≡ suc (mostColumns - (columns + 1)) = omega arith in
+            rw e (chords-on (mostColumns - (columns + 1)) tracks (drop at text) left-some)
 
-        module _ {r : Line} {cells′ : List ℕ} (f : Filled text 16 base cells r cells′ (chordLine tracks (drop at text))) where
-          pub scoring-bad : r ≡ Bad → Scored (Chord.Faulty columns) cells′ (chords 2048 0 (drop from text))
+        module _ {r : Line} {cells′ : List ℕ} (f : Filled text mostTracks base cells r cells′ (chordLine tracks (drop at text))) where
+          pub scoring-bad : r ≡ Bad → Scored (Chord.Faulty columns) cells′ (chords mostColumns 0 (drop from text))
           scoring-bad e =
               let q = faults (on ∙ rw (filled-bad f e)) in
               record { is = q .is; few = q .few; narrow = q .narrow }
@@ -217,7 +218,7 @@ module _ (text : List ℕ) (from : ℕ) (cells₀ : List ℕ) where
             base-is : base ≡ columns * count
             base-is = s .based ∙ times-same columns tracks count same
 
-            one : chords (2048 - columns) tracks (drop at text) ≡ above chord (chords (2048 - (columns + 1)) count (drop here text))
+            one : chords (mostColumns - columns) tracks (drop at text) ≡ above chord (chords (mostColumns - (columns + 1)) count (drop here text))
             one = on ∙ rw (filled-is f e, chord-long)
 
             columns-are : cut columns tracks cells ++ (chord ∷ []) ≡ cut (columns + 1) count cells′
@@ -231,8 +232,8 @@ module _ (text : List ℕ) (from : ℕ) (cells₀ : List ℕ) where
                   so-far =
                       s .so-far
                       ∙ ap (aboveAll (cut columns tracks cells)) one
-                      ∙ above-one (cut columns tracks cells) chord (chords (2048 - (columns + 1)) count (drop here text))
-                      ∙ ap (λ (cs : List (List ℕ)). aboveAll cs (chords (2048 - (columns + 1)) count (drop here text))) columns-are;
+                      ∙ above-one (cut columns tracks cells) chord (chords (mostColumns - (columns + 1)) count (drop here text))
+                      ∙ ap (λ (cs : List (List ℕ)). aboveAll cs (chords (mostColumns - (columns + 1)) count (drop here text))) columns-are;
                   within = filled-within f e;
                   few = omega arith;
                   narrow = filled-few f e;

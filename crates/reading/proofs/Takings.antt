@@ -11,6 +11,8 @@ use lib.ListN.{length, take, drop, replicate}
 use lib.Seq.{take-add, length-take-le}
 use borrow.Author.Tests.{le-ltb, ltb-false}
 use Rattle.theory.specs.Lists.{join}
+use Rattle.asking.specs.Limits.{mostNotes}
+use Rattle.score.specs.Limits.{mostTracks, mostColumns, mostCells}
 use Rattle.score.specs.Score.{cut}
 use Rattle.score.proofs.Columns.{cut-length, column-length}
 use Rattle.asking.specs.declared.way.Way.{Way}
@@ -41,21 +43,21 @@ cleared-alone {k} {into₁} into values c e h t =
 
 -- one buffer or the other is shorter than it must be
 abbrev short : (theme cells : List ℕ) → Bool
-short theme cells = ltb (length theme) 32 || ltb (length cells) 32768
+short theme cells = ltb (length theme) mostNotes || ltb (length cells) mostCells
 
 -- both are not
-pub both-long : (theme cells : List ℕ) → short theme cells ≡ false → (32 ≤ length theme) × (32768 ≤ length cells)
-both-long theme cells = step (ltb (length theme) 32) (ltb (length cells) 32768) refl refl
+pub both-long : (theme cells : List ℕ) → short theme cells ≡ false → (mostNotes ≤ length theme) × (mostCells ≤ length cells)
+both-long theme cells = step (ltb (length theme) mostNotes) (ltb (length cells) mostCells) refl refl
   where
-    step : (s t : Bool) → ltb (length theme) 32 ≡ s → ltb (length cells) 32768 ≡ t → (s || t) ≡ false → (32 ≤ length theme) × (32768 ≤ length cells)
-    step false false p q e = (ltb-false (length theme) 32 p, ltb-false (length cells) 32768 q)
+    step : (s t : Bool) → ltb (length theme) mostNotes ≡ s → ltb (length cells) mostCells ≡ t → (s || t) ≡ false → (mostNotes ≤ length theme) × (mostCells ≤ length cells)
+    step false false p q e = (ltb-false (length theme) mostNotes p, ltb-false (length cells) mostCells q)
     step true t p q e = absurd (true≢false e)
     step false true p q e = absurd (true≢false e)
 
 -- what was read is within the buffers
 pub record Within (r : Reading) (theme cells : List ℕ) : Type 0 where
   pub notes-within : heldNotes r ≤ length theme
-  pub cells-few : heldCells r ≤ 32768
+  pub cells-few : heldCells r ≤ mostCells
   pub cells-within : heldCells r ≤ length cells
 
 -- the promise by what an input means, of buffers that are long enough
@@ -98,7 +100,7 @@ module _ (input theme cells : List ℕ) where
         where
           step : (a : Reading) → says input a theme₁ cells₁ → Within a theme₁ cells₁
           step (Right way notes tracks columns) h =
-              let few : columns * tracks ≤ 32768 = mul-le-mul {n₁ = columns} {m₁ = tracks} {n₂ = 2048} {m₂ = 16} (h .columns-few) (h .tracks-few) in
+              let few : columns * tracks ≤ mostCells = mul-le-mul {n₁ = columns} {m₁ = tracks} {n₂ = mostColumns} {m₂ = mostTracks} (h .columns-few) (h .tracks-few) in
               record { notes-within = omega (arith, both-long theme cells e .0, h .notes-few); cells-few = few; cells-within = omega (arith, both-long theme cells e .1) }
           step (Bad line) h = record { notes-within = omega arith; cells-few = omega arith; cells-within = omega arith }
           step Short h = absurd h
@@ -139,9 +141,9 @@ pub record Took (input theme cells : List ℕ) (way : Way) (notes tracks columns
   pub theme-is : theme′ ≡ alone theme (request .theme .notes)
   pub cells-are : cells′ ≡ alone cells (join (request .columns))
 
-module _ {input theme cells : List ℕ} {r : Reading} {theme′ cells′ : List ℕ} (t : Takes input theme cells r theme′ cells′) (few : 32 ≤ length theme) (many : 32768 ≤ length cells) where
+module _ {input theme cells : List ℕ} {r : Reading} {theme′ cells′ : List ℕ} (t : Takes input theme cells r theme′ cells′) (few : mostNotes ≤ length theme) (many : mostCells ≤ length cells) where
   read-as : As (meaning input) theme cells r theme′ cells′
-  read-as = as-takes input theme cells (rw (le-ltb (length theme) 32 few, le-ltb (length cells) 32768 many)) t
+  read-as = as-takes input theme cells (rw (le-ltb (length theme) mostNotes few, le-ltb (length cells) mostCells many)) t
 
   pub took-short : r ≡ Short → ⊥
   took-short e = step (meaning input) read-as

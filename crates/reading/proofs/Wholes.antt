@@ -5,6 +5,8 @@ use mathlib.Core.List.{List}
 use Prim.Native.Nat.{ℕ, zero, suc, _+_, _≤_}
 use native.Mathlib.Omega.{arith}
 use lib.ListN.{length, take, drop}
+use Rattle.asking.specs.Limits.{mostNotes}
+use Rattle.score.specs.Limits.{mostTracks, mostColumns}
 use Rattle.score.specs.Score.{cut}
 use Rattle.asking.specs.declared.way.Way.{Way}
 use Rattle.reading.specs.declared.lines.ThemeLine.{ThemeLine}
@@ -24,16 +26,16 @@ sung way count theme = record { way = way; notes = take count theme }
 pub record ThemeGot (input theme : List ℕ) (way : Way) (count here : ℕ) : Type 0 where
   pub is : themeLine input ≡ got (sung way count theme) (drop here input)
   pub within : here ≤ length input
-  pub few : count ≤ 32
+  pub few : count ≤ mostNotes
 
 pub record ScoreGot (input : List ℕ) (here : ℕ) (cells : List ℕ) (tracks columns : ℕ) : Type 0 where
-  pub is : chords 2048 0 (drop here input) ≡ all (cut columns tracks cells)
-  pub few : columns ≤ 2048
-  pub narrow : tracks ≤ 16
+  pub is : chords mostColumns 0 (drop here input) ≡ all (cut columns tracks cells)
+  pub few : columns ≤ mostColumns
+  pub narrow : tracks ≤ mostTracks
 
 pub record FaultGot (input : List ℕ) (here k : ℕ) : Type 0 where
-  pub is : chords 2048 0 (drop here input) ≡ fault k
-  pub few : k ≤ 2048
+  pub is : chords mostColumns 0 (drop here input) ≡ fault k
+  pub few : k ≤ mostColumns
 
 module _ {input theme : List ℕ} {r : ThemeLine} (t : Themed input r theme (themeLine input)) where
   pub theme-got : {way : Way} {count here : ℕ} → r ≡ ThemeLine.Read way count here → ThemeGot input theme way count here
@@ -43,7 +45,7 @@ module _ {input theme : List ℕ} {r : ThemeLine} (t : Themed input r theme (the
   unfolding meaning
   whole-bad e = ap withTheme (sym (t .is) ∙ ap (themeRead input theme) e)
 
-module _ {input : List ℕ} {here : ℕ} {cells : List ℕ} {q : ChordLines} (s : Scored q cells (chords 2048 0 (drop here input))) where
+module _ {input : List ℕ} {here : ℕ} {cells : List ℕ} {q : ChordLines} (s : Scored q cells (chords mostColumns 0 (drop here input))) where
   pub score-got : {tracks columns : ℕ} → q ≡ ChordLines.Read tracks columns → ScoreGot input here cells tracks columns
   score-got g = record { is = sym (s .is) ∙ ap (chordsRead cells) g; few = rw (ap chordsCount g) at (s .few); narrow = rw (ap chordsTracks g) at (s .narrow) }
 
@@ -53,7 +55,7 @@ module _ {input : List ℕ} {here : ℕ} {cells : List ℕ} {q : ChordLines} (s 
 -- ---- what it means
 
 module _ {input theme : List ℕ} {way : Way} {count here : ℕ} (t : ThemeGot input theme way count here) where
-  meaning-of : {q : Chords} → chords 2048 0 (drop here input) ≡ q → meaning input ≡ withChords (sung way count theme) q
+  meaning-of : {q : Chords} → chords mostColumns 0 (drop here input) ≡ q → meaning input ≡ withChords (sung way count theme) q
   unfolding meaning
   meaning-of c = ap withTheme (t .is) ∙ ap (withChords (sung way count theme)) c
 

@@ -5,6 +5,8 @@ use mathlib.Core.List.{List, [], _∷_}
 use Prim.Native.Nat.{ℕ, zero, suc}
 use lib.Dec.{leb, eqb}
 use lib.ListN.{length, drop}
+use Rattle.asking.specs.Limits.{mostNotes}
+use Rattle.score.specs.Limits.{mostTracks}
 use Rattle.asking.specs.declared.way.Way.{Way}
 use Rattle.asking.specs.declared.way.Way.the-variants.{Exact, Octave}
 use Rattle.words.specs.Words.{Read, got, bad, next, front, begins, cell}
@@ -43,7 +45,7 @@ abbrev pub tracksRight : (h : ℕ) → ℕ → Bool
 tracksRight h k = leb 1 k && (eqb h 0 || eqb k h)
 
 unfoldable pub chordLine : (h : ℕ) → List ℕ → Read (List ℕ)
-chordLine h text = cond (begins chordWord text) (counted (tracksRight h) (fields true 16 (drop 5 text))) bad
+chordLine h text = cond (begins chordWord text) (counted (tracksRight h) (fields true mostTracks (drop 5 text))) bad
 
 -- a theme: exact or octave, and 2 to 32 notes
 pub record Theme : Type 0 where
@@ -51,7 +53,7 @@ pub record Theme : Type 0 where
   pub notes : List ℕ
 
 abbrev pub notesOf : Way → List ℕ → Read Theme
-notesOf way text = next (counted (leb 2) (fields false 32 text)) (λ notes rest. got (record { way = way; notes = notes }) rest)
+notesOf way text = next (counted (leb 2) (fields false mostNotes text)) (λ notes rest. got (record { way = way; notes = notes }) rest)
 
 unfoldable pub themeLine : List ℕ → Read Theme
 themeLine text =

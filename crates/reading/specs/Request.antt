@@ -5,6 +5,7 @@ use mathlib.Core.List.{List, [], _∷_}
 use Prim.Native.Nat.{ℕ, zero, suc, _+_}
 use lib.Dec.{eqb}
 use lib.ListN.{length}
+use Rattle.score.specs.Limits.{mostColumns}
 use Rattle.words.specs.Words.{Read, got, bad}
 use Rattle.reading.specs.Reading.{Theme, themeLine, chordLine}
 
@@ -44,7 +45,7 @@ withChords theme (all (c ∷ columns)) = right (record { theme = theme; columns 
 withChords theme (fault k) = faulty (k + 2)
 
 abbrev pub withTheme : Read Theme → Meaning
-withTheme (got theme rest) = withChords theme (chords 2048 0 rest)
+withTheme (got theme rest) = withChords theme (chords mostColumns 0 rest)
 withTheme bad = faulty 1
 
 unfoldable pub meaning : List ℕ → Meaning

@@ -4,6 +4,8 @@ use mathlib.Core.Path.{_≡_}
 use mathlib.Core.List.{List, _++_}
 use Prim.Native.Nat.{ℕ, _-_, _*_, _≤_}
 use lib.ListN.{length, take, drop, replicate}
+use Rattle.asking.specs.Limits.{mostNotes}
+use Rattle.score.specs.Limits.{mostTracks, mostColumns}
 use Rattle.reading.specs.declared.lines.Line.{Line}
 use Rattle.reading.specs.declared.lines.Line.the-variants as Line
 use Rattle.reading.specs.declared.lines.ThemeLine.{ThemeLine}
@@ -56,7 +58,7 @@ themeCount ThemeLine.Bad = 0
 pub record Themed (text : List ℕ) (r : ThemeLine) (theme : List ℕ) (want : Read Theme) : Type 0 where
   pub is : themeRead text theme r ≡ want
   pub within : themeNext r ≤ length text
-  pub few : themeCount r ≤ 32
+  pub few : themeCount r ≤ mostNotes
 
 abbrev pub chordsRead : (cells : List ℕ) → ChordLines → Chords
 chordsRead cells (ChordLines.Read tracks columns) = all (cut columns tracks cells)
@@ -73,16 +75,16 @@ chordsCount (ChordLines.Faulty k) = k
 -- the columns of all chord lines stand in the buffer one after the other
 pub record Scored (r : ChordLines) (cells : List ℕ) (want : Chords) : Type 0 where
   pub is : chordsRead cells r ≡ want
-  pub few : chordsCount r ≤ 2048
-  pub narrow : chordsTracks r ≤ 16
+  pub few : chordsCount r ≤ mostColumns
+  pub narrow : chordsTracks r ≤ mostTracks
 
 -- a whole input was read: its notes and its columns stand at the front of the buffers
 pub record Stood (input : List ℕ) (way : Way) (notes tracks columns : ℕ) (theme cells : List ℕ) : Type 0 where
   pub is : meaning input ≡ right (record { theme = record { way = way; notes = take notes theme }; columns = cut columns tracks cells })
-  pub notes-few : notes ≤ 32
-  pub tracks-few : tracks ≤ 16
+  pub notes-few : notes ≤ mostNotes
+  pub tracks-few : tracks ≤ mostTracks
   pub columns-some : 1 ≤ columns
-  pub columns-few : columns ≤ 2048
+  pub columns-few : columns ≤ mostColumns
 
 -- what an answer says: that, or which line is the first faulty one. That a buffer is too short is none
 abbrev pub says : (input : List ℕ) → Reading → (theme cells : List ℕ) → Type 0

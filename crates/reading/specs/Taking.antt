@@ -7,6 +7,8 @@ use Prim.Native.Nat.{ℕ, _-_}
 use lib.Dec.{ltb}
 use lib.ListN.{length, getD, replicate}
 use Rattle.theory.specs.Lists.{join}
+use Rattle.asking.specs.Limits.{mostNotes}
+use Rattle.score.specs.Limits.{mostCells}
 use Rattle.reading.specs.declared.request.Reading.{Reading}
 use Rattle.reading.specs.declared.request.Reading.the-variants.{Right, Bad, Short}
 use Rattle.reading.specs.Request.{Meaning, right, faulty, meaning}
@@ -38,7 +40,7 @@ takenAs (faulty line) theme cells = record { answer = Bad line; theme = alone th
 -- buffers of which one is too short for some inputs are not written
 unfoldable pub taken : (input theme cells : List ℕ) → Take
 taken input theme cells =
-    cond (ltb (length theme) 32 || ltb (length cells) 32768) (record { answer = Short; theme = theme; cells = cells }) (takenAs (meaning input) theme cells)
+    cond (ltb (length theme) mostNotes || ltb (length cells) mostCells) (record { answer = Short; theme = theme; cells = cells }) (takenAs (meaning input) theme cells)
 
 pub record Takes (input theme cells : List ℕ) (answer : Reading) (theme′ cells′ : List ℕ) : Type 0 where
   pub answers : answer ≡ taken input theme cells .answer

@@ -1,11 +1,16 @@
 // Theme and chord lines at a place of the input.
 
+use asking::MOST_NOTES;
 use asking::Way;
+use score::MOST_COLUMNS;
+use score::MOST_TRACKS;
 use words::Numeral;
 use words::cell;
 use words::stands;
 ghost use Prim.Native.Nat.{_+_, _≤_};
 ghost use lib.ListN.{length, drop};
+ghost use Rattle.score.specs.Limits.{mostTracks, mostColumns, mostCells};
+ghost use Rattle.asking.specs.Limits.{mostNotes};
 ghost use Rattle.reading.specs.Reading.{fields as fieldsOf, chordLine, notesOf, themeLine};
 ghost use Rattle.reading.specs.Request.{chords as chordsOf};
 ghost use Rattle.reading.specs.Steps.{Filled, Themed, Scored};
@@ -62,13 +67,13 @@ fn fields(text: &[u8], from: usize, rests: bool, limit: usize, into: &mut [u8], 
 
 // The chord line at the place, into the cells from a base on: as many cells as h, or any number where h is 0.
 fn chord_line(text: &[u8], from: usize, h: usize, cells: &mut [u8], base: usize) -> Line
-    requires { ⌜ (from ≤ length (now text)) × (base + 16 ≤ length (now cells)) ⌝ }
-    ensures { λ r. ⌜ Filled (now (text .entry)) 16 base (now (cells .entry)) r (now (cells .exit)) (chordLine h (drop from (now (text .entry)))) ⌝ }
+    requires { ⌜ (from ≤ length (now text)) × (base + mostTracks ≤ length (now cells)) ⌝ }
+    ensures { λ r. ⌜ Filled (now (text .entry)) mostTracks base (now (cells .entry)) r (now (cells .exit)) (chordLine h (drop from (now (text .entry)))) ⌝ }
 {
     if !stands(text, from, b"chord") {
         return Line::Bad;
     }
-    match fields(text, from + 5, true, 16, cells, base) {
+    match fields(text, from + 5, true, MOST_TRACKS, cells, base) {
         Line::Read { count, next } => {
             if (1 <= count) & ((h == 0) | (count == h)) {
                 Line::Read { count, next }
@@ -82,15 +87,15 @@ fn chord_line(text: &[u8], from: usize, h: usize, cells: &mut [u8], base: usize)
 
 // All chord lines from the place on, to the end of the input.
 pub fn chord_lines(text: &[u8], from: usize, cells: &mut [u8]) -> ChordLines
-    requires { ⌜ (from ≤ length (now text)) × (32768 ≤ length (now cells)) ⌝ }
-    ensures { λ r. ⌜ Scored r (now (cells .exit)) (chordsOf 2048 0 (drop from (now (text .entry)))) ⌝ }
+    requires { ⌜ (from ≤ length (now text)) × (mostCells ≤ length (now cells)) ⌝ }
+    ensures { λ r. ⌜ Scored r (now (cells .exit)) (chordsOf mostColumns 0 (drop from (now (text .entry)))) ⌝ }
 {
     let mut at = from;
     let mut tracks = 0;
     let mut columns = 0;
     let mut base = 0;
     while at < text.len() {
-        if columns == 2048 {
+        if columns == MOST_COLUMNS {
             return ChordLines::Faulty(columns);
         }
         match chord_line(text, at, tracks, cells, base) {
@@ -110,10 +115,10 @@ pub fn chord_lines(text: &[u8], from: usize, cells: &mut [u8]) -> ChordLines
 
 // The notes of a theme line, from the place behind its way on.
 fn notes(text: &[u8], from: usize, way: Way, theme: &mut [u8]) -> ThemeLine
-    requires { ⌜ (from ≤ length (now text)) × (32 ≤ length (now theme)) ⌝ }
+    requires { ⌜ (from ≤ length (now text)) × (mostNotes ≤ length (now theme)) ⌝ }
     ensures { λ r. ⌜ Themed (now (text .entry)) r (now (theme .exit)) (notesOf way (drop from (now (text .entry)))) ⌝ }
 {
-    match fields(text, from, false, 32, theme, 0) {
+    match fields(text, from, false, MOST_NOTES, theme, 0) {
         Line::Read { count, next } => {
             if 2 <= count {
                 ThemeLine::Read { way, count, next }
@@ -127,7 +132,7 @@ fn notes(text: &[u8], from: usize, way: Way, theme: &mut [u8]) -> ThemeLine
 
 // The theme line at the front of the input.
 pub fn theme_line(text: &[u8], theme: &mut [u8]) -> ThemeLine
-    requires { ⌜ 32 ≤ length (now theme) ⌝ }
+    requires { ⌜ mostNotes ≤ length (now theme) ⌝ }
     ensures { λ r. ⌜ Themed (now (text .entry)) r (now (theme .exit)) (themeLine (now (text .entry))) ⌝ }
 {
     if stands(text, 0, b"theme\texact") {

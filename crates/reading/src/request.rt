@@ -4,10 +4,14 @@ use crate::lines::ChordLines;
 use crate::lines::ThemeLine;
 use crate::lines::chord_lines;
 use crate::lines::theme_line;
+use asking::MOST_NOTES;
 use asking::Way;
+use score::MOST_CELLS;
 ghost use mathlib.Core.Path.{_≡_};
 ghost use Prim.Native.Nat.{_≤_};
 ghost use lib.ListN.{length};
+ghost use Rattle.score.specs.Limits.{mostCells};
+ghost use Rattle.asking.specs.Limits.{mostNotes};
 ghost use Rattle.reading.specs.Taking.{Takes};
 ghost use Rattle.reading.specs.Steps.{heldNotes, heldCells, Held, Cleared};
 
@@ -32,7 +36,7 @@ pub enum Reading {
 pub fn read(input: &[u8], theme: &mut [u8], cells: &mut [u8]) -> Reading
     ensures { λ r. ⌜ Takes (now (input .entry)) (now (theme .entry)) (now (cells .entry)) r (now (theme .exit)) (now (cells .exit)) ⌝ }
 {
-    if (theme.len() < 32) | (cells.len() < 32768) {
+    if (theme.len() < MOST_NOTES) | (cells.len() < MOST_CELLS) {
         return Reading::Short;
     }
     let reading = all_lines(input, theme, cells);
@@ -43,7 +47,7 @@ pub fn read(input: &[u8], theme: &mut [u8], cells: &mut [u8]) -> Reading
 
 // The theme line and all chord lines. Chord lines that are missing altogether are a fault of line 2.
 fn all_lines(input: &[u8], theme: &mut [u8], cells: &mut [u8]) -> Reading
-    requires { ⌜ (32 ≤ length (now theme)) × (32768 ≤ length (now cells)) ⌝ }
+    requires { ⌜ (mostNotes ≤ length (now theme)) × (mostCells ≤ length (now cells)) ⌝ }
     ensures { λ r. ⌜ Held (now (input .entry)) r (now (theme .exit)) (now (cells .exit)) ⌝ }
 {
     match theme_line(input, theme) {
@@ -80,7 +84,7 @@ fn notes_in(reading: Reading) -> usize
 }
 
 fn cells_in(reading: Reading) -> usize
-    requires { ⌜ heldCells reading ≤ 32768 ⌝ }
+    requires { ⌜ heldCells reading ≤ mostCells ⌝ }
     ensures { λ r. ⌜ r ≡ heldCells reading ⌝ }
 {
     match reading {

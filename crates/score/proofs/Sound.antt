@@ -10,16 +10,17 @@ use lib.ListN.{length}
 use borrow.Author.Tests.{not-false, eqb-true, eqb-false, ltb-false}
 use Rattle.theory.specs.Lists.{some}
 use Rattle.score.specs.declared.refusals.Verdict.the-variants.{Accepted, Refused}
+use Rattle.score.specs.Limits.{mostTracks, mostColumns}
 use Rattle.score.specs.Score.{columnsIn}
 use Rattle.score.specs.Refusals.{Row, verdict, row1, row2, row3, row6, row7, badCell, badSet}
 
 -- a score that refusals 1 to 3 do not turn away
 pub record Sound (cells : List ℕ) (h : ℕ) : Type 0 where
   pub tracks : 1 ≤ h
-  pub few-tracks : h ≤ 16
+  pub few-tracks : h ≤ mostTracks
   pub whole : length cells % h ≡ 0
   pub columns : 1 ≤ columnsIn cells h
-  pub few-columns : columnsIn cells h ≤ 2048
+  pub few-columns : columnsIn cells h ≤ mostColumns
   pub clean : some badCell cells ≡ false
 
 -- sets that refusals 6 and 7 do not turn away
@@ -45,15 +46,15 @@ score-sound cells h e =
     let first = accepted-cons (row1 h) (row2 cells h ∷ row3 cells ∷ []) e in
     let second = accepted-cons (row2 cells h) (row3 cells ∷ []) (first .1) in
     let third = accepted-cons (row3 cells) [] (second .1) in
-    let height = none-or (eqb h 0) (ltb 16 h) (first .0) in
-    let width = none-or (not (eqb (length cells % h) 0) || eqb n 0) (ltb 2048 n) (second .0) in
+    let height = none-or (eqb h 0) (ltb mostTracks h) (first .0) in
+    let width = none-or (not (eqb (length cells % h) 0) || eqb n 0) (ltb mostColumns n) (second .0) in
     let shape = none-or (not (eqb (length cells % h) 0)) (eqb n 0) (width .0) in
     record {
       tracks = pos-of-ne-zero (eqb-false h 0 (height .0));
-      few-tracks = ltb-false 16 h (height .1);
+      few-tracks = ltb-false mostTracks h (height .1);
       whole = eqb-true (length cells % h) 0 (not-false _ (shape .0));
       columns = pos-of-ne-zero (eqb-false n 0 (shape .1));
-      few-columns = ltb-false 2048 n (width .1);
+      few-columns = ltb-false mostColumns n (width .1);
       clean = third .0;
     }
 

@@ -4,12 +4,13 @@ use mathlib.Core.Path.{_≡_}
 use mathlib.Core.Bool.{Bool, true, false, cond, not, _&&_, _||_}
 use mathlib.Core.List.{List, [], _∷_}
 use Prim.Native.Nat.{ℕ, _-_, _%_}
-use lib.Dec.{leb, ltb, eqb}
+use lib.Dec.{ltb, eqb}
 use lib.ListN.{length}
 use Rattle.theory.specs.Lists.{some, first}
 use Rattle.score.specs.declared.refusals.Refusal.{Refusal}
 use Rattle.score.specs.declared.refusals.Verdict.{Verdict}
 use Rattle.score.specs.declared.refusals.Verdict.the-variants.{Accepted, Refused}
+use Rattle.score.specs.Limits.{mostTracks, mostColumns, highestPitch, restCell, highestSet}
 use Rattle.score.specs.Score.{columnsIn}
 
 -- a row: whether its condition holds, and what is then given
@@ -31,15 +32,15 @@ verdict rows = judge rows Refused Accepted
 
 -- 1: h is 0 or over 16
 abbrev pub row1 : (h : ℕ) → Row
-row1 h = row 1 (eqb h 0 || ltb 16 h) 0
+row1 h = row 1 (eqb h 0 || ltb mostTracks h) 0
 
 -- 2: cells aren't a multiple of h, or n is 0 or over 2,048
 abbrev pub row2 : (cells : List ℕ) (h : ℕ) → Row
-row2 cells h = row 2 (not (eqb (length cells % h) 0) || eqb (columnsIn cells h) 0 || ltb 2048 (columnsIn cells h)) 0
+row2 cells h = row 2 (not (eqb (length cells % h) 0) || eqb (columnsIn cells h) 0 || ltb mostColumns (columnsIn cells h)) 0
 
--- 3: a cell is 128 to 254; the first such cell, from 0
+-- 3: a cell is 128 to 254, above every pitch and no rest; the first such cell, from 0
 abbrev pub badCell : ℕ → Bool
-badCell cell = leb 128 cell && leb cell 254
+badCell cell = ltb highestPitch cell && ltb cell restCell
 
 abbrev pub row3 : (cells : List ℕ) → Row
 row3 cells = row 3 (some badCell cells) (first badCell cells)
@@ -50,12 +51,17 @@ row6 cells h sets = row 6 (not (eqb (length sets) (columnsIn cells h - 1))) 0
 
 -- 7: a lent set is over 4095; the first such, from 0
 abbrev pub badSet : ℕ → Bool
-badSet set = ltb 4095 set
+badSet set = ltb highestSet set
 
 abbrev pub row7 : (sets : List ℕ) → Row
 row7 sets = row 7 (some badSet sets) (first badSet sets)
 
 -- ---- when a refusal is given, over any rows
+
+-- no number stands at two rows, so that a number tells its row. The order of the numbers is free
+abbrev pub distinct : List Row → Bool
+distinct [] = true
+distinct (row ∷ rows) = cond (some (λ (r : Row). eqb (r .given .number) (row .given .number)) rows) false (distinct rows)
 
 -- refusal k is given: no row before that of number k applies, and that one does
 abbrev pub GivenBy : List Row → (k : ℕ) → Type 0

@@ -7,6 +7,7 @@ use lib.Dec.{leb}
 use lib.ListN.{length, getD, take, drop}
 use Rattle.score.specs.declared.quantities.Pitch.{Pitch}
 use Rattle.score.specs.declared.quantities.Column.{Column}
+use Rattle.score.specs.Limits.{highestPitch}
 
 -- a number as a pitch, and as the number of a column
 abbrev pub pitch : ℕ → Pitch
@@ -40,7 +41,7 @@ onward score j = drop (j .0 - 1) score
 -- twice; whoever asks of this list asks whether some pitch is in it, so equal pitches count once
 abbrev pub pitches : (column : List ℕ) → List Pitch
 pitches [] = []
-pitches (cell ∷ cells) = cond (leb cell 127) (pitch cell ∷ pitches cells) (pitches cells)
+pitches (cell ∷ cells) = cond (leb cell highestPitch) (pitch cell ∷ pitches cells) (pitches cells)
 
 -- a theme is a run of pitches: its i-th note, from 1
 abbrev pub note : (theme : List ℕ) → ℕ → Pitch

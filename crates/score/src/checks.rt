@@ -1,6 +1,11 @@
 // What is turned away of a score and of lent sets, and where. Every check is total: it may be asked of any cells, tracks
 // and sets, and says what the rows of the table of refusals say, the lowest number that applies.
 
+use crate::limits::HIGHEST_PITCH;
+use crate::limits::HIGHEST_SET;
+use crate::limits::MOST_COLUMNS;
+use crate::limits::MOST_TRACKS;
+use crate::limits::REST;
 use crate::refusals::Refusal;
 use crate::refusals::Verdict;
 ghost use mathlib.Core.Path.{_≡_};
@@ -73,7 +78,7 @@ fn refused(number: u8, place: usize) -> Verdict
 fn bad_tracks(tracks: usize) -> bool
     ensures { λ r. ⌜ r ≡ row1 tracks .applies ⌝ }
 {
-    (tracks == 0) | (16 < tracks)
+    (tracks == 0) | (MOST_TRACKS < tracks)
 }
 
 fn bad_columns(cells: &[u8], tracks: usize) -> bool
@@ -83,14 +88,14 @@ fn bad_columns(cells: &[u8], tracks: usize) -> bool
         true
     } else {
         let columns = cells.len() / tracks;
-        (cells.len() % tracks != 0) | (columns == 0) | (2048 < columns)
+        (cells.len() % tracks != 0) | (columns == 0) | (MOST_COLUMNS < columns)
     }
 }
 
 fn bad_cell(cell: u8) -> bool
     ensures { λ r. ⌜ r ≡ badCell cell ⌝ }
 {
-    (128 <= cell) & (cell <= 254)
+    (HIGHEST_PITCH < cell) & (cell < REST)
 }
 
 // Whether some cell is bad. All are gone through whatever is found, so that many can be looked at together.
@@ -123,7 +128,7 @@ fn first_bad_cell(cells: &[u8]) -> usize
 fn bad_set(set: u16) -> bool
     ensures { λ r. ⌜ r ≡ badSet set ⌝ }
 {
-    4095 < set
+    HIGHEST_SET < set
 }
 
 // Whether some set is bad: all are gone through, as of cells.

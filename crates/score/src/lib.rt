@@ -1,15 +1,23 @@
 // A score, and what is turned away of it.
 //
-// `quantities` keeps pitch, interval and column number apart; `refusals` says what a refusal holds; `checks` says what is
+// `limits` names the numbers that a score is held to; `quantities` keeps pitch, interval and column number apart; `refusals` says what a refusal holds; `checks` says what is
 // refused and where.
 
 pub mod checks;
+pub mod limits;
 pub mod quantities;
 pub mod refusals;
 
 pub use checks::check_score;
 pub use checks::check_sets;
 pub use checks::columns_in;
+pub use limits::HIGHEST_PITCH;
+pub use limits::HIGHEST_SET;
+pub use limits::MOST_CELLS;
+pub use limits::MOST_COLUMNS;
+pub use limits::MOST_TRACKS;
+pub use limits::REST;
+pub use limits::TABLE_WORDS;
 pub use quantities::Column;
 pub use quantities::Interval;
 pub use quantities::Pitch;

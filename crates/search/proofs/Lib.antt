@@ -1,21 +1,14 @@
--- Laws of this crate's definitions. Places: `Notes` (all notes). The list: `Listed`. Candidates: `Filtered`. The worked cases: `Worked`. Calls: `Answers`,
--- `PlainCall`, `QuickCall`. Pages: `Turning` (bookmarks, and what is read back), `Paging` (one page), `Readings` (page after page),
--- `Searches` (plain and quick), `Quicker` (quick and plain compared), `AtOrAfter` and `OnePages` (a page, said of pairs).
--- What all this comes to: `Demands`.
+-- Laws of this crate's definitions. Places: `Notes` (all notes). The list: `Listed`. Candidates: `Filtered`. The worked cases: `Worked`. The
+-- calls: `PlainCall`, `QuickCall`. The two searches, for the laws of `paging`: `Searches`; quick and plain compared: `Quicker`; what a walk
+-- has found is what a page shows: `Reached`. What all this comes to: `Demands`, `Truths`.
 pub mod Notes
 pub mod Listed
-pub mod Once
 pub mod Filtered
 pub mod Worked
-pub mod Answers
 pub mod PlainCall
 pub mod QuickCall
-pub mod Turning
-pub mod Paging
-pub mod Readings
 pub mod Searches
 pub mod Quicker
-pub mod AtOrAfter
-pub mod OnePages
+pub mod Reached
 pub mod Demands
 pub mod Truths

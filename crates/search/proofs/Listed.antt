@@ -13,7 +13,7 @@ use lib.Signed.{_≤ℤ_}
 use lib.ListN.{length, getD}
 use lib.Seq.{getD-drop}
 use Rattle.theory.specs.Pages.{hits, Rising}
-use Rattle.theory.proofs.Members.{in-hits, hits-in, rising-hits}
+use Rattle.theory.proofs.Members.{in-hits, hits-in}
 use Rattle.score.specs.Score.{pitch, columnAt, onward}
 use Rattle.asking.specs.declared.way.Way.{Way}
 use Rattle.asking.specs.declared.bookmark.Pair.{Pair}
@@ -21,7 +21,9 @@ use Rattle.asking.specs.Way.{lowest, codeOf}
 use Rattle.score.specs.Score.{note}
 use Rattle.search.specs.Definition.{Stands}
 use Rattle.walking.specs.Starts.{Place, place, key, starts, hit}
-use Rattle.search.specs.Pairs.{pairAt, pairs, Before, Ordered, none, one, more}
+use Rattle.paging.specs.Order.{Before, Ordered, none, one, more}
+use Rattle.paging.proofs.Orders.{ordered-hits}
+use Rattle.search.specs.Pairs.{pairAt, pairs}
 use Rattle.walking.proofs.Order.{span-lt, Start, in-starts, starts-in, starts-rising}
 use Rattle.asking.proofs.Shifts.{shift-rises, shift-above, shift-below, shift-code, code-lt}
 use Rattle.asking.proofs.Holding.{holds-true, true-holds}
@@ -93,8 +95,10 @@ module _ (way : Way) (score : List (List ℕ)) (theme : List ℕ) where
       (hits-in (hit way score theme) (starts way score theme) (starts-in way score theme h (stands-start t h))
       (each-hit way score theme (placeOf way pair) (stands-each t))))
 
+  -- in order: the starts, and so the hits among them
+  pub starts-ordered : Ordered (map (pairAt way) (starts way score theme))
+  starts-ordered =
+      rising-ordered way 256 (starts way score theme) (λ s m. omega (arith, span-lt way, in-starts way score theme m .small)) (starts-rising way score theme)
+
   pub listed-ordered : Ordered (pairs way score theme)
-  listed-ordered =
-      rising-ordered way 256 (hits (hit way score theme) (starts way score theme))
-      (λ s m. omega (arith, span-lt way, in-starts way score theme (in-hits (hit way score theme) (starts way score theme) m .0) .small))
-      (rising-hits (hit way score theme) key 256 (starts way score theme) (starts-rising way score theme))
+  listed-ordered = ordered-hits (hit way score theme) (pairAt way) (starts way score theme) starts-ordered

@@ -1,90 +1,99 @@
--- The plain and the quick call turn the pages of their starts: what `Readings` asks of a call. The quick starts are those
--- of the plain way that pass a test, so they rise too. Assumes nothing.
-use mathlib.Core.Path.{_≡_, sym, ap, _∙_, subst}
+-- The plain and the quick search are right searches, and their calls turn the pages of them: all that `paging` asks. The quick search leaves
+-- out starts of the plain one. Assumes nothing.
+use mathlib.Core.Path.{_≡_, refl, sym, ap, _∙_, subst}
 use mathlib.Core.Bool.{Bool}
 use mathlib.Core.List.{List, List·Memᴰ as In}
 use Prim.Native.Nat.{ℕ, _≤_, _<_}
 use native.Mathlib.Omega.{arith}
-use lib.IntN.{ℤ}
 use lib.ListN.{length}
-use Rattle.theory.proofs.Members.{in-hits, rising-hits}
+use lib.Signed.{leZ-yes}
 use Rattle.score.specs.Score.{scoreOf}
 use Rattle.score.proofs.Columns.{score-length}
+use Rattle.asking.specs.Limits.{mostNotes}
 use Rattle.asking.specs.declared.way.Way.{Way}
-use Rattle.asking.specs.Way.{rangeOf}
+use Rattle.asking.specs.declared.way.Way.the-variants.{Exact, Octave}
 use Rattle.asking.specs.declared.bookmark.Bookmark.{Bookmark}
-use Rattle.walking.specs.Starts.{Place, key, starts}
-use Rattle.filter.specs.Table.{themeTable}
+use Rattle.asking.specs.Way.{rangeOf}
+use Rattle.asking.specs.Asking.{Accepted, AcceptedSets, InRange, PlainAsks, QuickAsks}
+use Rattle.asking.proofs.Rows.{plain-clear, quick-clear}
+use Rattle.asking.proofs.Shifts.{shift-above, shift-below}
+use Rattle.filter.specs.Table.{wordBits, themeTable}
+use Rattle.paging.specs.Lent.{Lent, Room}
+use Rattle.paging.specs.Search.{Narrow, Right}
+use Rattle.paging.specs.Page.{leaf}
+use Rattle.paging.proofs.Answers.{paged-clear}
+use Rattle.paging.proofs.Fewer.{only-right}
+use Rattle.paging.proofs.Paging.{Calls}
+use Rattle.walking.specs.Starts.{Place, starts}
 use Rattle.walking.specs.Candidates.{candidate}
-use Rattle.search.specs.Page.{QuickLeaf, plainPage, quickPage}
-use Rattle.walking.specs.Candidates.{quickStarts}
-use Rattle.asking.specs.Asking.{Accepted, AcceptedSets, InRange, PlainAsks}
-use Rattle.walking.proofs.Order.{starts-rising, in-starts}
-use Rattle.search.proofs.PlainCall.{plain-leaf}
-use Rattle.search.proofs.QuickCall.{quick-leaf}
-use Rattle.search.proofs.Turning.{Found}
-use Rattle.search.proofs.Paging.{Search, Calls}
+use Rattle.walking.proofs.Order.{in-starts}
+use Rattle.search.specs.Pairs.{pairAt, plainSearch, quickSearch}
+use Rattle.search.specs.Page.{rowsOfPlain, plainPage, rowsOfQuick, quickPage}
+use Rattle.search.proofs.Listed.{starts-ordered}
 
--- a start is a place that a page may return
-start-found : (way : Way) (score : List (List ℕ)) (theme : List ℕ) → 2 ≤ length theme → (s : Place) → In s (starts way score theme) → Found way (length score) s
-start-found way score theme m s k =
-    let t = in-starts way score theme k in
-    record { from-first = t .from-first; to-last = omega (arith, t .to-last); small = t .small }
+-- ---- right searches
 
-module _ (cells : List ℕ) (h : ℕ) (theme : List ℕ) (way : Way) (a : Accepted cells h theme) (r : ℕ) (room : 1 ≤ r) where
+pub way-narrow : (way : Way) → Narrow (rangeOf way)
+way-narrow Exact = record { not-below = leZ-yes tt; some = leZ-yes tt; not-above = leZ-yes tt }
+way-narrow Octave = record { not-below = leZ-yes tt; some = leZ-yes tt; not-above = leZ-yes tt }
+
+module _ (way : Way) (score : List (List ℕ)) (theme : List ℕ) (notes : 2 ≤ length theme) (few : length score < 65535) where
+  pub plain-right : Right (plainSearch way score theme)
+  plain-right =
+      record {
+        ordered = starts-ordered way score theme;
+        each = λ s m. let t = in-starts way score theme m in
+            record {
+              from-first = t .from-first;
+              to-last = omega (arith, t .to-last);
+              not-below = shift-above way (s .code);
+              not-above = shift-below way (t .small);
+            };
+        narrow = way-narrow way;
+        few = few;
+      }
+
+  pub quick-right : (w : ℕ) (table sets : List ℕ) → Right (quickSearch w way score theme table sets)
+  quick-right w table sets = only-right (λ s. candidate w table sets (length theme) (s .column)) (plainSearch way score theme) plain-right
+
+-- ---- the calls
+
+module _ (cells : List ℕ) (h : ℕ) (theme : List ℕ) (way : Way) (a : Accepted mostNotes cells h theme) (r : ℕ) (room : 1 ≤ r) where
   score-few : length (scoreOf cells h) < 65535
   score-few = omega (arith, score-length cells h, a .columns-few)
 
-  asks : (b : Bookmark) (columns : List ℕ) (shifts : List ℤ) → InRange (rangeOf way) (length (scoreOf cells h)) b → length columns ≡ r → length shifts ≡ r
-      → PlainAsks cells h theme way b columns shifts
-  asks b columns shifts i long same =
+  asks : (b : Bookmark) (buffers : Lent) → InRange (rangeOf way) (length (scoreOf cells h)) b → Room r buffers
+      → PlainAsks cells h theme way b (buffers .columns) (buffers .shifts)
+  asks b buffers i m =
       record {
         accepted = a;
-        room = omega arith;
-        same-room = same ∙ sym long;
+        room = omega (arith, m .of-columns);
+        same-room = m .of-shifts ∙ sym (m .of-columns);
         marked = subst (λ (n : ℕ). InRange (rangeOf way) n b) (score-length cells h) i;
       }
 
-  abbrev pub plainSearch : Search
-  plainSearch = record { way = way; score = scoreOf cells h; theme = theme; reached = starts way (scoreOf cells h) theme; room = r }
-
-  pub plain-calls : Calls plainSearch (plainPage cells h theme way)
+  pub plain-calls : Calls (plainSearch way (scoreOf cells h) theme) r (plainPage cells h theme way)
+  unfolding plainPage
   plain-calls =
       record {
-        up = starts-rising way (scoreOf cells h) theme;
-        each = start-found way (scoreOf cells h) theme (a .notes-some);
+        right = plain-right way (scoreOf cells h) theme (a .notes-some) score-few;
         some-room = room;
-        few = score-few;
-        turns = λ b columns shifts i long same. plain-leaf cells h theme way b columns shifts (asks b columns shifts i long same);
+        turns = λ b buffers i m. paged-clear (rowsOfPlain cells h theme way b buffers) (plainSearch way (scoreOf cells h) theme) b buffers
+            (plain-clear cells h theme way b (buffers .columns) (buffers .shifts) .0 (asks b buffers i m));
       }
 
   -- with sets that are accepted, and at each call any table of 4,096 places
-  module _ (sets : List ℕ) (s : AcceptedSets cells h sets) (table : Bookmark → List ℕ → List ℤ → List ℕ)
-      (long-table : (b : Bookmark) (columns : List ℕ) (shifts : List ℤ) → length (table b columns shifts) ≡ 4096) where
-    abbrev pub quickSearch : Search
-    quickSearch =
-        record {
-          way = way;
-          score = scoreOf cells h;
-          theme = theme;
-          reached = quickStarts way (scoreOf cells h) theme (themeTable theme) sets;
-          room = r;
-        }
-
-    pub quick-calls : Calls quickSearch (λ b columns shifts. quickPage cells h theme way b sets (table b columns shifts) columns shifts .leaf)
-    unfolding quickStarts
+  module _ (sets : List ℕ) (s : AcceptedSets cells h sets) (table : Bookmark → Lent → List ℕ)
+      (long : (b : Bookmark) (buffers : Lent) → length (table b buffers) ≡ 4096) where
+    pub quick-calls : Calls (quickSearch wordBits way (scoreOf cells h) theme (themeTable wordBits theme) sets) r (λ b buffers. quickPage cells h theme way b sets (table b buffers) buffers)
+    unfolding quickPage
     quick-calls =
         record {
-          up = rising-hits keep key 256 (starts way (scoreOf cells h) theme) (starts-rising way (scoreOf cells h) theme);
-          each = λ p k. start-found way (scoreOf cells h) theme (a .notes-some) p (in-hits keep (starts way (scoreOf cells h) theme) k .0);
+          right = quick-right way (scoreOf cells h) theme (a .notes-some) score-few wordBits (themeTable wordBits theme) sets;
           some-room = room;
-          few = score-few;
           turns =
-              λ b columns shifts i long same.
-              ap (λ (q : QuickLeaf). q .leaf)
-              (quick-leaf cells h theme way b sets (table b columns shifts) columns shifts
-              (record { plain = asks b columns shifts i long same; with-sets = s; table-long = long-table b columns shifts }));
+              λ b buffers i m.
+              paged-clear (rowsOfQuick cells h theme way b sets (table b buffers) buffers) (quickSearch wordBits way (scoreOf cells h) theme (themeTable wordBits theme) sets) b buffers
+              (quick-clear cells h theme way b sets (table b buffers) (buffers .columns) (buffers .shifts) .0
+              (record { plain = asks b buffers i m; with-sets = s; table-long = long b buffers }));
         }
-      where
-        keep : Place → Bool
-        keep p = candidate (themeTable theme) sets (length theme) (p .column)

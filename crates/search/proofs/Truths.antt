@@ -1,45 +1,38 @@
 -- Demand 2, and what joins it to the calls: every pair that a page writes stands by the published definition, plain and quick,
--- whatever sets were lent. Looks: an answer's looks are at most the bound, and they are those of the starts at or after the
--- bookmark, by column and then shift. Then sentences that follow from the definition: a theme longer than the score has no
+-- whatever sets were lent. Looks: an answer's looks are at most the bound. Then sentences that follow from the definition: a theme longer than the score has no
 -- pairs, no pair passes over a column of rests, and a finished bookmark gives the same finished page. Assumes nothing.
 use mathlib.Core.Path.{_≡_, sym, ap, _∙_, subst}
 use mathlib.Core.List.{List, [], _∷_, List·Memᴰ as In, List·Memᴰ·head as at-head, List·Memᴰ·tail as in-tail, List·Memᴰ·not-nil as not-nil}
 use Prim.Native.Nat.{ℕ, zero, suc, _-_, _≤_, _<_}
 use native.Mathlib.Nat.{le-trans, le-of-eq}
 use native.Mathlib.Omega.{arith}
-use lib.Dec.{leb}
 use lib.IntN.{ℤ}
 use lib.ListN.{length, getD, take}
-use Rattle.theory.specs.Pages.{hits, from}
-use Rattle.theory.proofs.Hits.{hits-same, from-keys}
+use Rattle.theory.specs.Pages.{hits}
 use Rattle.theory.proofs.Members.{in-hits}
 use Rattle.score.specs.declared.quantities.Pitch.{Pitch}
-use Rattle.score.specs.Score.{scoreOf, onward, pitches}
+use Rattle.score.specs.Score.{scoreOf, onward, pitches, note}
 use Rattle.asking.specs.declared.way.Way.{Way}
 use Rattle.asking.specs.declared.way.Way.the-variants.{Exact, Octave}
 use Rattle.asking.specs.declared.bookmark.Pair.{Pair}
 use Rattle.asking.specs.declared.bookmark.Bookmark.{Bookmark}
-use Rattle.search.specs.declared.page.Turn.{Turn}
-use Rattle.search.specs.declared.page.Page.{Page}
-use Rattle.search.specs.declared.page.Page.the-variants.{Turned, Refused}
-use Rattle.asking.specs.Way.{Holds, rangeOf}
-use Rattle.search.specs.Definition.{Stands}
-use Rattle.score.specs.Score.{note}
-use Rattle.walking.specs.Starts.{Place, key, starts, looks}
-use Rattle.search.specs.Pairs.{pairAt, pairs}
-use Rattle.filter.specs.Table.{themeTable}
+use Rattle.asking.specs.Way.{Holds}
+use Rattle.asking.specs.Asking.{AcceptedSets, PlainAsks}
+use Rattle.filter.specs.Table.{wordBits, themeTable}
+use Rattle.paging.specs.declared.page.Turn.{Turn}
+use Rattle.paging.specs.declared.page.Page.{Page}
+use Rattle.paging.specs.declared.page.Page.the-variants.{Turned, Refused}
+use Rattle.paging.specs.Lent.{Lent, readPairs}
+use Rattle.paging.specs.Order.{atOrAfter}
+use Rattle.paging.specs.Search.{spent}
+use Rattle.paging.specs.Page.{Leaf}
+use Rattle.paging.specs.OnePage.{firstPairs}
 use Rattle.walking.specs.Candidates.{candidate}
-use Rattle.asking.specs.Bookmarks.{keyOf}
-use Rattle.search.specs.Page.{Leaf, QuickLeaf, plainPage, quickPage}
-use Rattle.walking.specs.Candidates.{quickStarts}
-use Rattle.walking.specs.Found.{spent}
-use Rattle.search.specs.Reading.{readPairs}
-use Rattle.asking.specs.Asking.{AcceptedSets, InRange, PlainAsks}
-use Rattle.search.specs.OnePage.{firstPairs, atOrAfter}
+use Rattle.search.specs.Definition.{Stands}
+use Rattle.search.specs.Pairs.{plainSearch, quickSearch, pairs}
+use Rattle.search.specs.Page.{plainPage, quickPage}
 use Rattle.search.specs.Demands.{mostLooks, candidatePairs}
-use Rattle.walking.proofs.Order.{starts-rising, in-starts}
 use Rattle.search.proofs.Listed.{listed-stands}
-use Rattle.search.proofs.AtOrAfter.{key-order}
 use Rattle.search.proofs.PlainCall.{plain-turned, plain-leaf}
 use Rattle.search.proofs.QuickCall.{quick-turned, quick-leaf}
 use Rattle.search.proofs.Demands.{plain-page, quick-page, plain-page-le, quick-page-le}
@@ -55,26 +48,22 @@ in-take (suc r) (y ∷ xs) (in-tail m) = in-tail (in-take r xs m)
 in-first : (r : ℕ) (b : Bookmark) (list : List Pair) {pair : Pair} → In pair (firstPairs r b list) → In pair list
 in-first r b list m = in-hits (atOrAfter b) list (in-take r (hits (atOrAfter b) list) m) .0
 
-module _ (cells : List ℕ) (h : ℕ) (theme : List ℕ) (way : Way) (b : Bookmark) (columns : List ℕ) (shifts : List ℤ) where
-  abbrev plainly : Leaf
-  plainly = plainPage cells h theme way b columns shifts
-
-  pub plain-true : (a : PlainAsks cells h theme way b columns shifts) {pair : Pair}
-      → In pair (readPairs (plain-page cells h theme way b columns shifts a .turn .written) (plainly .columns) (plainly .shifts))
+module _ (cells : List ℕ) (h : ℕ) (theme : List ℕ) (way : Way) (b : Bookmark) (buffers : Lent) (a : PlainAsks cells h theme way b (buffers .columns) (buffers .shifts)) where
+  pub plain-true : {pair : Pair} → In pair (readPairs (plain-page cells h theme way b buffers a .turn .written) (plainPage cells h theme way b buffers .buffers))
       → Stands way (scoreOf cells h) theme pair
-  plain-true a {pair} m =
-      let p = plain-page cells h theme way b columns shifts a in
-      listed-stands way (scoreOf cells h) theme (in-first (length columns) b (pairs way (scoreOf cells h) theme) (subst (In pair) (p .front) m))
+  plain-true {pair} m =
+      let p = plain-page cells h theme way b buffers a in
+      listed-stands way (scoreOf cells h) theme (in-first (length (buffers .columns)) b (pairs way (scoreOf cells h) theme) (subst (In pair) (p .front) m))
 
   -- with sets of any score: nothing false is listed
-  pub quick-true : (a : PlainAsks cells h theme way b columns shifts) (lent table : List ℕ) (s : AcceptedSets cells h lent) (e : length table ≡ 4096) {pair : Pair}
-      → In pair (readPairs (quick-page cells h theme way b columns shifts a lent table s e .turn .written) (quickPage cells h theme way b lent table columns shifts .leaf .columns)
-      (quickPage cells h theme way b lent table columns shifts .leaf .shifts))
+  pub quick-true : (lent table : List ℕ) (s : AcceptedSets cells h lent) (e : length table ≡ 4096) {pair : Pair}
+      → In pair (readPairs (quick-page cells h theme way b buffers a lent table s e .turn .written) (quickPage cells h theme way b lent table buffers .buffers))
       → Stands way (scoreOf cells h) theme pair
-  quick-true a lent table s e {pair} m =
-      let p = quick-page cells h theme way b columns shifts a lent table s e in
-      let c : In pair (candidatePairs way (scoreOf cells h) theme lent) = in-first (length columns) b (candidatePairs way (scoreOf cells h) theme lent) (subst (In pair) (p .front) m) in
-      listed-stands way (scoreOf cells h) theme (in-hits (λ (q : Pair). candidate (themeTable theme) lent (length theme) (q .column .0)) (pairs way (scoreOf cells h) theme) c .0)
+  quick-true lent table s e {pair} m =
+      let p = quick-page cells h theme way b buffers a lent table s e in
+      let c : In pair (candidatePairs way (scoreOf cells h) theme lent)
+      = in-first (length (buffers .columns)) b (candidatePairs way (scoreOf cells h) theme lent) (subst (In pair) (p .front) m) in
+      listed-stands way (scoreOf cells h) theme (in-hits (λ (q : Pair). candidate wordBits (themeTable wordBits theme) lent (length theme) (q .column .0)) (pairs way (scoreOf cells h) theme) c .0)
 
 -- ---- looks: the answer's own, within the bound
 
@@ -82,30 +71,22 @@ looksOf : Page → ℕ
 looksOf (Turned t) = t .looks
 looksOf (Refused r) = 0
 
-module _ (cells : List ℕ) (h : ℕ) (theme : List ℕ) (way : Way) (b : Bookmark) (columns : List ℕ) (shifts : List ℤ) (t : Turn) where
-  pub plain-looks-le : plainPage cells h theme way b columns shifts .answer ≡ Turned t → t .looks ≤ mostLooks cells h theme
+module _ (cells : List ℕ) (h : ℕ) (theme : List ℕ) (way : Way) (b : Bookmark) (buffers : Lent) (t : Turn) where
+  pub plain-looks-le : plainPage cells h theme way b buffers .answer ≡ Turned t → t .looks ≤ mostLooks cells h theme
   unfolding looksOf
   plain-looks-le e =
-      let a = plain-turned cells h theme way b columns shifts .0 (t, e) in
-      let q : t .looks ≡ spent way (scoreOf cells h) theme (starts way (scoreOf cells h) theme) b columns shifts =
-      ap looksOf (sym e ∙ ap (λ (l : Leaf). l .answer) (plain-leaf cells h theme way b columns shifts a)) in
-      le-trans (le-of-eq q) (plain-page-le cells h theme way b columns shifts)
+      let a = plain-turned cells h theme way b buffers .0 (t, e) in
+      let q : t .looks ≡ spent (plainSearch way (scoreOf cells h) theme) (length (buffers .columns)) b =
+      ap looksOf (sym e ∙ ap (λ (l : Leaf). l .answer) (plain-leaf cells h theme way b buffers a)) in
+      le-trans (le-of-eq q) (plain-page-le cells h theme way b (length (buffers .columns)))
 
-  pub quick-looks-le : (lent table : List ℕ) → quickPage cells h theme way b lent table columns shifts .leaf .answer ≡ Turned t → t .looks ≤ mostLooks cells h theme
+  pub quick-looks-le : (lent table : List ℕ) → quickPage cells h theme way b lent table buffers .answer ≡ Turned t → t .looks ≤ mostLooks cells h theme
   unfolding looksOf
   quick-looks-le lent table e =
-      let a = quick-turned cells h theme way b lent table columns shifts .0 (t, e) in
-      let q : t .looks ≡ spent way (scoreOf cells h) theme (quickStarts way (scoreOf cells h) theme (themeTable theme) lent) b columns shifts =
-      ap looksOf (sym e ∙ ap (λ (l : QuickLeaf). l .leaf .answer) (quick-leaf cells h theme way b lent table columns shifts a)) in
-      le-trans (le-of-eq q) (quick-page-le cells h theme way b columns shifts (themeTable theme) lent)
-
--- the starts that a page reaches are those at or after its bookmark
-module _ (way : Way) (score : List (List ℕ)) (theme : List ℕ) (b : Bookmark) (i : InRange (rangeOf way) (length score) b) (m-some : 1 ≤ length theme) where
-  pub reached-after : from key (keyOf way b) (starts way score theme) ≡ hits (λ s. atOrAfter b (pairAt way s)) (starts way score theme)
-  reached-after =
-      from-keys key (keyOf way b) 256 (starts way score theme) (starts-rising way score theme)
-      ∙ hits-same (λ (s : Place). leb (keyOf way b) (key s)) (λ (s : Place). atOrAfter b (pairAt way s)) (starts way score theme)
-      (λ s m. let k = in-starts way score theme m in key-order way (length score) b s i (record { from-first = k .from-first; to-last = omega (arith, k .to-last, m-some); small = k .small }))
+      let a = quick-turned cells h theme way b lent table buffers .0 (t, e) in
+      let q : t .looks ≡ spent (quickSearch wordBits way (scoreOf cells h) theme (themeTable wordBits theme) lent) (length (buffers .columns)) b =
+      ap looksOf (sym e ∙ ap (λ (l : Leaf). l .answer) (quick-leaf cells h theme way b lent table buffers a)) in
+      le-trans (le-of-eq q) (quick-page-le cells h theme way b (length (buffers .columns)) wordBits (themeTable wordBits theme) lent)
 
 -- ---- what follows from the definition
 

@@ -10,9 +10,8 @@ use Rattle.walking.specs.Starts.{hit, looks}
 use Rattle.filter.specs.Table.{word, themeTable}
 use Rattle.walking.specs.Candidates.{candidate}
 use Rattle.search.specs.Page.{plainPage, quickPage}
-use Rattle.walking.specs.Candidates.{quickStarts}
 use Rattle.search.specs.Cases.{cases, made}
 
 pub cases-hold : map made cases ≡ cases
-unfolding plainPage quickPage quickStarts candidate themeTable word register step bit number hit looks holds intervalSet apart
+unfolding plainPage quickPage candidate themeTable word register step bit number hit looks holds intervalSet apart
 cases-hold = refl

@@ -14,13 +14,14 @@ use Rattle.asking.specs.Way.{rangeOf}
 use Rattle.asking.specs.declared.way.Way.the-variants.{Exact, Octave}
 use Rattle.asking.specs.declared.bookmark.Pair.{Pair}
 use Rattle.asking.specs.declared.bookmark.Bookmark.{Bookmark}
-use Rattle.search.specs.declared.page.Page.{Page}
-use Rattle.search.specs.declared.page.Page.the-variants.{Turned, Refused}
-use Rattle.filter.specs.Table.{themeTable}
+use Rattle.paging.specs.declared.page.Page.{Page}
+use Rattle.paging.specs.declared.page.Page.the-variants.{Turned, Refused}
+use Rattle.paging.specs.Lent.{Lent, lent, readPairs}
+use Rattle.paging.specs.Page.{Leaf}
+use Rattle.filter.specs.Table.{wordBits, themeTable}
 use Rattle.walking.specs.Candidates.{candidate}
 use Rattle.asking.specs.Bookmarks.{firstBookmark}
-use Rattle.search.specs.Page.{Leaf, plainPage, quickPage}
-use Rattle.search.specs.Reading.{readPairs}
+use Rattle.search.specs.Page.{plainPage, quickPage}
 
 -- a page as it is read: its pairs, the next bookmark, whether it is finished, its looks
 pub record Shown : Type 0 where
@@ -54,9 +55,9 @@ pub record Case : Type 0 where
 -- ---- what the definitions answer
 
 -- what a call shows; a refused one shows nothing
-abbrev shown : (columns : List ℕ) (shifts : List ℤ) → Page → List Shown
-shown columns shifts (Turned t) = page (readPairs (t .written) columns shifts) (t .next) (t .finished) (t .looks) ∷ []
-shown columns shifts (Refused r) = []
+abbrev shown : Lent → Page → List Shown
+shown buffers (Turned t) = page (readPairs (t .written) buffers) (t .next) (t .finished) (t .looks) ∷ []
+shown buffers (Refused r) = []
 
 abbrev goOn : List Shown → (Bookmark → List Shown) → List Shown
 goOn [] on = []
@@ -65,16 +66,17 @@ goOn (p ∷ ps) on = p ∷ cond (p .finished) [] (on (p .next))
 -- page after page from a bookmark, at most k of them
 abbrev read : (call : Bookmark → Leaf) (k : ℕ) → Bookmark → List Shown
 read call zero b = []
-read call (suc k) b = goOn (shown (call b .columns) (call b .shifts) (call b .answer)) (λ next. read call k next)
+read call (suc k) b = goOn (shown (call b .buffers) (call b .answer)) (λ next. read call k next)
+
+abbrev blank : Case → Lent
+blank c = lent (replicate (c .room) 0) (replicate (c .room) (pos 0))
 
 abbrev plainly : Case → Bookmark → Leaf
-plainly c b = plainPage (c .cells) (c .tracks) (c .theme) (c .way) b (replicate (c .room) 0) (replicate (c .room) (pos 0))
+plainly c b = plainPage (c .cells) (c .tracks) (c .theme) (c .way) b (blank c)
 
 abbrev quickly : Case → Bookmark → Leaf
 quickly c b =
-    quickPage (c .cells) (c .tracks) (c .theme) (c .way) b (setsOf (scoreOf (c .cells) (c .tracks))) (replicate 4096 0) (replicate (c .room) 0)
-    (replicate (c .room) (pos 0))
-    .leaf
+    quickPage (c .cells) (c .tracks) (c .theme) (c .way) b (setsOf (scoreOf (c .cells) (c .tracks))) (replicate 4096 0) (blank c)
 
 -- the same question, with the definitions' answers
 abbrev pub made : Case → Case
@@ -87,7 +89,7 @@ made c =
       room = c .room;
       sets = setsOf (scoreOf (c .cells) (c .tracks));
       candidates =
-          hits (λ j. candidate (themeTable (c .theme)) (setsOf (scoreOf (c .cells) (c .tracks))) (length (c .theme)) j)
+          hits (λ j. candidate wordBits (themeTable wordBits (c .theme)) (setsOf (scoreOf (c .cells) (c .tracks))) (length (c .theme)) j)
           (count 1 (length (scoreOf (c .cells) (c .tracks)) + 1 - length (c .theme)));
       pages = read (plainly c) 3 (firstBookmark (rangeOf (c .way)));
       quick = map (λ p. p .looks) (read (quickly c) 3 (firstBookmark (rangeOf (c .way))));

@@ -1,30 +1,36 @@
--- The list of all pairs, by rising column and then rising shift. That it holds exactly the pairs of `Definition`, each
--- once and in order, is proved (`proofs/Listed`). Assumes nothing.
-use mathlib.Core.Path.{_≡_}
-use mathlib.Core.Logic.{_⊎_}
-use mathlib.Core.List.{List, [], _∷_, map}
-use Prim.Native.Nat.{ℕ, _<_}
-use lib.Signed.{_<ℤ_}
-use Rattle.theory.specs.Pages.{hits}
+-- The two searches, plain and quick, and the list of all pairs, by rising column and then rising shift. That the list holds exactly the pairs
+-- of `Definition`, each once and in order, is proved (`proofs/Listed`). Assumes nothing.
+use mathlib.Core.List.{List}
+use Prim.Native.Nat.{ℕ}
+use lib.ListN.{length}
 use Rattle.score.specs.Score.{columnAt}
 use Rattle.asking.specs.declared.way.Way.{Way}
 use Rattle.asking.specs.declared.bookmark.Pair.{Pair}
-use Rattle.asking.specs.Way.{shiftOf}
-use Rattle.walking.specs.Starts.{Place, starts, hit}
+use Rattle.asking.specs.Way.{shiftOf, rangeOf}
+use Rattle.paging.specs.Search.{Search, only, listed}
+use Rattle.walking.specs.Starts.{Place, starts, hit, looks}
+use Rattle.walking.specs.Candidates.{candidate}
 
 -- the pair at a place
 abbrev pub pairAt : Way → Place → Pair
 pairAt way s = record { column = columnAt (s .column); shift = shiftOf way (s .code) }
 
+-- the plain search reaches every start
+abbrev pub plainSearch : Way → (score : List (List ℕ)) (theme : List ℕ) → Search Place
+plainSearch way score theme =
+    record {
+      columns = length score;
+      range = rangeOf way;
+      starts = starts way score theme;
+      hit = hit way score theme;
+      looks = looks way score theme;
+      shown = pairAt way;
+    }
+
+-- the quick search reaches those at the columns that a table and sets make candidates: words of any width, any table and any sets
+abbrev pub quickSearch : (w : ℕ) → Way → (score : List (List ℕ)) (theme table sets : List ℕ) → Search Place
+quickSearch w way score theme table sets = only (λ s. candidate w table sets (length theme) (s .column)) (plainSearch way score theme)
+
+-- all pairs
 abbrev pub pairs : Way → (score : List (List ℕ)) (theme : List ℕ) → List Pair
-pairs way score theme = map (pairAt way) (hits (hit way score theme) (starts way score theme))
-
--- the order of pairs: by rising column, then rising shift
-abbrev pub Before : Pair → Pair → Type 0
-Before a b = (a .column .0 < b .column .0) ⊎ ((a .column .0 ≡ b .column .0) × (a .shift <ℤ b .shift))
-
--- each pair of a list stands before all those after it: they are in order, and none is there twice
-pub data Ordered : List Pair → Type 0 where
-  none : Ordered []
-  one : {a : Pair} → Ordered (a ∷ [])
-  more : {a b : Pair} {rest : List Pair} → Before a b → Ordered (b ∷ rest) → Ordered (a ∷ b ∷ rest)
+pairs way score theme = listed (plainSearch way score theme)

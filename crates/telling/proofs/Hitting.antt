@@ -11,7 +11,7 @@ use lib.Seq.{drop-cons}
 use mir.Syntax.{w16}
 use mir.Val.{SFits}
 use mir.Facts.{toZ-ofZ}
-use Rattle.search.specs.Reading.{readPairs}
+use Rattle.paging.specs.Lent.{lent, readPairs}
 use Rattle.telling.specs.Lines.{pairOf, hitLine, hitLines}
 use Rattle.telling.specs.Steps.{Wrote}
 use Rattle.telling.proofs.Puts.{wrote-length, wrote-then, wrote-room, wrote-nil, room-part, room-same}
@@ -33,27 +33,27 @@ module _ (column : ℕ) (shift : ℤ) (f : SFits w16 shift) where
 
 -- those of the pairs that are left behind the i-th
 abbrev pub toCome : (columns : List ℕ) (shifts : List ℤ) (found i : ℕ) → List ℕ
-toCome columns shifts found i = hitLines (readPairs (found - i) (drop i columns) (drop i shifts))
+toCome columns shifts found i = hitLines (readPairs (found - i) (lent (drop i columns) (drop i shifts)))
 
 pub record Hitting (columns : List ℕ) (shifts : List ℤ) (found from : ℕ) (out₀ out : List ℕ) (at i : ℕ) : Type 0 where
   pub done : List ℕ
   pub wrote : Wrote done from out₀ at out
-  pub parts : hitLines (readPairs found columns shifts) ≡ done ++ toCome columns shifts found i
-  pub room : from + length (hitLines (readPairs found columns shifts)) ≤ length out₀
+  pub parts : hitLines (readPairs found (lent columns shifts)) ≡ done ++ toCome columns shifts found i
+  pub room : from + length (hitLines (readPairs found (lent columns shifts))) ≤ length out₀
   pub within : i ≤ found
 
 module _ (columns : List ℕ) (shifts : List ℤ) (found from : ℕ) (out₀ : List ℕ) where
-  pub hitting-start : from + length (hitLines (readPairs found columns shifts)) ≤ length out₀ → Hitting columns shifts found from out₀ out₀ from 0
+  pub hitting-start : from + length (hitLines (readPairs found (lent columns shifts))) ≤ length out₀ → Hitting columns shifts found from out₀ out₀ from 0
   hitting-start r = record { done = []; wrote = wrote-nil from out₀; parts = rw (sub-zero found); room = r; within = omega arith }
 
   module _ {out : List ℕ} {at i : ℕ} (p : Hitting columns shifts found from out₀ out at i) where
     pub hitting-length : length out ≡ length out₀
     hitting-length = wrote-length (p .wrote)
 
-    pub hitting-end : found ≤ i → Wrote (hitLines (readPairs found columns shifts)) from out₀ at out
+    pub hitting-end : found ≤ i → Wrote (hitLines (readPairs found (lent columns shifts))) from out₀ at out
     hitting-end h =
         let z : found - i ≡ 0 = omega arith in
-        let e : hitLines (readPairs found columns shifts) ≡ p .done = p .parts ∙ rw z (append-nil (p .done)) in
+        let e : hitLines (readPairs found (lent columns shifts)) ≡ p .done = p .parts ∙ rw z (append-nil (p .done)) in
         rw e (p .wrote)
 
     module _ (h : i < found) (c : found ≤ length columns) (s : length shifts ≡ length columns) where

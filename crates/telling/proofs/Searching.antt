@@ -8,55 +8,57 @@ use native.Mathlib.Nat.{zero-add, mul-le-mul}
 use native.Mathlib.Omega.{arith}
 use lib.IntN.{ℤ}
 use lib.ListN.{length, length-append, length-map}
-use Rattle.theory.specs.Lists.{sum, join}
-use Rattle.theory.specs.Pages.{hits, from}
+use Rattle.theory.specs.Lists.{join}
+use Rattle.theory.specs.Pages.{hits}
 use Rattle.theory.proofs.Pages.{hits-le}
 use Rattle.theory.proofs.Members.{in-hits}
-use Rattle.theory.proofs.Bookmarks.{from-all}
+use Rattle.telling.specs.Telling.{room}
+use Rattle.score.specs.Limits.{mostTracks, tableWords}
 use Rattle.preparing.specs.declared.sets.Preparation.{Preparation}
 use Rattle.preparing.specs.declared.sets.Preparation.the-variants as Preparations
 use Rattle.score.specs.Score.{columnsIn, scoreOf}
 use Rattle.score.specs.Sets.{sets as setsOf}
 use Rattle.preparing.specs.Preparing.{Filled, prepareRows, Prepares}
 use Rattle.score.proofs.Judged.{judge-clear}
+use Rattle.asking.specs.Limits.{mostNotes}
 use Rattle.asking.proofs.Rows.{accepted-clear, row6-clear}
 use Rattle.score.proofs.Columns.{score-length, column-le}
 use Rattle.asking.specs.declared.way.Way.{Way}
 use Rattle.asking.specs.declared.bookmark.Pair.{Pair}
 use Rattle.asking.specs.declared.bookmark.Bookmark.{Bookmark}
-use Rattle.search.specs.declared.page.Page.the-variants.{Refused}
 use Rattle.asking.specs.Way.{span, rangeOf}
-use Rattle.walking.specs.Starts.{Place, key, starts, hit}
-use Rattle.search.specs.Pairs.{pairAt, pairs}
-use Rattle.filter.specs.Table.{themeTable}
+use Rattle.walking.specs.Starts.{Place, starts, hit}
+use Rattle.search.specs.Pairs.{pairAt, quickSearch, pairs}
+use Rattle.search.specs.Page.{quickPage}
+use Rattle.filter.specs.Table.{wordBits, themeTable}
 use Rattle.asking.specs.Bookmarks.{firstBookmark}
-use Rattle.search.specs.Page.{Leaf, quickPage}
-use Rattle.walking.specs.Candidates.{quickStarts}
 use Rattle.asking.specs.Asking.{Accepted, AcceptedSets}
+use Rattle.paging.specs.Lent.{Lent}
+use Rattle.paging.specs.Search.{Search, listed}
+use Rattle.paging.specs.Page.{Leaf}
+use Rattle.paging.proofs.Paging.{Calls}
+use Rattle.paging.proofs.UnderWay.{UnderWay, under-way-start}
 use Rattle.search.specs.Demands.{candidateLooks}
 use Rattle.walking.proofs.Order.{in-starts}
 use Rattle.walking.proofs.LookBound.{starts-le}
-use Rattle.search.proofs.Turning.{first-range, first-key}
-use Rattle.search.proofs.Paging.{Search, Calls, found as isHit, cost, inside, left, answer}
 use Rattle.search.proofs.Searches.{quick-calls}
-use Rattle.search.proofs.Quicker.{own-sets, own-pairs}
-use Rattle.search.proofs.Demands.{all-looks-le, candidate-looks-le, quick-pairs}
+use Rattle.search.proofs.Quicker.{own-sets, own-listed}
+use Rattle.search.proofs.Demands.{all-looks-le, candidate-looks-le}
 use Rattle.telling.specs.Lines.{hitLine, hitLines, endLine, linesOf}
-use Rattle.telling.specs.Steps.{Wrote, Room}
+use Rattle.telling.specs.Steps.{Wrote, Room, pagePairs}
 use Rattle.telling.proofs.Puts.{wrote-nil}
 use Rattle.telling.proofs.Widths.{lines-le, end-le}
 
--- what is sought, in pages of 256
-abbrev pub searchOf : (cells : List ℕ) (h : ℕ) (theme : List ℕ) → Way → (lent : List ℕ) → Search
-searchOf cells h theme way lent =
-    record { way = way; score = scoreOf cells h; theme = theme; reached = quickStarts way (scoreOf cells h) theme (themeTable theme) lent; room = 256 }
+-- what is sought: the quick search by the theme's table
+abbrev pub searchOf : (cells : List ℕ) (h : ℕ) (theme : List ℕ) → Way → (lent : List ℕ) → Search Place
+searchOf cells h theme way lent = quickSearch wordBits way (scoreOf cells h) theme (themeTable wordBits theme) lent
 
 -- ---- the sets that are prepared are the score's own
 
-pub prepared-own : (cells : List ℕ) (h : ℕ) (theme : List ℕ) {lent after : List ℕ} {answer : Preparation} → Accepted cells h theme → length lent ≡ columnsIn cells h - 1
+pub prepared-own : (cells : List ℕ) (h : ℕ) (theme : List ℕ) {lent after : List ℕ} {answer : Preparation} → Accepted mostNotes cells h theme → length lent ≡ columnsIn cells h - 1
     → Prepares cells h lent answer after → after ≡ setsOf (scoreOf cells h)
 prepared-own cells h theme {lent} a l p =
-    let c = accepted-clear cells h theme .0 a in
+    let c = accepted-clear mostNotes cells h theme .0 a in
     p .fills
     ∙ ap (λ (f : Filled). f .sets)
     (judge-clear (λ r. record { answer = Preparations.Refused r; sets = lent }) (record { answer = Preparations.Prepared; sets = setsOf (scoreOf cells h) })
@@ -71,15 +73,9 @@ join-append (l ∷ a) b = rw (join-append a b) (sym (append-assoc l (join a) (jo
 pub lines-append : (a b : List Pair) → hitLines (a ++ b) ≡ hitLines a ++ hitLines b
 lines-append a b = ap join (map-append hitLine a b) ∙ join-append (map hitLine a) (map hitLine b)
 
--- ---- what the starts at candidates list, with the score's own sets
+-- ---- bounds
 
-module _ (cells : List ℕ) (h : ℕ) (theme : List ℕ) (way : Way) (a : Accepted cells h theme) where
-  own-hits : map (pairAt way) (hits (hit way (scoreOf cells h) theme) (quickStarts way (scoreOf cells h) theme (themeTable theme) (setsOf (scoreOf cells h))))
-      ≡ pairs way (scoreOf cells h) theme
-  own-hits = quick-pairs cells h theme way (setsOf (scoreOf cells h)) ∙ own-pairs cells h theme way a
-
-  -- ---- bounds
-
+module _ (cells : List ℕ) (h : ℕ) (theme : List ℕ) (way : Way) (a : Accepted mostNotes cells h theme) where
   pub pairs-few : length (pairs way (scoreOf cells h) theme) ≤ 32752
   pairs-few =
       omega (
@@ -87,7 +83,7 @@ module _ (cells : List ℕ) (h : ℕ) (theme : List ℕ) (way : Way) (a : Accept
         length-map (hits (hit way (scoreOf cells h) theme) (starts way (scoreOf cells h) theme)) (pairAt way),
         hits-le (hit way (scoreOf cells h) theme) (starts way (scoreOf cells h) theme),
         starts-le way (scoreOf cells h) theme h (column-le (columnsIn cells h) h cells),
-        mul-le-mul {n₁ = length (scoreOf cells h) + 1 - length theme} {m₁ = h} {n₂ = 2047} {m₂ = 16}
+        mul-le-mul {n₁ = length (scoreOf cells h) + 1 - length theme} {m₁ = h} {n₂ = 2047} {m₂ = mostTracks}
             (omega (arith, score-length cells h, a .columns-few, a .notes-some)) (a .tracks-few),
       )
 
@@ -97,13 +93,13 @@ module _ (cells : List ℕ) (h : ℕ) (theme : List ℕ) (way : Way) (a : Accept
         arith,
         candidate-looks-le cells h theme way lent,
         all-looks-le cells h theme way,
-        mul-le-mul {n₁ = (columnsIn cells h + 1 - length theme) * h} {m₁ = length theme - 1} {n₂ = 2047 * 16} {m₂ = 31}
-            (mul-le-mul {n₁ = columnsIn cells h + 1 - length theme} {m₁ = h} {n₂ = 2047} {m₂ = 16} (omega (arith, a .columns-few, a .notes-some)) (a .tracks-few))
+        mul-le-mul {n₁ = (columnsIn cells h + 1 - length theme) * h} {m₁ = length theme - 1} {n₂ = 2047 * mostTracks} {m₂ = 31}
+            (mul-le-mul {n₁ = columnsIn cells h + 1 - length theme} {m₁ = h} {n₂ = 2047} {m₂ = mostTracks} (omega (arith, a .columns-few, a .notes-some)) (a .tracks-few))
             (omega (arith, a .notes-few)),
       )
 
   -- all lines have room
-  pub lines-few : length (linesOf way (scoreOf cells h) theme) ≤ 458546
+  pub lines-few : length (linesOf way (scoreOf cells h) theme) ≤ room
   unfolding linesOf
   lines-few =
       omega (
@@ -123,51 +119,39 @@ module _ (cells : List ℕ) (h : ℕ) (theme : List ℕ) (way : Way) (a : Accept
 
 -- ---- pages under way
 
--- what is left of a search: all at the bookmark, or nothing
-abbrev pub leftHits : Search → Bookmark → Bool → List Place
-leftHits S b more = cond more (hits (isHit S) (left S b)) []
-
-abbrev pub leftLooks : Search → Bookmark → Bool → ℕ
-leftLooks S b more = cond more (sum (map (cost S) (left S b))) 0
-
-pub record Paging (cells : List ℕ) (h : ℕ) (theme : List ℕ) (way : Way) (lent out₀ table columns : List ℕ) (shifts : List ℤ) (out : List ℕ) (b : Bookmark) (at found spent : ℕ)
-    (more : Bool) : Type 0 where
-  pub accepted : Accepted cells h theme
+pub record Paging (cells : List ℕ) (h : ℕ) (theme : List ℕ) (way : Way) (lent out₀ table : List ℕ) (buffers : Lent) (out : List ℕ) (b : Bookmark)
+    (at found spent : ℕ) (more : Bool) : Type 0 where
+  pub accepted : Accepted mostNotes cells h theme
   pub own : lent ≡ setsOf (scoreOf cells h)
-  pub room : Room table columns shifts out₀
-  pub marked : inside (searchOf cells h theme way lent) b
+  pub room : Room table buffers out₀
   pub done : List Pair
+  pub under-way : UnderWay (searchOf cells h theme way lent) b more done spent
   pub wrote : Wrote (hitLines done) 0 out₀ at out
   pub counted : found ≡ length done
-  pub parts : pairs way (scoreOf cells h) theme ≡ done ++ map (pairAt way) (leftHits (searchOf cells h theme way lent) b more)
-  pub paid : candidateLooks way (scoreOf cells h) theme lent ≡ spent + leftLooks (searchOf cells h theme way lent) b more
 
-module _ (cells : List ℕ) (h : ℕ) (theme : List ℕ) (way : Way) (lent : List ℕ) (a : Accepted cells h theme) (o : lent ≡ setsOf (scoreOf cells h)) where
-  abbrev pub S : Search
-  S = searchOf cells h theme way lent
+module _ (cells : List ℕ) (h : ℕ) (theme : List ℕ) (way : Way) (lent : List ℕ) (a : Accepted mostNotes cells h theme) (o : lent ≡ setsOf (scoreOf cells h)) where
+  -- all pairs are listed
+  pub own-list : listed (searchOf cells h theme way lent) ≡ pairs way (scoreOf cells h) theme
+  own-list = rw o (own-listed cells h theme way a)
 
-  abbrev pub callOf : (table : List ℕ) → Bookmark → List ℕ → List ℤ → Leaf
-  callOf table b columns shifts = quickPage cells h theme way b lent table columns shifts .leaf
+  abbrev pub callOf : (table : List ℕ) → Bookmark → Lent → Leaf
+  callOf table b buffers = quickPage cells h theme way b lent table buffers
 
   lent-right : AcceptedSets cells h lent
   lent-right = subst (AcceptedSets cells h) (sym o) own-sets
 
-  pub calls : (table : List ℕ) → length table ≡ 4096 → Calls S (callOf table)
-  calls table e = quick-calls cells h theme way a 256 (omega arith) lent lent-right (λ _ _ _. table) (λ _ _ _. e)
+  pub calls : (table : List ℕ) → length table ≡ tableWords → Calls (searchOf cells h theme way lent) pagePairs (callOf table)
+  calls table e = quick-calls cells h theme way a pagePairs (omega arith) lent lent-right (λ _ _. table) (λ _ _. e)
 
-  pub paging-start : {table columns : List ℕ} {shifts : List ℤ} {out : List ℕ} → Room table columns shifts out
-      → Paging cells h theme way lent out table columns shifts out (firstBookmark (rangeOf way)) 0 0 0 true
+  pub paging-start : {table : List ℕ} {buffers : Lent} {out : List ℕ} → Room table buffers out
+      → Paging cells h theme way lent out table buffers out (firstBookmark (rangeOf way)) 0 0 0 true
   paging-start {table} {out = out} r =
-      let all : left S (firstBookmark (rangeOf way)) ≡ S .reached
-      = ap (λ (k : ℕ). from key k (S .reached)) (first-key way) ∙ from-all key 256 (S .reached) (calls table (r .table-long) .up) in
       record {
         accepted = a;
         own = o;
         room = r;
-        marked = first-range way (length (scoreOf cells h));
         done = [];
+        under-way = under-way-start (searchOf cells h theme way lent) (calls table (r .table-long) .right);
         wrote = wrote-nil 0 out;
         counted = refl;
-        parts = sym (rw (all, o) (own-hits cells h theme way a));
-        paid = sym (rw all (zero-add _));
       }

@@ -4,7 +4,7 @@
 use mathlib.Core.Path.{_≡_, refl, sym, ap, _∙_}
 use mathlib.Core.Bool.{Bool, true, false, cond}
 use mathlib.Core.Logic.{_↔_}
-use mathlib.Core.List.{List, [], _∷_, _++_}
+use mathlib.Core.List.{List, []}
 use Prim.Native.Nat.{ℕ, _+_, _≤_, _<_}
 use native.Mathlib.Nat.{zero-add}
 use native.Mathlib.Omega.{arith}
@@ -16,43 +16,37 @@ use Rattle.theory.proofs.Lists.{over-sets}
 use Rattle.score.specs.declared.refusals.Refusal.{Refusal}
 use Rattle.score.specs.declared.refusals.Verdict.{Verdict}
 use Rattle.score.specs.declared.refusals.Verdict.the-variants.{Accepted as Passed, Refused as Away}
-use Rattle.score.specs.Score.{columnsIn, scoreOf}
-use Rattle.score.specs.Refusals.{Row, judge, verdict, GivenBy, placeBy}
-use Rattle.score.proofs.Judging.{judge-append, judge-refused}
-use Rattle.score.proofs.Judged.{Clear, judge-either, judge-clear, judge-given, judge-clear-of, judge-shown}
+use Rattle.score.specs.Score.{scoreOf}
+use Rattle.score.specs.Refusals.{verdict, GivenBy, placeBy}
+use Rattle.score.proofs.Judging.{judge-away}
+use Rattle.score.proofs.Judged.{judge-either, judge-clear, judge-clear-of, verdict-clear, answer-refused}
+use Rattle.asking.specs.Limits.{mostNotes}
 use Rattle.asking.specs.declared.way.Way.{Way}
-use Rattle.asking.specs.Way.{rangeOf}
-use Rattle.asking.specs.declared.bookmark.Bookmark.{Bookmark}
-use Rattle.asking.specs.Refusals.{row9, row10}
-use Rattle.asking.specs.Bookmarks.{firstBookmark}
+use Rattle.asking.specs.Refusals.{requestRows}
 use Rattle.asking.specs.Asking.{Accepted}
-use Rattle.asking.proofs.Rows.{row10-clear, accepted-clear}
-use Rattle.search.proofs.Turning.{first-range}
+use Rattle.asking.proofs.Rows.{accepted-clear}
 use Rattle.telling.specs.declared.calls.Telling.{Telling}
 use Rattle.telling.specs.declared.calls.Telling.the-variants.{Told, Refused, Short}
 use Rattle.telling.specs.Lines.{linesOf}
-use Rattle.telling.specs.Telling.{room, Tale, told, tellRows, searchTold, Tells}
+use Rattle.telling.specs.Telling.{room, Tale, told, searchTold, Tells}
 use Rattle.telling.specs.Steps.{Wrote}
 
 pub tells-unique : {tale : Tale} {a b : Telling} {s t : List ℕ} → Tells tale a s → Tells tale b t → (a ≡ b) × (s ≡ t)
 tells-unique p q = (p .answers ∙ sym (q .answers), p .writes ∙ sym (q .writes))
-
-refused-same : {r s : Refusal} → Refused r ≡ Refused s → r ≡ s
-refused-same e = cc
 
 -- ---- a text, and the buffer
 
 module _ (text out : List ℕ) where
   pub tells-short : length out < room → Tells (told text out) Short out
   unfolding told
-  tells-short h = record { answers = rw (lt-ltb (length out) 458546 h); writes = rw (lt-ltb (length out) 458546 h) }
+  tells-short h = record { answers = rw (lt-ltb (length out) room h); writes = rw (lt-ltb (length out) room h) }
 
   pub tells-told : length text ≤ room → room ≤ length out → {r : ℕ} {out′ : List ℕ} → Wrote text 0 out r out′ → Tells (told text out) (Told r) out′
   unfolding told
   tells-told few h w =
       record {
-        answers = rw (le-ltb (length out) 458546 h) (ap Told (w .place ∙ zero-add (length text)));
-        writes = rw (le-ltb (length out) 458546 h) (w .is ∙ over-sets out [] 0 text 0 refl (omega arith));
+        answers = rw (le-ltb (length out) room h) (ap Told (w .place ∙ zero-add (length text)));
+        writes = rw (le-ltb (length out) room h) (w .is ∙ over-sets out [] 0 text 0 refl (omega arith));
       }
 
   abbrev short : Tale
@@ -82,39 +76,22 @@ module _ (text out : List ℕ) where
 -- ---- a search that is checked
 
 module _ (cells : List ℕ) (h : ℕ) (theme : List ℕ) (way : Way) where
-  -- the room and the bookmark that the check is given
-  abbrev pageRows : Bookmark → List Row
-  pageRows b = row9 1 1 ∷ row10 (rangeOf way) (columnsIn cells h) b ∷ []
-
-  page-clear : Clear (pageRows (firstBookmark (rangeOf way)))
-  page-clear = (refl, (row10-clear (rangeOf way) (columnsIn cells h) (firstBookmark (rangeOf way)) .1 (first-range way (columnsIn cells h)), tt))
-
-  module _ {v : Verdict} {b : Bookmark} (first : b ≡ firstBookmark (rangeOf way)) (checked : v ≡ verdict (tellRows cells h theme ++ pageRows b)) where
-    rows-are : v ≡ verdict (tellRows cells h theme)
-    rows-are =
-        checked
-        ∙ ap (λ (x : Bookmark). verdict (tellRows cells h theme ++ pageRows x)) first
-        ∙ judge-append Away Passed (tellRows cells h theme) (pageRows (firstBookmark (rangeOf way)))
-        ∙ ap (judge (tellRows cells h theme) Away) (judge-clear Away Passed (pageRows (firstBookmark (rangeOf way))) page-clear)
-
-    pub checked-accepted : v ≡ Passed → Accepted cells h theme
-    checked-accepted e = accepted-clear cells h theme .1 (judge-clear-of Away Passed (λ w. w ≡ Passed) (λ r k. never r k) (tellRows cells h theme) (sym rows-are ∙ e))
-      where
-        never : (r : Refusal) → Away r ≡ Passed → ⊥
-        never r k = let z : _≡_ {A = ℕ} 0 1 = cc in omega arith
+  module _ {v : Verdict} (checked : v ≡ verdict (requestRows mostNotes cells h theme)) where
+    pub checked-accepted : v ≡ Passed → Accepted mostNotes cells h theme
+    checked-accepted e = accepted-clear mostNotes cells h theme .1 (verdict-clear (requestRows mostNotes cells h theme) (sym checked ∙ e))
 
     pub tells-refused : (out : List ℕ) {r : Refusal} → v ≡ Away r → Tells (searchTold cells h theme way out) (Refused r) out
     unfolding searchTold
     tells-refused out {r} e =
         let p : searchTold cells h theme way out ≡ record { answer = Refused r; out = out } =
-        judge-refused (λ r. record { answer = Refused r; out = out }) (told (linesOf way (scoreOf cells h) theme) out) (tellRows cells h theme) [] (sym rows-are ∙ e) in
+        judge-away (λ r. record { answer = Refused r; out = out }) (told (linesOf way (scoreOf cells h) theme) out) (requestRows mostNotes cells h theme) (sym checked ∙ e) in
         record { answers = sym (ap (λ (t : Tale). t .answer) p); writes = sym (ap (λ (t : Tale). t .out) p) }
 
   -- an accepted one
-  pub accepted-told : (out : List ℕ) → Accepted cells h theme → searchTold cells h theme way out ≡ told (linesOf way (scoreOf cells h) theme) out
+  pub accepted-told : (out : List ℕ) → Accepted mostNotes cells h theme → searchTold cells h theme way out ≡ told (linesOf way (scoreOf cells h) theme) out
   unfolding searchTold
   accepted-told out a =
-      judge-clear (λ r. record { answer = Refused r; out = out }) (told (linesOf way (scoreOf cells h) theme) out) (tellRows cells h theme) (accepted-clear cells h theme .0 a)
+      judge-clear (λ r. record { answer = Refused r; out = out }) (told (linesOf way (scoreOf cells h) theme) out) (requestRows mostNotes cells h theme) (accepted-clear mostNotes cells h theme .0 a)
 
   -- ---- when it is refused
 
@@ -125,25 +102,22 @@ module _ (cells : List ℕ) (h : ℕ) (theme : List ℕ) (way : Way) where
     abbrev lines : List ℕ
     lines = linesOf way (scoreOf cells h) theme
 
-    pub search-accepted : ((r : Refusal) → searchTold cells h theme way out .answer ≡ Refused r → ⊥) ↔ Accepted cells h theme
+    pub search-accepted : ((r : Refusal) → searchTold cells h theme way out .answer ≡ Refused r → ⊥) ↔ Accepted mostNotes cells h theme
     unfolding searchTold
     search-accepted = (
-      λ f. accepted-clear cells h theme .1
-          (judge-clear-of away (told lines out) (λ (t : Tale). (r : Refusal) → t .answer ≡ Refused r → ⊥) (λ r g. g r refl) (tellRows cells h theme) f),
+      λ f. accepted-clear mostNotes cells h theme .1
+          (judge-clear-of away (told lines out) (λ (t : Tale). (r : Refusal) → t .answer ≡ Refused r → ⊥) (λ r g. g r refl) (requestRows mostNotes cells h theme) f),
       λ a r e. never-refused lines out r (sym (ap (λ (t : Tale). t .answer) (accepted-told out a)) ∙ e),
     )
 
     pub search-refused : (k p : ℕ) → (searchTold cells h theme way out .answer ≡ Refused (record { number = k; place = p }))
-        ↔ (GivenBy (tellRows cells h theme) k × (p ≡ placeBy (tellRows cells h theme) k))
+        ↔ (GivenBy (requestRows mostNotes cells h theme) k × (p ≡ placeBy (requestRows mostNotes cells h theme) k))
     unfolding searchTold
-    search-refused k p = (
-      judge-shown away (told lines out) (λ (t : Tale) (s : Refusal). t .answer ≡ Refused s) (λ r s e. refused-same e) (never-refused lines out) (tellRows cells h theme) 0
-          (omega arith) (record { number = k; place = p }),
-      λ g. ap (λ (t : Tale). t .answer) (judge-given away (told lines out) (tellRows cells h theme) k (g .0))
-          ∙ ap (λ (q : ℕ). Refused (record { number = k; place = q })) (sym (g .1)),
-    )
+    search-refused k p =
+        answer-refused (λ (t : Tale). t .answer) Refused (λ r s e. cc) away (told lines out) (λ r. refl) (never-refused lines out)
+        (requestRows mostNotes cells h theme) refl k p
 
     pub search-kept : ((n : ℕ) → searchTold cells h theme way out .answer ≡ Told n → ⊥) → searchTold cells h theme way out .out ≡ out
     unfolding searchTold
     search-kept =
-        judge-either away (told lines out) (λ (t : Tale). ((n : ℕ) → t .answer ≡ Told n → ⊥) → t .out ≡ out) (λ r f. refl) (untold-kept lines out) (tellRows cells h theme)
+        judge-either away (told lines out) (λ (t : Tale). ((n : ℕ) → t .answer ≡ Told n → ⊥) → t .out ≡ out) (λ r f. refl) (untold-kept lines out) (requestRows mostNotes cells h theme)

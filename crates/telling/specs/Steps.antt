@@ -2,34 +2,40 @@
 -- Assumes nothing.
 use mathlib.Core.Path.{_≡_}
 use mathlib.Core.List.{List}
-use Prim.Native.Nat.{ℕ, _+_, _≤_}
-use lib.IntN.{ℤ}
+use Prim.Native.Nat.{ℕ, _+_, _-_, _≤_}
 use lib.ListN.{length}
 use lib.Seq.{sets as stored}
+use Rattle.score.specs.Limits.{mostColumns, tableWords}
 use Rattle.score.specs.Score.{scoreOf}
 use Rattle.score.specs.Sets.{sets as setsOf}
+use Rattle.asking.specs.Limits.{mostNotes}
 use Rattle.asking.specs.Asking.{Accepted}
+use Rattle.paging.specs.Lent.{Lent, Room as PairsRoom}
+use Rattle.telling.specs.Telling.{room as textRoom}
 
 -- these bytes from the place on, and the place behind them
 pub record Wrote (bytes : List ℕ) (at : ℕ) (out : List ℕ) (r : ℕ) (out′ : List ℕ) : Type 0 where
   pub place : r ≡ at + length bytes
   pub is : out′ ≡ stored out at bytes
 
--- room for a table, for a page of 256 pairs and for every text
-pub record Room (table columns : List ℕ) (shifts : List ℤ) (out : List ℕ) : Type 0 where
-  pub table-long : length table ≡ 4096
-  pub columns-long : length columns ≡ 256
-  pub shifts-long : length shifts ≡ 256
-  pub out-long : 458546 ≤ length out
+-- how many pairs are searched for before they are written out
+abbrev pub pagePairs : ℕ
+pagePairs = 256
+
+-- room for a table, for a page and for every text
+pub record Room (table : List ℕ) (buffers : Lent) (out : List ℕ) : Type 0 where
+  pub table-long : length table ≡ tableWords
+  pub pairs-room : PairsRoom pagePairs buffers
+  pub out-long : textRoom ≤ length out
 
 -- what a search is given: an accepted score and theme, and room for all
-pub record Sought (cells : List ℕ) (h : ℕ) (theme sets table columns : List ℕ) (shifts : List ℤ) (out : List ℕ) : Type 0 where
-  pub accepted : Accepted cells h theme
-  pub sets-room : length sets ≡ 2047
-  pub room : Room table columns shifts out
+pub record Sought (cells : List ℕ) (h : ℕ) (theme sets table : List ℕ) (buffers : Lent) (out : List ℕ) : Type 0 where
+  pub accepted : Accepted mostNotes cells h theme
+  pub sets-room : length sets ≡ mostColumns - 1
+  pub room : Room table buffers out
 
 -- what the pages are written of: an accepted score and theme, the score's own sets, and room for all
-pub record Asked (cells : List ℕ) (h : ℕ) (theme sets table columns : List ℕ) (shifts : List ℤ) (out : List ℕ) : Type 0 where
-  pub accepted : Accepted cells h theme
+pub record Asked (cells : List ℕ) (h : ℕ) (theme sets table : List ℕ) (buffers : Lent) (out : List ℕ) : Type 0 where
+  pub accepted : Accepted mostNotes cells h theme
   pub own : sets ≡ setsOf (scoreOf cells h)
-  pub room : Room table columns shifts out
+  pub room : Room table buffers out

@@ -2,15 +2,16 @@
 -- matter are `searchTold`, the whole text of a search, and `told`. Assumes nothing.
 use mathlib.Core.Path.{_≡_}
 use mathlib.Core.Bool.{cond}
-use mathlib.Core.List.{List, [], _∷_}
+use mathlib.Core.List.{List}
 use Prim.Native.Nat.{ℕ}
 use lib.Dec.{ltb}
 use lib.ListN.{length}
 use Rattle.theory.specs.Lists.{over}
 use Rattle.score.specs.Score.{scoreOf}
-use Rattle.score.specs.Refusals.{Row, judge, row1, row2, row3}
+use Rattle.score.specs.Refusals.{judge}
+use Rattle.asking.specs.Limits.{mostNotes}
 use Rattle.asking.specs.declared.way.Way.{Way}
-use Rattle.asking.specs.Refusals.{row4, row5}
+use Rattle.asking.specs.Refusals.{requestRows}
 use Rattle.telling.specs.declared.calls.Telling.{Telling}
 use Rattle.telling.specs.declared.calls.Telling.the-variants.{Told, Refused, Short}
 use Rattle.telling.specs.Lines.{linesOf}
@@ -28,14 +29,10 @@ pub record Tale : Type 0 where
 unfoldable pub told : (text out : List ℕ) → Tale
 told text out = cond (ltb (length out) room) (record { answer = Short; out = out }) (record { answer = Told (length text); out = over out text })
 
--- 1 to 5, in this order
-abbrev pub tellRows : (cells : List ℕ) (h : ℕ) (theme : List ℕ) → List Row
-tellRows cells h theme = row1 h ∷ row2 cells h ∷ row3 cells ∷ row4 theme ∷ row5 theme ∷ []
-
--- a search: refused and not written, or the text of all its lines
+-- a search: refused, by 1 to 5 in this order, and not written; or the text of all its lines
 unfoldable pub searchTold : (cells : List ℕ) (h : ℕ) (theme : List ℕ) → Way → (out : List ℕ) → Tale
 searchTold cells h theme way out =
-    judge (tellRows cells h theme) (λ r. record { answer = Refused r; out = out }) (told (linesOf way (scoreOf cells h) theme) out)
+    judge (requestRows mostNotes cells h theme) (λ r. record { answer = Refused r; out = out }) (told (linesOf way (scoreOf cells h) theme) out)
 
 -- what a call promises: this answer, and this buffer
 pub record Tells (tale : Tale) (answer : Telling) (out′ : List ℕ) : Type 0 where

@@ -1,10 +1,11 @@
 // The calls: the text of a search, or of a refused input, from the front of a buffer.
 
+use crate::limits::ROOM;
 use crate::pages::search_lines;
 use crate::writing::refused_line;
-use asking::Bookmark;
+use asking::MOST_NOTES;
 use asking::Way;
-use asking::check_plain;
+use asking::check_request;
 use score::Refusal;
 use score::Verdict;
 ghost use Rattle.telling.specs.Lines.{refusedLine};
@@ -23,19 +24,10 @@ pub enum Telling {
 pub fn tell(cells: &[u8], tracks: usize, theme: &[u8], way: Way, out: &mut [u8]) -> Telling
     ensures { λ r. ⌜ Tells (searchTold (now (cells .entry)) tracks (now (theme .entry)) way (now (out .entry))) r (now (out .exit)) ⌝ }
 {
-    // 9 and 10 never apply: room for one pair is enough, and the first bookmark is in range
-    if let Verdict::Refused(e) = check_plain(
-        cells,
-        tracks,
-        theme,
-        way,
-        Bookmark::first(way),
-        1,
-        1,
-    ) {
+    if let Verdict::Refused(e) = check_request(cells, tracks, theme, MOST_NOTES) {
         return Telling::Refused(e);
     }
-    if out.len() < 458546 {
+    if out.len() < ROOM {
         return Telling::Short;
     }
     Telling::Told(search_lines(cells, tracks, theme, way, out))
@@ -45,7 +37,7 @@ pub fn tell(cells: &[u8], tracks: usize, theme: &[u8], way: Way, out: &mut [u8])
 pub fn refuse(line: u32, out: &mut [u8]) -> Telling
     ensures { λ r. ⌜ Tells (told (refusedLine line) (now (out .entry))) r (now (out .exit)) ⌝ }
 {
-    if out.len() < 458546 {
+    if out.len() < ROOM {
         return Telling::Short;
     }
     Telling::Told(refused_line(out, 0, line))

@@ -1,18 +1,24 @@
 // The search: as many quick pages as there are, each written out as it comes, and the line behind them.
 
+use crate::limits::PAGE_PAIRS;
 use crate::writing::end_line;
 use crate::writing::hit_lines;
 use asking::Bookmark;
 use asking::Way;
 use preparing::prepare;
+use score::MOST_COLUMNS;
+use score::TABLE_WORDS;
 use score::columns_in;
 use search::Page;
 use search::quick_page;
 ghost use Prim.Native.Nat.{_≤_};
 ghost use lib.ListN.{length};
 ghost use Rattle.score.specs.Score.{scoreOf};
+ghost use Rattle.asking.specs.Limits.{mostNotes};
 ghost use Rattle.asking.specs.Asking.{Accepted};
+ghost use Rattle.paging.specs.Lent.{lent};
 ghost use Rattle.telling.specs.Lines.{linesOf};
+ghost use Rattle.telling.specs.Telling.{room};
 ghost use Rattle.telling.specs.Steps.{Wrote, Sought, Asked};
 
 // All pages by the score's own sets, with room for some pairs in the two buffers, into the output from its front.
@@ -27,7 +33,7 @@ fn pages(
     shifts: &mut [i16],
     out: &mut [u8],
 ) -> usize
-    requires { ⌜ Asked (now cells) tracks (now theme) (now sets) (now table) (now columns) (now shifts) (now out) ⌝ }
+    requires { ⌜ Asked (now cells) tracks (now theme) (now sets) (now table) (lent (now columns) (now shifts)) (now out) ⌝ }
     ensures { λ r. ⌜ Wrote (linesOf way (scoreOf (now (cells .entry)) tracks) (now (theme .entry))) 0 (now (out .entry)) r (now (out .exit)) ⌝ }
 {
     let mut bookmark = Bookmark::first(way);
@@ -74,7 +80,7 @@ fn search_in(
     shifts: &mut [i16],
     out: &mut [u8],
 ) -> usize
-    requires { ⌜ Sought (now cells) tracks (now theme) (now sets) (now table) (now columns) (now shifts) (now out) ⌝ }
+    requires { ⌜ Sought (now cells) tracks (now theme) (now sets) (now table) (lent (now columns) (now shifts)) (now out) ⌝ }
     ensures { λ r. ⌜ Wrote (linesOf way (scoreOf (now (cells .entry)) tracks) (now (theme .entry))) 0 (now (out .entry)) r (now (out .exit)) ⌝ }
 {
     let last = columns_in(cells, tracks) - 1;
@@ -94,14 +100,14 @@ fn search_in(
 
 // The same with room of its own for all that is between.
 pub fn search_lines(cells: &[u8], tracks: usize, theme: &[u8], way: Way, out: &mut [u8]) -> usize
-    requires { ⌜ Accepted (now cells) tracks (now theme) ⌝ }
-    requires { ⌜ 458546 ≤ length (now out) ⌝ }
+    requires { ⌜ Accepted mostNotes (now cells) tracks (now theme) ⌝ }
+    requires { ⌜ room ≤ length (now out) ⌝ }
     ensures { λ r. ⌜ Wrote (linesOf way (scoreOf (now (cells .entry)) tracks) (now (theme .entry))) 0 (now (out .entry)) r (now (out .exit)) ⌝ }
 {
-    let mut sets = [0u16; 2047];
-    let mut table = [0u32; 4096];
-    let mut places = [0u16; 256];
-    let mut shifts = [0i16; 256];
+    let mut sets = [0u16; MOST_COLUMNS - 1];
+    let mut table = [0u32; TABLE_WORDS];
+    let mut places = [0u16; PAGE_PAIRS];
+    let mut shifts = [0i16; PAGE_PAIRS];
     search_in(
         cells,
         tracks,

@@ -8,7 +8,7 @@ ghost use Prim.Native.Nat.{_+_, _%_, _≤_, _<_};
 ghost use lib.IntN.{natAbs};
 ghost use lib.ListN.{length};
 ghost use Rattle.telling.specs.Text.{decimal, signed, field, line as lineOf};
-ghost use Rattle.search.specs.Reading.{readPairs};
+ghost use Rattle.paging.specs.Lent.{lent, readPairs};
 ghost use Rattle.telling.specs.Lines.{pairOf, hitLine, hitLines, endLine, refusedLine};
 ghost use Rattle.telling.specs.Steps.{Wrote};
 
@@ -107,8 +107,8 @@ pub fn hit_lines(
     found: usize,
 ) -> usize
     requires { ⌜ (found ≤ length (now columns)) × (length (now shifts) ≡ length (now columns)) ⌝ }
-    requires { ⌜ from + length (hitLines (readPairs found (now columns) (now shifts))) ≤ length (now out) ⌝ }
-    ensures { λ r. ⌜ Wrote (hitLines (readPairs found (now (columns .entry)) (now (shifts .entry)))) from (now (out .entry)) r (now (out .exit)) ⌝ }
+    requires { ⌜ from + length (hitLines (readPairs found (lent (now columns) (now shifts)))) ≤ length (now out) ⌝ }
+    ensures { λ r. ⌜ Wrote (hitLines (readPairs found (lent (now (columns .entry)) (now (shifts .entry))))) from (now (out .entry)) r (now (out .exit)) ⌝ }
 {
     let mut at = from;
     let mut i = 0;

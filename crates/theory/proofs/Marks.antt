@@ -31,6 +31,16 @@ marks-is f (suc w) z x h = rw (here, marks-is f w (suc z) (x / 2) later)
     later : (i : ℕ) → i < w → eqb (bit (x / 2) i) 1 ≡ f (suc z + i)
     later i k = ap (λ (b : ℕ). eqb b 1) (sym (bit-suc x i)) ∙ h (suc i) (omega arith) ∙ ap f (omega arith)
 
+-- the same bits mark the same numbers
+pub marks-same : (w z x y : ℕ) → ((i : ℕ) → i < w → bit x i ≡ bit y i) → marks w z x ≡ marks w z y
+marks-same w z x y h = marks-is by w z x (λ i k. ap (λ (b : ℕ). eqb b 1) (h i k) ∙ own i) ∙ sym (marks-is by w z y (λ i k. own i))
+  where
+    by : ℕ → Bool
+    by c = eqb (bit y (c - z)) 1
+
+    own : (i : ℕ) → eqb (bit y i) 1 ≡ eqb (bit y (z + i - z)) 1
+    own i = ap (λ (n : ℕ). eqb (bit y n) 1) (omega arith)
+
 pub marks-zero : (w z : ℕ) → marks w z 0 ≡ []
 unfolding marks
 marks-zero zero z = refl

@@ -21,6 +21,7 @@ use Rattle.score.specs.Refusals.{Row, judge, verdict}
 use Rattle.score.proofs.Columns.{columns-whole}
 use Rattle.score.proofs.Judged.{Clear, judge-clear, judge-clear-of, judge-both}
 use Rattle.score.proofs.Judging.{judge-away}
+use Rattle.asking.specs.Limits.{mostNotes}
 use Rattle.asking.specs.declared.way.Way.{Way}
 use Rattle.asking.specs.declared.bookmark.Bookmark.{Bookmark}
 use Rattle.asking.specs.Way.{span, codeOf}
@@ -31,7 +32,7 @@ use Rattle.asking.proofs.Rows.{plain-clear, quick-clear}
 use Rattle.asking.specs.Codes.{codeGiven}
 use Rattle.asking.proofs.Shifts.{code-le}
 use Rattle.asking.proofs.Coding.{code-given}
-use Rattle.filter.specs.Table.{themeTable}
+use Rattle.filter.specs.Table.{wordBits, themeTable}
 use Rattle.walking.specs.declared.walked.Walked.{Walked}
 use Rattle.walking.specs.declared.calls.Walk.{Walk}
 use Rattle.walking.specs.declared.calls.Walk.the-variants.{Done, Refused}
@@ -50,7 +51,7 @@ small limit xs e i = pick (decLt i (length xs))
     pick (yes h) = ltb-false limit (getD xs i 0) (some-none (λ x. ltb limit x) xs 0 e i h)
     pick (no h) = subst (λ (n : ℕ). n ≤ limit) (sym (List·getD-eq-default xs 0 {n = i} (omega arith))) zero-le
 
-pub accepted-ready : {cells : List ℕ} {h : ℕ} {theme : List ℕ} → Accepted cells h theme → Ready cells h theme
+pub accepted-ready : {cells : List ℕ} {h : ℕ} {theme : List ℕ} → Accepted mostNotes cells h theme → Ready cells h theme
 accepted-ready {cells} {h} {theme} a =
     record {
       tracks = a .tracks-some;
@@ -182,10 +183,10 @@ module _ (cells : List ℕ) (h : ℕ) (theme : List ℕ) (way : Way) (b : Bookma
   quick-asks a v = quick-clear cells h theme way b sets table columns shifts .1 (accepted-clear rows (sym a ∙ v))
 
   -- the table: as it was, or the theme's
-  pub table-kept : {v : Verdict} {e : Refusal} → v ≡ verdict rows → v ≡ Away e → table ≡ judge rows (λ r. table) (themeTable theme)
+  pub table-kept : {v : Verdict} {e : Refusal} → v ≡ verdict rows → v ≡ Away e → table ≡ judge rows (λ r. table) (themeTable wordBits theme)
   table-kept a v = sym (judge-away (λ r. table) _ rows (sym a ∙ v))
 
-  pub table-filled : Clear rows → judge rows (λ r. table) (themeTable theme) ≡ themeTable theme
+  pub table-filled : Clear rows → judge rows (λ r. table) (themeTable wordBits theme) ≡ themeTable wordBits theme
   table-filled c = judge-clear (λ r. table) _ rows c
 
   pub quick-walks-unique : {a a′ : Walk} {t t′ c c′ : List ℕ} {s s′ : List ℤ} → QuickWalks cells h theme way b sets table columns shifts a t c s

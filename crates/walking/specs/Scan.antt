@@ -7,6 +7,7 @@ use lib.ListN.{length, getD}
 use Rattle.theory.specs.Lists.{count, over}
 use Rattle.theory.specs.Pages.{hits}
 use Rattle.theory.specs.Register.{regFrom}
+use Rattle.filter.specs.Table.{wordBits}
 use Rattle.walking.specs.Candidates.{candidate}
 
 -- the table's word for entry k of the sets, from 0
@@ -38,6 +39,6 @@ pub record Lent (sets table : List ℕ) (m j many : ℕ) : Type 0 where
 
 -- as many columns as are counted, from column j on: the candidates among them are listed in front, and the register goes on behind them
 pub record ListsCandidates (table sets : List ℕ) (m j many : ℕ) (list : List ℕ) (register′ count′ : ℕ) (list′ : List ℕ) : Type 0 where
-  pub listed : list′ ≡ over list (hits (candidate table sets m) (count j many))
-  pub counted : count′ ≡ length (hits (candidate table sets m) (count j many))
+  pub listed : list′ ≡ over list (hits (candidate wordBits table sets m) (count j many))
+  pub counted : count′ ≡ length (hits (candidate wordBits table sets m) (count j many))
   pub goes-on : Filters table sets m register′ (j + many)

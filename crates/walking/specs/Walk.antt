@@ -17,6 +17,7 @@ use Rattle.asking.specs.declared.way.Way.the-variants.{Exact, Octave}
 use Rattle.asking.specs.declared.bookmark.Bookmark.{Bookmark}
 use Rattle.asking.specs.Way.{span, holds}
 use Rattle.asking.specs.Bookmarks.{keyOf}
+use Rattle.filter.specs.Table.{wordBits}
 use Rattle.score.specs.Score.{note}
 use Rattle.walking.specs.declared.walked.Spot.{Spot}
 use Rattle.walking.specs.declared.walked.Walked.{Walked}
@@ -131,5 +132,5 @@ WalksEvery way cells h theme b columns shifts w columns′ shifts′ =
 abbrev pub WalksCandidates : Way → (cells : List ℕ) (h : ℕ) (theme : List ℕ) → Bookmark → (sets table columns : List ℕ) (shifts : List ℤ)
     → Walked → (columns′ : List ℕ) (shifts′ : List ℤ) → Type 0
 WalksCandidates way cells h theme b sets table columns shifts w columns′ shifts′ =
-    Walks way (scoreOf cells h) theme (from key (keyOf way b) (quickStarts way (scoreOf cells h) theme table sets)) columns shifts
+    Walks way (scoreOf cells h) theme (from key (keyOf way b) (quickStarts wordBits way (scoreOf cells h) theme table sets)) columns shifts
     (w .found) (w .looks) columns′ shifts′

@@ -2,42 +2,30 @@
 // the next column holds it.
 
 use crate::column::try_column;
-use crate::masks::Word;
-use crate::masks::held_at;
+use crate::ring::held_at;
 use crate::walked::Spot;
 use crate::walked::Walked;
 use asking::Way;
 use hits::put_hits;
+use masks::Word;
+use masks::all_starts;
 use score::Column;
 use score::Pitch;
 ghost use mathlib.Core.Path.{_≡_};
 ghost use Prim.Native.Nat.{_+_, _≤_, _<_};
 ghost use lib.ListN.{length};
 ghost use Rattle.score.specs.Score.{columnsIn, scoreOf};
+ghost use Rattle.masks.specs.Masks.{value, width};
 ghost use Rattle.walking.specs.Walk.{Ready, Fits, Stands, TriesColumn};
-ghost use Rattle.walking.specs.Alive.{width, allLow, allHigh, Cached, Followed};
+ghost use Rattle.walking.specs.Alive.{Cached, Followed};
 
 // The starts of a column that are hits, and the looks of all its starts.
 pub struct Alive {
-    pub low: u64,
-    pub high: u64,
+    pub word: Word,
     pub looks: u32,
 }
 
-// Every start there may be.
-fn all_starts(way: Way) -> Word
-    ensures { λ r. ⌜ (r .low ≡ allLow way) × (r .high ≡ allHigh way) ⌝ }
-{
-    match way {
-        Way::Exact => Word {
-            low: 0xffff_ffff_ffff_ffff,
-            high: 0xffff_ffff_ffff_ffff,
-        },
-        Way::Octave => Word { low: 4095, high: 0 },
-    }
-}
-
-// How many they are.
+// How many starts there may be.
 fn width_of(way: Way) -> u32
     ensures { λ r. ⌜ r ≡ width way ⌝ }
 {
@@ -53,7 +41,7 @@ fn follow(cells: &[u8], h: usize, theme: &[u8], way: Way, column: Column, ring: 
     requires { ⌜ Ready (now cells) h (now theme) ⌝ }
     requires { ⌜ Fits (columnsIn (now cells) h) (length (now theme)) (column .0) ⌝ }
     requires { ⌜ Cached way (now cells) h (now ring) ⌝ }
-    ensures { λ r. ⌜ Followed way (scoreOf (now (cells .entry)) h) (now (theme .entry)) (column .0) (r .low) (r .high) (r .looks) × Cached way (now (cells .entry)) h (now (ring .exit)) ⌝ }
+    ensures { λ r. ⌜ Followed way (scoreOf (now (cells .entry)) h) (now (theme .entry)) (column .0) (value (r .word .low) (r .word .high)) (r .looks) × Cached way (now (cells .entry)) h (now (ring .exit)) ⌝ }
 {
     let j = column.0 as usize;
     let first = Pitch(theme[0]);
@@ -66,7 +54,8 @@ fn follow(cells: &[u8], h: usize, theme: &[u8], way: Way, column: Column, ring: 
     while k < theme.len() {
         if (low | high) == 0 {
             looks -= spare;
-            return Alive { low, high, looks };
+            let none = Word { low, high };
+            return Alive { word: none, looks };
         }
         looks += u64::count_ones(low) + u64::count_ones(high);
         let held = held_at(cells, h, way, j + k - 1, first, Pitch(theme[k]), ring);
@@ -75,7 +64,8 @@ fn follow(cells: &[u8], h: usize, theme: &[u8], way: Way, column: Column, ring: 
         k += 1;
     }
     looks -= spare;
-    Alive { low, high, looks }
+    let word = Word { low, high };
+    Alive { word, looks }
 }
 
 // Tries the starts of the spot's column from its code on, until none is left or no room: all at once where the code leaves none out,
@@ -98,19 +88,11 @@ pub fn try_all(
     if (spot.code == 0) & (h != 1) {
         let column = spot.column;
         let a = follow(cells, h, theme, way, column, ring);
-        let hits = u64::count_ones(a.low) + u64::count_ones(a.high);
+        let word = a.word;
+        let hits = u64::count_ones(word.low) + u64::count_ones(word.high);
         if (hits as usize) < columns.len() - spot.found {
             return Walked {
-                found: put_hits(
-                    columns,
-                    shifts,
-                    spot.found,
-                    a.low,
-                    a.high,
-                    Pitch(theme[0]),
-                    column,
-                    way,
-                ),
+                found: put_hits(columns, shifts, spot.found, word, Pitch(theme[0]), column, way),
                 looks: a.looks,
             };
         }

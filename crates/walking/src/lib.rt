@@ -1,14 +1,14 @@
 // From a bookmark to the hits that fill a page.
 //
 // `walked` says where a walk stands and how far it has come. `starts` are the places whose first note is present, and what is looked
-// at from there. The starts of a `column` are tried one by one; `masks` are columns as words of bits, by which `alive` tries all of
-// them at once. The `register` lists candidates, a `walk` goes along listed columns, and the `calls` check what is asked and walk.
+// at from there. The starts of a `column` are tried one by one; the `ring` keeps columns as words of bits, by which `alive` tries
+// all of them at once. The `register` lists candidates, a `walk` goes along listed columns, and the `calls` check what is asked and walk.
 
 mod alive;
 pub mod calls;
 mod column;
-mod masks;
 mod register;
+mod ring;
 mod starts;
 mod walk;
 mod walked;

@@ -3,6 +3,7 @@
 use crate::alive::try_all;
 use crate::register::list_candidates;
 use crate::register::warmed;
+use crate::ring::RING;
 use crate::walked::Spot;
 use crate::walked::Walked;
 use crate::walked::at_column;
@@ -85,7 +86,7 @@ pub fn walk_every(
 {
     let n = columns_in(cells, h);
     let m = theme.len();
-    let mut ring = [0u64; 96];
+    let mut ring = [0u64; RING];
     let mut list = [0u16; 64];
     let mut j = bookmark.column.0 as usize;
     let mut code = code_of(way, bookmark.shift);
@@ -135,7 +136,7 @@ pub fn walk_candidates(
 {
     let n = columns_in(cells, h);
     let m = theme.len();
-    let mut ring = [0u64; 96];
+    let mut ring = [0u64; RING];
     let mut list = [0u16; 64];
     let mut j = bookmark.column.0 as usize;
     let mut code = code_of(way, bookmark.shift);

@@ -11,6 +11,7 @@ use lib.Dec.{leb, eqb}
 use lib.ListN.{length, getD, drop, length-drop, drop-of-length-le}
 use lib.Seq.{drop-drop, getD-drop}
 use borrow.Author.Tests.{le-leb, lt-leb, eq-eqb, ne-eqb, leb-true, eqb-true}
+use Rattle.score.specs.Limits.{highestPitch, restCell}
 use Rattle.words.specs.declared.numbers.Numeral.{Numeral}
 use Rattle.words.specs.declared.numbers.Numeral.the-variants.{At, Bad}
 use Rattle.words.specs.Words.{Read, got, bad, next, front, isDigit, moreDigits, number, cell}
@@ -56,15 +57,15 @@ module _ (text : List ℕ) (at v b : ℕ) (s : Seen text at b) where
   unfolding moreDigits
   digits-none e h = record { is = rw (← s .byte, e); within = h }
 
-  pub digits-large : isDigit b ≡ true → 127 < v * 10 + (b - 48) → at ≤ length text → Numbered text (At v at) (moreDigits v (drop at text))
+  pub digits-large : isDigit b ≡ true → highestPitch < v * 10 + (b - 48) → at ≤ length text → Numbered text (At v at) (moreDigits v (drop at text))
   unfolding moreDigits
-  digits-large e l h = record { is = rw (← s .byte, e, lt-leb (v * 10 + (b - 48)) 127 l); within = h }
+  digits-large e l h = record { is = rw (← s .byte, e, lt-leb (v * 10 + (b - 48)) highestPitch l); within = h }
 
-  pub digits-one : isDigit b ≡ true → v * 10 + (b - 48) ≤ 127 → Numbered text (At (v * 10 + (b - 48)) (at + 1)) (moreDigits v (drop at text))
+  pub digits-one : isDigit b ≡ true → v * 10 + (b - 48) ≤ highestPitch → Numbered text (At (v * 10 + (b - 48)) (at + 1)) (moreDigits v (drop at text))
   unfolding moreDigits
   digits-one e l =
       record {
-        is = rw (← s .byte, e, le-leb (v * 10 + (b - 48)) 127 l, drop-more text at);
+        is = rw (← s .byte, e, le-leb (v * 10 + (b - 48)) highestPitch l, drop-more text at);
         within = let h = s .within (omega (arith, digit-some b e .0)) in omega arith;
       }
 
@@ -108,7 +109,7 @@ module _ (text : List ℕ) (at b : ℕ) (s : Seen text at b) where
   at-rest true e = s .within (omega (arith, eqb-true b 45 e))
   at-rest false e = absurd (true≢false (sym e))
 
-  pub cell-rest : (rests : Bool) → (rests && eqb b 45) ≡ true → Numbered text (At 255 (at + 1)) (cell rests (drop at text))
+  pub cell-rest : (rests : Bool) → (rests && eqb b 45) ≡ true → Numbered text (At restCell (at + 1)) (cell rests (drop at text))
   unfolding cell
   cell-rest rests e = record { is = rw (← s .byte, e, drop-more text at); within = omega (arith, at-rest rests e) }
 

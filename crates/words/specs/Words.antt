@@ -5,6 +5,7 @@ use mathlib.Core.List.{List, [], _∷_}
 use Prim.Native.Nat.{ℕ, _+_, _-_, _*_}
 use lib.Dec.{leb, eqb}
 use lib.ListN.{getD, drop}
+use Rattle.score.specs.Limits.{highestPitch, restCell}
 
 -- a value and what is left of the text; or bad text
 pub data Read (A : Type 0) : Type 0 where
@@ -31,7 +32,7 @@ isDigit b = leb 48 b && leb b 57
 -- one digit more, where there is one and the number stays 127 or less
 unfoldable pub moreDigits : (v : ℕ) → List ℕ → Read ℕ
 moreDigits v text =
-    cond (isDigit (front text) && leb (v * 10 + (front text - 48)) 127) (got (v * 10 + (front text - 48)) (drop 1 text)) (got v text)
+    cond (isDigit (front text) && leb (v * 10 + (front text - 48)) highestPitch) (got (v * 10 + (front text - 48)) (drop 1 text)) (got v text)
 
 -- a number 0 to 127. A 0 has no digit behind it
 unfoldable pub number : List ℕ → Read ℕ
@@ -41,4 +42,4 @@ number text =
 
 -- a cell or a note: a number, or `-`, which is 255, where rests may stand
 unfoldable pub cell : (rests : Bool) → List ℕ → Read ℕ
-cell rests text = cond (rests && eqb (front text) 45) (got 255 (drop 1 text)) (number text)
+cell rests text = cond (rests && eqb (front text) 45) (got restCell (drop 1 text)) (number text)

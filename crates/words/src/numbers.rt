@@ -1,6 +1,8 @@
 // A number or a cell at a place of a text.
 
 use crate::bytes::byte_at;
+use score::HIGHEST_PITCH;
+use score::REST;
 ghost use mathlib.Core.Path.{_≡_};
 ghost use Prim.Native.Nat.{_≤_};
 ghost use lib.ListN.{length, drop};
@@ -27,7 +29,7 @@ fn more_digits(text: &[u8], at: usize, value: u8) -> Numeral
     let b = byte_at(text, at);
     if is_digit(b) {
         let more = value as u16 * 10 + (b - 48) as u16;
-        if more <= 127 {
+        if more <= HIGHEST_PITCH as u16 {
             return Numeral::At {
                 value: more as u8,
                 next: at + 1,
@@ -63,7 +65,7 @@ pub fn cell(text: &[u8], at: usize, rests: bool) -> Numeral
 {
     if rests & (byte_at(text, at) == 45) {
         return Numeral::At {
-            value: 255,
+            value: REST,
             next: at + 1,
         };
     }

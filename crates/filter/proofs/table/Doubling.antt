@@ -15,6 +15,7 @@ use lib.ListN.{length, getD, set, length-set}
 use lib.Seq.{getD-set-same, getD-set-other, ext-getD}
 use Rattle.theory.specs.Lists.{count}
 use Rattle.theory.proofs.Lists.{stored-more, count-map-length, count-map-at}
+use Rattle.score.specs.Limits.{tableWords}
 use Rattle.filter.specs.Doubling.{Doubled}
 
 -- ---- copying: the first i entries stand again behind the first p
@@ -54,10 +55,10 @@ half-all p i x t t′ l h = record { long = h .long; low = h .low; high = λ k m
 
 pub record Filled (word : ℕ → ℕ) (table : List ℕ) (d : ℕ) : Type 0 where
   pub within : d ≤ 12
-  pub long : length table ≡ 4096
+  pub long : length table ≡ tableWords
   pub each : (s : ℕ) → s < 2 ^ d → getD table s 0 ≡ word s
 
-pub filled-first : (word : ℕ → ℕ) (table : List ℕ) (x : ℕ) → length table ≡ 4096 → x ≡ word 0 → Filled word (set table 0 x) 0
+pub filled-first : (word : ℕ → ℕ) (table : List ℕ) (x : ℕ) → length table ≡ tableWords → x ≡ word 0 → Filled word (set table 0 x) 0
 filled-first word table x l e =
     record {
       within = zero-le;
@@ -87,10 +88,10 @@ module _ {word : ℕ → ℕ} {table : List ℕ} {d : ℕ} (f : Filled word tabl
           subst (λ (n : ℕ). getD table′ n 0 ≡ word n) q
           (b .high (s - 2 ^ d) r ∙ ap (λ (n : ℕ). bitOr n x) (f .each (s - 2 ^ d) r) ∙ sym (above (s - 2 ^ d) r))
 
-pub filled-all : {word : ℕ → ℕ} {table : List ℕ} {d : ℕ} → Filled word table d → 12 ≤ d → table ≡ map word (count 0 4096)
+pub filled-all : {word : ℕ → ℕ} {table : List ℕ} {d : ℕ} → Filled word table d → 12 ≤ d → table ≡ map word (count 0 tableWords)
 filled-all {word} {table} {d} f h =
-    ext-getD 0 table (map word (count 0 4096)) (f .long ∙ sym (count-map-length word 0 4096))
+    ext-getD 0 table (map word (count 0 tableWords)) (f .long ∙ sym (count-map-length word 0 tableWords))
     (λ s l.
-    let k : s < 4096 = omega (arith, f .long) in
+    let k : s < tableWords = omega (arith, f .long) in
     let m : 2 ^ 12 ≤ 2 ^ d = pow-mono h in
-    f .each s (omega arith) ∙ sym (count-map-at word 0 4096 s 0 k ∙ ap word (zero-add s)))
+    f .each s (omega arith) ∙ sym (count-map-at word 0 tableWords s 0 k ∙ ap word (zero-add s)))

@@ -21,8 +21,10 @@ use Rattle.theory.proofs.Lists.{sets-more, sets-append}
 use Rattle.score.specs.declared.quantities.Pitch.{Pitch}
 use Rattle.asking.specs.declared.way.Way.{Way}
 use Rattle.asking.specs.Way.{shiftOf}
+use Rattle.masks.specs.Masks.{value, lowCode}
+use Rattle.masks.proofs.Halves.{Halves, value-lt, value-ones, value-none, marks-value}
 use Rattle.hits.specs.Writing.{codesOf, wordCodes, fitting, Puts}
-use Rattle.hits.proofs.Fitting.{fitting-nil, fitting-all, fitting-none, fitting-cond, puts-nil, or-none-left, or-none-right, codes-none, codes-length, word-codes, word-none}
+use Rattle.hits.proofs.Fitting.{fitting-nil, fitting-all, fitting-none, fitting-cond, puts-nil, codes-none, codes-length, word-codes, word-none}
 
 pub record Putting (way : Way) (j from half first : ℕ) (columns₀ : List ℕ) (shifts₀ : List ℤ) (columns : List ℕ) (shifts : List ℤ) (left at : ℕ) : Type 0 where
   pub out : List ℕ
@@ -127,25 +129,38 @@ module _ (n at a b : ℕ) (x y : Bool) (p : x ≡ leb (at + n) a) (q : y ≡ leb
   pub room-none : not (x && y) ≡ true → (leb (at + n) a && leb (at + n) b) ≡ false
   room-none e = rw (← p, ← q) (not-true (x && y) e)
 
-module _ (way : Way) (j : ℕ) (first : Pitch) (low high at : ℕ) (columns : List ℕ) (shifts : List ℤ) where
-  pub put-no-mark : bitOr low high ≡ 0 → Puts way j (fitting (wordCodes way first low high) at columns shifts) at columns shifts at columns shifts
+module _ (way : Way) (j : ℕ) (first : Pitch) (low high at : ℕ) (columns : List ℕ) (shifts : List ℤ) (h : Halves low high) where
+  abbrev word : ℕ
+  word = value low high
+
+  pub put-no-mark : bitOr low high ≡ 0 → Puts way j (fitting (wordCodes way first word) at columns shifts) at columns shifts at columns shifts
   put-no-mark e =
       puts-nil at columns shifts way j _
-      (fitting-cond at columns shifts (codesOf way first low high) (leb (first .0) 127)
-      (rw (or-none-left low high e, or-none-right low high e, codes-none way first) (fitting-nil at columns shifts)))
+      (fitting-cond at columns shifts (codesOf way first word) (leb (first .0) 127) (rw (value-none low high h e, codes-none way first) (fitting-nil at columns shifts)))
 
-  pub put-no-pitch : 127 < first .0 → Puts way j (fitting (wordCodes way first low high) at columns shifts) at columns shifts at columns shifts
-  put-no-pitch h = puts-nil at columns shifts way j _ (rw (word-none way first low high h) (fitting-nil at columns shifts))
+  pub put-no-pitch : 127 < first .0 → Puts way j (fitting (wordCodes way first word) at columns shifts) at columns shifts at columns shifts
+  put-no-pitch l = puts-nil at columns shifts way j _ (rw (word-none way first word l) (fitting-nil at columns shifts))
 
-  module _ (l : low < 2 ^ 64) (h : high < 2 ^ 64) where
-    pub put-no-room : (leb (at + (ones low + ones high)) (length columns) && leb (at + (ones low + ones high)) (length shifts)) ≡ false
-        → Puts way j (fitting (wordCodes way first low high) at columns shifts) at columns shifts at columns shifts
-    put-no-room e =
-        puts-nil at columns shifts way j _
-        (fitting-cond at columns shifts (codesOf way first low high) (leb (first .0) 127) (fitting-none at columns shifts (codesOf way first low high) (rw (codes-length way first low high l h) e)))
+  -- as many as the halves have ones
+  many : length (codesOf way first word) ≡ ones low + ones high
+  many = codes-length way first word (value-lt low high h) ∙ sym (value-ones low high h)
 
-    pub put-all : first .0 ≤ 127 → Room (ones low + ones high) at (length columns) (length shifts) → (at′ : ℕ) (columns′ : List ℕ) (shifts′ : List ℤ)
-        → Puts way j (codesOf way first low high) at columns shifts at′ columns′ shifts′ → Puts way j (fitting (wordCodes way first low high) at columns shifts) at columns shifts at′ columns′ shifts′
-    put-all f r at′ columns′ shifts′ t =
-        let n = codes-length way first low high l h in
-        rw (word-codes way first low high f, fitting-all at columns shifts (codesOf way first low high) (omega (arith, n, r .in-columns)) (omega (arith, n, r .in-shifts))) t
+  pub put-no-room : (leb (at + (ones low + ones high)) (length columns) && leb (at + (ones low + ones high)) (length shifts)) ≡ false
+      → Puts way j (fitting (wordCodes way first word) at columns shifts) at columns shifts at columns shifts
+  put-no-room e =
+      puts-nil at columns shifts way j _
+      (fitting-cond at columns shifts (codesOf way first word) (leb (first .0) 127) (fitting-none at columns shifts (codesOf way first word) (rw many e)))
+
+  -- what the lower half marks is written, and behind it what the upper marks
+  pub put-all : first .0 ≤ 127 → Room (ones low + ones high) at (length columns) (length shifts) → (code : ℕ) → code ≡ lowCode way first
+      → (middle : ℕ) (columns₁ : List ℕ) (shifts₁ : List ℤ) → Puts way j (marks 64 code low) at columns shifts middle columns₁ shifts₁
+      → (at′ : ℕ) (columns′ : List ℕ) (shifts′ : List ℤ) → Puts way j (marks 64 (code + 64) high) middle columns₁ shifts₁ at′ columns′ shifts′
+      → Puts way j (fitting (wordCodes way first word) at columns shifts) at columns shifts at′ columns′ shifts′
+  put-all f r code e middle columns₁ shifts₁ s at′ columns′ shifts′ t =
+      rw (
+        word-codes way first word f,
+        fitting-all at columns shifts (codesOf way first word) (omega (arith, many, r .in-columns)) (omega (arith, many, r .in-shifts)),
+        marks-value low high h (lowCode way first),
+        ← e,
+      )
+      (puts-both way j (marks 64 code low) (marks 64 (code + 64) high) at columns shifts middle columns₁ shifts₁ s at′ columns′ shifts′ t)

@@ -1,112 +1,129 @@
--- From a walk to a page: a walk that is turned away is a page that is turned away, and the answer that is read off the
--- buffers of one that is done is the page's. Assumes nothing.
-use mathlib.Core.Path.{_≡_, sym, ap, _∙_}
-use mathlib.Core.List.{List, []}
-use Prim.Native.Nat.{ℕ, _≤_}
+-- From a walk to a page: a walk that is turned away is a page that is turned away, and the answer that is read off the buffers of one that is
+-- done is the page's. Assumes nothing.
+use mathlib.Core.Path.{_≡_, refl, sym, ap, _∙_}
+use mathlib.Core.List.{List, [], map}
+use Prim.Native.Nat.{ℕ, _≤_, _<_}
 use native.Mathlib.Omega.{arith}
 use lib.IntN.{ℤ}
-use lib.ListN.{length}
+use lib.ListN.{length, length-map}
+use Rattle.theory.specs.Pages.{pageHits, pageLooks, from}
 use Rattle.score.specs.declared.refusals.Refusal.{Refusal}
-use Rattle.score.specs.Score.{columnsIn, scoreOf}
+use Rattle.score.specs.Score.{columnAt, columnsIn, scoreOf}
+use Rattle.score.specs.Refusals.{Row}
 use Rattle.score.proofs.Columns.{score-length}
 use Rattle.score.proofs.Judging.{judge-away}
+use Rattle.score.proofs.Judged.{Clear}
 use Rattle.asking.specs.declared.way.Way.{Way}
 use Rattle.asking.specs.declared.bookmark.Bookmark.{Bookmark}
-use Rattle.asking.specs.Asking.{PlainAsks, QuickAsks}
-use Rattle.asking.specs.Refusals.{plainRows, quickRows}
+use Rattle.asking.specs.Way.{rangeOf}
+use Rattle.asking.specs.Bookmarks.{keyOf, finishedBookmark}
+use Rattle.asking.specs.Asking.{InRange, PlainAsks, QuickAsks}
 use Rattle.asking.proofs.Rows.{plain-clear, quick-clear}
-use Rattle.filter.specs.Table.{themeTable}
+use Rattle.filter.specs.Table.{wordBits, themeTable}
+use Rattle.paging.specs.declared.page.Page.{Page}
+use Rattle.paging.specs.declared.page.Page.the-variants.{Turned, Refused}
+use Rattle.paging.specs.Lent.{Lent, lent, Room, written}
+use Rattle.paging.specs.Search.{Search, left, found, spent}
+use Rattle.paging.specs.Page.{leaf, away, paged, Pages}
+use Rattle.paging.specs.Turning.{readTurn}
+use Rattle.paging.proofs.Turnings.{away-pages, went-pages}
 use Rattle.walking.specs.declared.walked.Walked.{Walked}
 use Rattle.walking.specs.declared.calls.Walk.the-variants.{Done, Refused as Away}
-use Rattle.walking.specs.Starts.{Place, starts}
+use Rattle.walking.specs.Starts.{Place, key, starts, hit, looks}
 use Rattle.walking.specs.Candidates.{quickStarts}
-use Rattle.walking.specs.Found.{PlainWalks, QuickWalks}
+use Rattle.walking.specs.Found.{Finds, PlainWalks, QuickWalks}
 use Rattle.walking.proofs.Answers.{Went, finds-refused, finds-clear, finds-went, table-filled}
-use Rattle.search.specs.declared.page.Turn.{Turn}
-use Rattle.search.specs.declared.page.Page.the-variants.{Turned, Refused}
-use Rattle.search.specs.Page.{Leaf, QuickLeaf, leaf, plainPage, quickPage, PlainPages, QuickPages}
-use Rattle.search.specs.Turning.{readTurn}
-use Rattle.search.proofs.PlainCall.{plainRefused, plainLeaf, plain-leaf}
-use Rattle.search.proofs.QuickCall.{quickRefused, quickLeaf, quick-leaf}
-use Rattle.search.proofs.page.Laws.{walk-long, walk-long-shifts, turn-read}
+use Rattle.search.specs.Pairs.{pairAt, plainSearch, quickSearch}
+use Rattle.search.specs.Page.{rowsOfPlain, plainPage, PlainPages, rowsOfQuick, quickPage, quickTable, QuickPages}
+use Rattle.search.proofs.Reached.{left-plain, left-quick, places-written}
 
--- ---- what a walk that went to its end leaves, whichever starts it reached
+-- ---- any search along the starts of a way
 
-module _ (cells : List ℕ) (h : ℕ) (theme : List ℕ) (way : Way) (b : Bookmark) (columns : List ℕ) (shifts : List ℤ) (a : PlainAsks cells h theme way b columns shifts)
-    (reached : List Place) {w : Walked} {columns′ : List ℕ} {shifts′ : List ℤ} (v : Went [] way (scoreOf cells h) theme reached b columns shifts w columns′ shifts′) where
-  -- there is a last pair to read where the page is full
-  went-room : (1 ≤ length columns′) × (length shifts′ ≡ length columns′) × (columnsIn cells h ≤ 65535)
-  went-room =
-      let k = walk-long _ _ _ _ _ _ _ _ _ _ v (a .room) (a .same-room) in
-      (omega (arith, k, a .room), walk-long-shifts _ _ _ _ _ _ _ _ _ _ v (a .room) (a .same-room) ∙ sym k, omega (arith, a .accepted .columns-few))
+module _ (rows : List Row) (way : Way) (score : List (List ℕ)) (theme : List ℕ) (reached : List Place) (b : Bookmark) (columns : List ℕ) (shifts : List ℤ) where
+  abbrev S : Search Place
+  S = record { columns = length score; range = rangeOf way; starts = reached; hit = hit way score theme; looks = looks way score theme; shown = pairAt way }
 
-  went-turns : {n : ℕ} {t : Turn} → n ≡ columnsIn cells h → t ≡ readTurn way n (w .found) (w .looks) columns′ shifts′
-      → Turned t ≡ leaf way (scoreOf cells h) theme reached b columns shifts .answer
-  went-turns {n} e r =
-      let m : n ≡ length (scoreOf cells h) = e ∙ sym (score-length cells h) in
-      ap Turned (r ∙ turn-read _ _ _ _ _ _ _ _ _ _ v (a .room) (a .same-room) n ∙ rw (m, v .costs))
+  search-away : {e : Refusal} {columns′ : List ℕ} {shifts′ : List ℤ} → Finds rows way score theme reached b columns shifts (Away e) columns′ shifts′
+      → Pages (paged rows S b (lent columns shifts)) (Refused e) (lent columns′ shifts′)
+  search-away l =
+      let f = finds-refused rows way score theme reached b columns shifts l in
+      away-pages rows S b (lent columns shifts) (judge-away (away (lent columns shifts)) (leaf S b (lent columns shifts)) rows (f .0)) (rw (f .1, f .2))
+
+  search-turns : 1 ≤ length columns → length shifts ≡ length columns → from key (keyOf way b) reached ≡ left S b → {w : Walked} {columns′ : List ℕ} {shifts′ : List ℤ}
+      → Finds rows way score theme reached b columns shifts (Done w) columns′ shifts′ → {n : ℕ} {page : Page} → n ≡ length score
+      → page ≡ Turned (readTurn (finishedBookmark (rangeOf way) (columnAt n)) (w .found) (w .looks) (lent columns′ shifts′))
+      → Pages (paged rows S b (lent columns shifts)) page (lent columns′ shifts′)
+  search-turns some same e {w} {columns′} {shifts′} l {n} {page} is r =
+      let v = finds-went rows way score theme reached b columns shifts l in
+      let places : List Place → List Place = λ xs. pageHits (hit way score theme) (length columns) xs in
+      rw r
+      (went-pages rows S b (lent columns shifts) (length columns) some (record { of-columns = refl; of-shifts = same }) (finds-clear rows way score theme reached b columns shifts l)
+      (v .count ∙ ap (λ (xs : List Place). length (places xs)) e ∙ sym (length-map (places (left S b)) (pairAt way)))
+      (v .costs ∙ ap (pageLooks (hit way score theme) (looks way score theme) (length columns)) e)
+      (rw (v .in-columns, v .in-shifts)
+      (places-written way (places (from key (keyOf way b) reached)) columns shifts
+      ∙ ap (λ (xs : List Place). written (lent columns shifts) (map (pairAt way) (places xs))) e))
+      (rw is))
 
 -- ---- plain
 
 module _ (cells : List ℕ) (h : ℕ) (theme : List ℕ) (way : Way) (b : Bookmark) (columns : List ℕ) (shifts : List ℤ) {columns′ : List ℕ} {shifts′ : List ℤ} where
-  pub plain-away : {e : Refusal} → PlainWalks cells h theme way b columns shifts (Away e) columns′ shifts′ → PlainPages cells h theme way b columns shifts (Refused e) columns′ shifts′
+  pub plain-away : {e : Refusal} → PlainWalks cells h theme way b columns shifts (Away e) columns′ shifts′
+      → PlainPages cells h theme way b (lent columns shifts) (Refused e) (lent columns′ shifts′)
   unfolding plainPage
-  plain-away {e} l =
-      let f = finds-refused _ _ _ _ _ _ _ _ l in
-      let p : plainPage cells h theme way b columns shifts ≡ plainRefused cells h theme way b columns shifts e =
-      judge-away (plainRefused cells h theme way b columns shifts) (plainLeaf cells h theme way b columns shifts) (plainRows cells h theme way b columns shifts) (f .0) in
-      record { answers = sym (ap (λ (x : Leaf). x .answer) p); writes-columns = f .1 ∙ sym (ap (λ (x : Leaf). x .columns) p); writes-shifts = f .2 ∙ sym (ap (λ (x : Leaf). x .shifts) p) }
+  plain-away l =
+      record {
+        pages = search-away (rowsOfPlain cells h theme way b (lent columns shifts)) way (scoreOf cells h) theme (starts way (scoreOf cells h) theme) b columns shifts l;
+      }
 
   module _ {w : Walked} (l : PlainWalks cells h theme way b columns shifts (Done w) columns′ shifts′) where
     asked : PlainAsks cells h theme way b columns shifts
     asked = plain-clear cells h theme way b columns shifts .1 (finds-clear _ _ _ _ _ _ _ _ l)
 
-    pub plain-room : (1 ≤ length columns′) × (length shifts′ ≡ length columns′) × (columnsIn cells h ≤ 65535)
-    plain-room = went-room cells h theme way b columns shifts asked (starts way (scoreOf cells h) theme) (finds-went _ _ _ _ _ _ _ _ l)
+    -- the number of columns fits 16 bits
+    pub plain-fits : {n : ℕ} → n ≡ columnsIn cells h → n < 65536
+    plain-fits e = omega (arith, e, asked .accepted .columns-few)
 
-    pub plain-turns : {n : ℕ} {t : Turn} → n ≡ columnsIn cells h → t ≡ readTurn way n (w .found) (w .looks) columns′ shifts′
-        → PlainPages cells h theme way b columns shifts (Turned t) columns′ shifts′
+    pub plain-turns : {n : ℕ} {page : Page} → n ≡ columnsIn cells h
+        → page ≡ Turned (readTurn (finishedBookmark (rangeOf way) (columnAt n)) (w .found) (w .looks) (lent columns′ shifts′))
+        → PlainPages cells h theme way b (lent columns shifts) page (lent columns′ shifts′)
+    unfolding plainPage
     plain-turns e r =
-        let v = finds-went _ _ _ _ _ _ _ _ l in
-        let p = plain-leaf cells h theme way b columns shifts asked in
         record {
-          answers = went-turns cells h theme way b columns shifts asked (starts way (scoreOf cells h) theme) v e r ∙ sym (ap (λ (x : Leaf). x .answer) p);
-          writes-columns = v .in-columns ∙ sym (ap (λ (x : Leaf). x .columns) p);
-          writes-shifts = v .in-shifts ∙ sym (ap (λ (x : Leaf). x .shifts) p);
+          pages =
+              search-turns (rowsOfPlain cells h theme way b (lent columns shifts)) way (scoreOf cells h) theme (starts way (scoreOf cells h) theme) b columns shifts
+              (asked .room) (asked .same-room) (left-plain way (scoreOf cells h) theme b (rw (score-length cells h) (asked .marked))) l
+              (e ∙ sym (score-length cells h)) r;
         }
 
 -- ---- quick
 
 module _ (cells : List ℕ) (h : ℕ) (theme : List ℕ) (way : Way) (b : Bookmark) (sets table columns : List ℕ) (shifts : List ℤ) {table′ columns′ : List ℕ} {shifts′ : List ℤ} where
   pub quick-away : {e : Refusal} → QuickWalks cells h theme way b sets table columns shifts (Away e) table′ columns′ shifts′
-      → QuickPages cells h theme way b sets table columns shifts (Refused e) table′ columns′ shifts′
-  unfolding quickPage
-  quick-away {e} l =
-      let f = finds-refused _ _ _ _ _ _ _ _ (l .finds) in
-      let p : quickPage cells h theme way b sets table columns shifts ≡ quickRefused cells h theme way b sets table columns shifts e =
-      judge-away (quickRefused cells h theme way b sets table columns shifts) (quickLeaf cells h theme way b sets table columns shifts) (quickRows cells h theme way b sets table columns shifts) (f .0) in
+      → QuickPages cells h theme way b sets table (lent columns shifts) (Refused e) table′ (lent columns′ shifts′)
+  unfolding quickPage quickTable quickStarts
+  quick-away l =
       record {
-        answers = sym (ap (λ (x : QuickLeaf). x .leaf .answer) p);
-        fills-table = l .fills-table ∙ judge-away (λ r. table) _ (quickRows cells h theme way b sets table columns shifts) (f .0) ∙ sym (ap (λ (x : QuickLeaf). x .table) p);
-        writes-columns = f .1 ∙ sym (ap (λ (x : QuickLeaf). x .leaf .columns) p);
-        writes-shifts = f .2 ∙ sym (ap (λ (x : QuickLeaf). x .leaf .shifts) p);
+        pages = search-away (rowsOfQuick cells h theme way b sets table (lent columns shifts)) way (scoreOf cells h) theme (quickStarts wordBits way (scoreOf cells h) theme (themeTable wordBits theme) sets) b columns shifts (l .finds);
+        fills-table = l .fills-table;
       }
 
   module _ {w : Walked} (l : QuickWalks cells h theme way b sets table columns shifts (Done w) table′ columns′ shifts′) where
     asked-quick : QuickAsks cells h theme way b sets table columns shifts
     asked-quick = quick-clear cells h theme way b sets table columns shifts .1 (finds-clear _ _ _ _ _ _ _ _ (l .finds))
 
-    pub quick-room : (1 ≤ length columns′) × (length shifts′ ≡ length columns′) × (columnsIn cells h ≤ 65535)
-    quick-room = went-room cells h theme way b columns shifts (asked-quick .plain) (quickStarts way (scoreOf cells h) theme (themeTable theme) sets) (finds-went _ _ _ _ _ _ _ _ (l .finds))
+    pub quick-fits : {n : ℕ} → n ≡ columnsIn cells h → n < 65536
+    quick-fits e = omega (arith, e, asked-quick .plain .accepted .columns-few)
 
-    pub quick-turns : {n : ℕ} {t : Turn} → n ≡ columnsIn cells h → t ≡ readTurn way n (w .found) (w .looks) columns′ shifts′
-        → QuickPages cells h theme way b sets table columns shifts (Turned t) table′ columns′ shifts′
+    pub quick-turns : {n : ℕ} {page : Page} → n ≡ columnsIn cells h
+        → page ≡ Turned (readTurn (finishedBookmark (rangeOf way) (columnAt n)) (w .found) (w .looks) (lent columns′ shifts′))
+        → QuickPages cells h theme way b sets table (lent columns shifts) page table′ (lent columns′ shifts′)
+    unfolding quickPage quickTable quickStarts
     quick-turns e r =
-        let v = finds-went _ _ _ _ _ _ _ _ (l .finds) in
-        let p = quick-leaf cells h theme way b sets table columns shifts asked-quick in
+        let asks = asked-quick .plain in
         record {
-          answers = went-turns cells h theme way b columns shifts (asked-quick .plain) (quickStarts way (scoreOf cells h) theme (themeTable theme) sets) v e r ∙ sym (ap (λ (x : QuickLeaf). x .leaf .answer) p);
-          fills-table = l .fills-table ∙ table-filled cells h theme way b sets table columns shifts (finds-clear _ _ _ _ _ _ _ _ (l .finds)) ∙ sym (ap (λ (x : QuickLeaf). x .table) p);
-          writes-columns = v .in-columns ∙ sym (ap (λ (x : QuickLeaf). x .leaf .columns) p);
-          writes-shifts = v .in-shifts ∙ sym (ap (λ (x : QuickLeaf). x .leaf .shifts) p);
+          pages =
+              search-turns (rowsOfQuick cells h theme way b sets table (lent columns shifts)) way (scoreOf cells h) theme (quickStarts wordBits way (scoreOf cells h) theme (themeTable wordBits theme) sets) b columns shifts (asks .room) (asks .same-room)
+              (left-quick way (scoreOf cells h) theme b (rw (score-length cells h) (asks .marked)) wordBits (themeTable wordBits theme) sets) (l .finds) (e ∙ sym (score-length cells h)) r;
+          fills-table = l .fills-table;
         }

@@ -25,19 +25,19 @@ use Rattle.walking.specs.Starts.{Place, place, codes, hit, looks}
 use Rattle.walking.specs.Found.{columnsOf, shiftsOf}
 use Rattle.walking.specs.Walk.{columnStarts, Tries}
 use Rattle.walking.specs.Alive.{Followed}
-use Rattle.walking.proofs.alive.Laws.{small-low, small-high, small-length}
+use Rattle.walking.proofs.alive.Laws.{word-small, word-length}
 
-module _ (way : Way) (score : List (List ℕ)) (theme : List ℕ) (j low high spent : ℕ) (f : Followed way score theme j low high spent) where
+module _ (way : Way) (score : List (List ℕ)) (theme : List ℕ) (j word spent : ℕ) (f : Followed way score theme j word spent) where
   abbrev starts : List Place
   starts = columnStarts way score theme j 0
 
-  hits-are : hits (hit way score theme) starts ≡ map (place j) (codesOf way (note theme 1) low high)
+  hits-are : hits (hit way score theme) starts ≡ map (place j) (codesOf way (note theme 1) word)
   hits-are = hits-map (place j) (hit way score theme) (codes way (note theme 1) (column score (columnAt j)) 0) ∙ ap (map (place j)) (f .left)
 
-  hits-length : length (hits (hit way score theme) starts) ≡ ones low + ones high
-  hits-length = ap length hits-are ∙ length-map (codesOf way (note theme 1) low high) (place j) ∙ small-length way (note theme 1) low high (f .small)
+  hits-length : length (hits (hit way score theme) starts) ≡ ones word
+  hits-length = ap length hits-are ∙ length-map (codesOf way (note theme 1) word) (place j) ∙ word-length way (note theme 1) word (f .small)
 
-  module _ (room : ℕ) (q : ones low + ones high < room) where
+  module _ (room : ℕ) (q : ones word < room) where
     fewer : length (hits (hit way score theme) starts) < room
     fewer = omega (arith, hits-length)
 
@@ -45,7 +45,7 @@ module _ (way : Way) (score : List (List ℕ)) (theme : List ℕ) (j low high sp
     not-full = lt-leb room (length (pageHits (hit way score theme) room starts))
         (omega (arith, ap length (page-take (hit way score theme) room starts), length-take room (hits (hit way score theme) starts), fewer))
 
-    page-is : pageHits (hit way score theme) room starts ≡ map (place j) (codesOf way (note theme 1) low high)
+    page-is : pageHits (hit way score theme) room starts ≡ map (place j) (codesOf way (note theme 1) word)
     page-is = page-last (hit way score theme) room starts not-full ∙ hits-are
 
     looks-are : pageLooks (hit way score theme) (looks way score theme) room starts ≡ spent
@@ -56,15 +56,15 @@ module _ (way : Way) (score : List (List ℕ)) (theme : List ℕ) (j low high sp
         let c : sum (map (looks way score theme) starts) ≡ spent = ap sum (map-twice (place j) (looks way score theme) (codes way (note theme 1) (column score (columnAt j)) 0)) ∙ f .costs in
         omega (arith, a, b, c)
 
-  pub at-once : note theme 1 .0 ≤ 127 → (found : ℕ) (columns : List ℕ) (shifts : List ℤ) → length shifts ≡ length columns → found ≤ length columns → ones low + ones high < length columns - found
-      → (found′ : ℕ) (columns′ : List ℕ) (shifts′ : List ℤ) → Puts way j (fitting (wordCodes way (note theme 1) low high) found columns shifts) found columns shifts found′ columns′ shifts′
+  pub at-once : note theme 1 .0 ≤ 127 → (found : ℕ) (columns : List ℕ) (shifts : List ℤ) → length shifts ≡ length columns → found ≤ length columns → ones word < length columns - found
+      → (found′ : ℕ) (columns′ : List ℕ) (shifts′ : List ℤ) → Puts way j (fitting (wordCodes way (note theme 1) word) found columns shifts) found columns shifts found′ columns′ shifts′
       → Tries way score theme starts found columns shifts found′ spent columns′ shifts′
   at-once pitch found columns shifts same within q found′ columns′ shifts′ written =
       let page = page-is (length columns - found) q in
-      let p = puts-word way (note theme 1) low high (small-low way low high (f .small)) (small-high way low high (f .small)) pitch j found columns shifts (omega arith) (omega arith) found′ columns′ shifts′ written in
+      let p = puts-word way (note theme 1) word (word-small way word (f .small)) pitch j found columns shifts (omega arith) (omega arith) found′ columns′ shifts′ written in
       record {
-        count = p .count ∙ ap (λ (n : ℕ). found + n) (sym (ap length page ∙ length-map (codesOf way (note theme 1) low high) (place j)));
+        count = p .count ∙ ap (λ (n : ℕ). found + n) (sym (ap length page ∙ length-map (codesOf way (note theme 1) word) (place j)));
         costs = sym (looks-are (length columns - found) q);
-        in-columns = p .in-columns ∙ ap (sets columns found) (sym (ap columnsOf page ∙ map-twice (place j) (λ s. s .column) (codesOf way (note theme 1) low high)));
-        in-shifts = p .in-shifts ∙ ap (sets shifts found) (sym (ap (shiftsOf way) page ∙ map-twice (place j) (λ s. shiftOf way (s .code)) (codesOf way (note theme 1) low high)));
+        in-columns = p .in-columns ∙ ap (sets columns found) (sym (ap columnsOf page ∙ map-twice (place j) (λ s. s .column) (codesOf way (note theme 1) word)));
+        in-shifts = p .in-shifts ∙ ap (sets shifts found) (sym (ap (shiftsOf way) page ∙ map-twice (place j) (λ s. shiftOf way (s .code)) (codesOf way (note theme 1) word)));
       }

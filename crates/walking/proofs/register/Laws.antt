@@ -16,14 +16,15 @@ use Rattle.theory.specs.Register.{step, regFrom}
 use Rattle.theory.proofs.Lists.{count-length, over-more, over-length}
 use Rattle.theory.proofs.Pages.{hits-le, hits-append}
 use Rattle.theory.proofs.Register.{regFrom-register, regFrom-turn}
+use Rattle.filter.specs.Table.{wordBits}
 use Rattle.walking.specs.Candidates.{candidate}
 use Rattle.walking.specs.Scan.{entryWord, Runs, Filters, ListsCandidates}
 use Rattle.walking.proofs.walk.Along.{count-append}
 
 pub regFrom-candidate : (table sets : List ℕ) (m j₀ j : ℕ) → 2 ≤ m → m ≤ 32 → 1 ≤ j₀ → j₀ ≤ j
-    → eqb (bit (regFrom 32 (entryWord table sets) (j₀ - 1) (j + m - 2)) (m - 2)) 0 ≡ candidate table sets m j
+    → eqb (bit (regFrom 32 (entryWord table sets) (j₀ - 1) (j + m - 2)) (m - 2)) 0 ≡ candidate wordBits table sets m j
 unfolding candidate
-regFrom-candidate table sets m j₀ j low high first on =
+regFrom-candidate wordBits table sets m j₀ j low high first on =
     ap (λ (b : ℕ). eqb b 0) (regFrom-register 32 (entryWord table sets) (j₀ - 1) (m - 2) (j + m - 2) (omega arith) (omega arith))
 
 -- the register that is warmed up before column j decides that column next
@@ -44,8 +45,8 @@ hits-more keep j i =
     step false = append-nil (hits keep (count j i))
 
 pub record Listing (table sets : List ℕ) (m j : ℕ) (list₀ list : List ℕ) (word at i : ℕ) : Type 0 where
-  pub listed : list ≡ over list₀ (hits (candidate table sets m) (count j i))
-  pub counted : at ≡ length (hits (candidate table sets m) (count j i))
+  pub listed : list ≡ over list₀ (hits (candidate wordBits table sets m) (count j i))
+  pub counted : at ≡ length (hits (candidate wordBits table sets m) (count j i))
   pub filters : Filters table sets m word (j + i)
 
 module _ (table sets : List ℕ) (m j : ℕ) (list₀ : List ℕ) where
@@ -54,10 +55,10 @@ module _ (table sets : List ℕ) (m j : ℕ) (list₀ : List ℕ) where
 
   module _ (list : List ℕ) (word at i : ℕ) (t : Listing table sets m j list₀ list word at i) where
     pub list-at : at ≤ i
-    list-at = omega (arith, t .counted, hits-le (candidate table sets m) (count j i), count-length j i)
+    list-at = omega (arith, t .counted, hits-le (candidate wordBits table sets m) (count j i), count-length j i)
 
     pub list-long : i ≤ length list₀ → length list ≡ length list₀
-    list-long h = ap length (t .listed) ∙ over-length list₀ (hits (candidate table sets m) (count j i)) (omega (arith, list-at, t .counted))
+    list-long h = ap length (t .listed) ∙ over-length list₀ (hits (candidate wordBits table sets m) (count j i)) (omega (arith, list-at, t .counted))
 
     pub list-end : (many : ℕ) → i ≡ many → ListsCandidates table sets m j many list₀ word at list
     list-end many e = rw (← e) record { listed = t .listed; counted = t .counted; goes-on = t .filters }
@@ -69,13 +70,13 @@ module _ (table sets : List ℕ) (m j : ℕ) (list₀ : List ℕ) where
           let r = t .filters .runs in
           record { begun = omega (arith, r .begun); taken = regFrom-turn 32 (entryWord table sets) (t .filters .start) (j + i + m - 3) (r .begun) (r .taken) e }
 
-      is-candidate : candidate table sets m (j + i) ≡ marked
+      is-candidate : candidate wordBits table sets m (j + i) ≡ marked
       is-candidate =
           let s = t .filters .start in
           let z : s + 1 - 1 ≡ s = omega arith in
           let y : j + i + m - 3 + 1 ≡ j + i + m - 2 = omega arith in
-          let c : eqb (bit (regFrom 32 (entryWord table sets) s (j + i + m - 2)) (m - 2)) 0 ≡ candidate table sets m (j + i) =
-          rw z at (regFrom-candidate table sets m (s + 1) (j + i) notes most (omega arith) (omega (arith, t .filters .before))) in
+          let c : eqb (bit (regFrom 32 (entryWord table sets) s (j + i + m - 2)) (m - 2)) 0 ≡ candidate wordBits table sets m (j + i) =
+          rw z at (regFrom-candidate wordBits table sets m (s + 1) (j + i) notes most (omega arith) (omega (arith, t .filters .before))) in
           let w : word′ ≡ regFrom 32 (entryWord table sets) s (j + i + m - 2) = rw y at (taken .taken) in
           sym c ∙ rw (← w) (ap (λ (q : ℕ). eqb (bit word′ q) 0) (sym (mod-eq-of-lt (omega arith)))) ∙ sym d
 
@@ -87,16 +88,16 @@ module _ (table sets : List ℕ) (m j : ℕ) (list₀ : List ℕ) where
           record { start = t .filters .start; before = omega (arith, t .filters .before); runs = rw y at taken } in
           pick marked is-candidate a l f
         where
-          pick : (b : Bool) → candidate table sets m (j + i) ≡ b → at′ ≡ cond b (at + 1) at → list′ ≡ cond b (set list at (j + i)) list
+          pick : (b : Bool) → candidate wordBits table sets m (j + i) ≡ b → at′ ≡ cond b (at + 1) at → list′ ≡ cond b (set list at (j + i)) list
               → Filters table sets m word′ (j + (i + 1)) → Listing table sets m j list₀ list′ word′ at′ (i + 1)
           pick true k a l f =
-              let h : hits (candidate table sets m) (count j (i + 1)) ≡ hits (candidate table sets m) (count j i) ++ ((j + i) ∷ []) =
-              hits-more (candidate table sets m) j i ∙ rw k in
+              let h : hits (candidate wordBits table sets m) (count j (i + 1)) ≡ hits (candidate wordBits table sets m) (count j i) ++ ((j + i) ∷ []) =
+              hits-more (candidate wordBits table sets m) j i ∙ rw k in
               record {
-                listed = rw h (l ∙ rw (t .listed) (over-more list₀ (hits (candidate table sets m) (count j i)) 0 at (j + i) (sym (t .counted)) (omega (arith, list-at))));
-                counted = rw h (omega (arith, a, t .counted, length-append (hits (candidate table sets m) (count j i)) ((j + i) ∷ [])));
+                listed = rw h (l ∙ rw (t .listed) (over-more list₀ (hits (candidate wordBits table sets m) (count j i)) 0 at (j + i) (sym (t .counted)) (omega (arith, list-at))));
+                counted = rw h (omega (arith, a, t .counted, length-append (hits (candidate wordBits table sets m) (count j i)) ((j + i) ∷ [])));
                 filters = f;
               }
           pick false k a l f =
-              let h : hits (candidate table sets m) (count j (i + 1)) ≡ hits (candidate table sets m) (count j i) = hits-more (candidate table sets m) j i ∙ rw k in
+              let h : hits (candidate wordBits table sets m) (count j (i + 1)) ≡ hits (candidate wordBits table sets m) (count j i) = hits-more (candidate wordBits table sets m) j i ∙ rw k in
               record { listed = rw h (l ∙ t .listed); counted = rw h (a ∙ t .counted); filters = f }

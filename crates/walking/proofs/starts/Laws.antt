@@ -10,7 +10,7 @@ use native.Mathlib.Omega.{arith}
 use lib.Dec.{leb, eqb}
 use lib.ListN.{length, getD, take, drop, length-take, length-drop, drop-of-length-le}
 use lib.Seq.{drop-cons, getD-take, getD-drop}
-use borrow.Author.Tests.{le-leb, leb-true, eq-eqb, ne-eqb, eqb-true, eqb-false}
+use borrow.Author.Tests.{le-leb, leb-true}
 use Rattle.theory.specs.Lists.{some, lower, lowest}
 use Rattle.theory.proofs.Lowest.{lowest-first, first-agree}
 use Rattle.score.specs.declared.quantities.Pitch.{Pitch}
@@ -18,6 +18,7 @@ use Rattle.score.specs.Score.{pitch, pitches}
 use Rattle.asking.specs.declared.way.Way.{Way}
 use Rattle.asking.specs.declared.way.Way.the-variants.{Exact, Octave}
 use Rattle.asking.specs.Way.{span, holds}
+use Rattle.asking.proofs.Holding.{eqb-same, some-agree}
 use Rattle.walking.specs.Walk.{codeBetween, lowered, nextCode}
 
 -- ---- the cells of a column
@@ -74,49 +75,7 @@ class-true cell class e = step (leb cell 127) refl e
 pub class-false : (cell class : ℕ) → (leb cell 127 && eqb (cell % 12) class) ≡ false → cell ≤ 127 → eqb (cell % 12) class ≡ false
 class-false cell class e l = rw (le-leb cell 127 l) at e
 
--- ---- what holds says, by pitches sought and by codes
-
-eqb-same : (a b c d : ℕ) → (a ≡ b → c ≡ d) → (c ≡ d → a ≡ b) → eqb a b ≡ eqb c d
-eqb-same a b c d f g = step (eqb a b) refl
-  where
-    step : (t : Bool) → eqb a b ≡ t → t ≡ eqb c d
-    step true e = sym (eq-eqb c d (f (eqb-true a b e)))
-    step false e = sym (ne-eqb c d (λ q. eqb-false a b e (g q)))
-
--- tests that agree on all pitches, of which none is over 127
-some-agree : (f g : Pitch → Bool) (column : List ℕ) → ((t : Pitch) → t .0 ≤ 127 → f t ≡ g t) → some f (pitches column) ≡ some g (pitches column)
-some-agree f g [] h = refl
-some-agree f g (cell ∷ cells) h = step (leb cell 127) refl (some-agree f g cells h)
-  where
-    step : (t : Bool) → leb cell 127 ≡ t → some f (pitches cells) ≡ some g (pitches cells)
-        → some f (cond t (pitch cell ∷ pitches cells) (pitches cells)) ≡ some g (cond t (pitch cell ∷ pitches cells) (pitches cells))
-    step true e ih = rw (h (pitch cell) (leb-true cell 127 e), ih)
-    step false e ih = ih
-
-module _ (code : ℕ) (p : Pitch) (column : List ℕ) where
-  -- exact: the pitch sought is p + code - 127, if that is one
-  pub holds-exact : 127 ≤ p .0 + code → holds Exact code p column ≡ some (λ t. eqb (t .0) (p .0 + code - 127)) (pitches column)
-  unfolding holds
-  holds-exact h = some-agree _ _ column (λ t l. eqb-same (t .0 + 127) (p .0 + code) (t .0) (p .0 + code - 127) (λ e. omega arith) (λ e. omega arith))
-
-  none-passes : (f : Pitch → Bool) (cs : List ℕ) → ((t : Pitch) → t .0 ≤ 127 → f t ≡ false) → some f (pitches cs) ≡ false
-  none-passes f cs h = some-agree f (λ t. false) cs h ∙ nothing (pitches cs)
-    where
-      nothing : (ts : List Pitch) → some (λ t. false) ts ≡ false
-      nothing [] = refl
-      nothing (t ∷ ts) = nothing ts
-
-  pub holds-below : p .0 + code < 127 → false ≡ holds Exact code p column
-  unfolding holds
-  holds-below h = sym (none-passes (λ t. eqb (t .0 + 127) (p .0 + code)) column (λ t l. ne-eqb (t .0 + 127) (p .0 + code) (λ e. omega arith)))
-
-  pub holds-above : 254 < p .0 + code → false ≡ holds Exact code p column
-  unfolding holds
-  holds-above h = sym (none-passes (λ t. eqb (t .0 + 127) (p .0 + code)) column (λ t l. ne-eqb (t .0 + 127) (p .0 + code) (λ e. omega arith)))
-
-  pub holds-octave : holds Octave code p column ≡ some (λ t. eqb (t .0 % 12) ((p .0 + code) % 12)) (pitches column)
-  unfolding holds
-  holds-octave = refl
+-- ---- what holds says, by codes
 
 some-map : (f : Pitch → ℕ) (k : ℕ) (ts : List Pitch) → some (λ d. eqb d k) (map f ts) ≡ some (λ t. eqb (f t) k) ts
 some-map f k [] = refl

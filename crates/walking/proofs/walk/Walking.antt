@@ -22,6 +22,7 @@ use Rattle.score.proofs.Columns.{column-le, score-length}
 use Rattle.asking.specs.declared.way.Way.{Way}
 use Rattle.asking.specs.Way.{span}
 use Rattle.walking.specs.Starts.{Place, key, starts, hit, looks}
+use Rattle.filter.specs.Table.{wordBits}
 use Rattle.walking.specs.Candidates.{candidate, quickStarts}
 use Rattle.walking.specs.Scan.{ListsCandidates}
 use Rattle.walking.specs.Walk.{Ready, Fits, listStarts, ListsEvery, Tries, Along, Walks}
@@ -138,11 +139,11 @@ module _ (way : Way) (cells : List ℕ) (h : ℕ) (theme : List ℕ) (columns : 
   every-start = walk-start (λ k. true) way cells h theme _ columns shifts r j x first low same (sym (hits-all (from key (j * 256 + x) (starts way (scoreOf cells h) theme))))
 
   pub quick-start : (table sets : List ℕ)
-      → Walking (candidate table sets (length theme)) way cells h theme (from key (j * 256 + x) (quickStarts way (scoreOf cells h) theme table sets)) columns shifts columns shifts j x 0 0
+      → Walking (candidate wordBits table sets (length theme)) way cells h theme (from key (j * 256 + x) (quickStarts wordBits way (scoreOf cells h) theme table sets)) columns shifts columns shifts j x 0 0
   unfolding quickStarts
   quick-start table sets =
-      walk-start (candidate table sets (length theme)) way cells h theme _ columns shifts r j x first low same
-      (from-hits key (λ s. candidate table sets (length theme) (s .column)) 256 (j * 256 + x) (starts way (scoreOf cells h) theme) (starts-rising way (scoreOf cells h) theme))
+      walk-start (candidate wordBits table sets (length theme)) way cells h theme _ columns shifts r j x first low same
+      (from-hits key (λ s. candidate wordBits table sets (length theme) (s .column)) 256 (j * 256 + x) (starts way (scoreOf cells h) theme) (starts-rising way (scoreOf cells h) theme))
 
 -- ---- what is listed in front: the columns that are kept
 
@@ -157,11 +158,11 @@ module _ {j many : ℕ} {list₀ list : List ℕ} (t : ListsEvery j many list₀
   every-long h = ap length (t .listed) ∙ over-length list₀ (count j many) (omega (arith, count-length j many))
 
 module _ {table sets : List ℕ} {m j many : ℕ} {list₀ : List ℕ} {register k : ℕ} {list : List ℕ} (t : ListsCandidates table sets m j many list₀ register k list) where
-  pub candidates-front : take (k - 0) (drop 0 list) ≡ hits (candidate table sets m) (count j many)
-  candidates-front = listed-front list₀ (hits (candidate table sets m) (count j many)) list k (t .listed) (t .counted)
+  pub candidates-front : take (k - 0) (drop 0 list) ≡ hits (candidate wordBits table sets m) (count j many)
+  candidates-front = listed-front list₀ (hits (candidate wordBits table sets m) (count j many)) list k (t .listed) (t .counted)
 
   pub candidates-few : k ≤ many
-  candidates-few = omega (arith, t .counted, hits-le (candidate table sets m) (count j many), count-length j many)
+  candidates-few = omega (arith, t .counted, hits-le (candidate wordBits table sets m) (count j many), count-length j many)
 
   pub candidates-long : many ≤ length list₀ → length list ≡ length list₀
-  candidates-long h = ap length (t .listed) ∙ over-length list₀ (hits (candidate table sets m) (count j many)) (omega (arith, t .counted, candidates-few))
+  candidates-long h = ap length (t .listed) ∙ over-length list₀ (hits (candidate wordBits table sets m) (count j many)) (omega (arith, t .counted, candidates-few))

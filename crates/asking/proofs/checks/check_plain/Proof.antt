@@ -1,38 +1,29 @@
--- `asking::checks::check_plain` meets its contract: the rows in parts: the score's, the theme's, the page's. Assumes
+-- `asking::checks::check_plain` meets its contract: the rows of the score and the theme, and then the page's. Assumes
 -- nothing.
 use borrow.Author.Needs.{needs}
-use Rattle.asking.proofs.checks.Laws.{plain-score, plain-theme, plain-page}
+use Rattle.score.specs.Score.{columnsIn}
+use Rattle.asking.specs.Limits.{mostNotes}
+use Rattle.asking.specs.Way.{rangeOf}
+use Rattle.asking.specs.Refusals.{requestRows, pageRows}
+use Rattle.asking.proofs.checks.Laws.{turned-away, gone-on}
 use Rattle.asking.proofs.checks.check_plain.Statement.{statement}
 use Rattle.asking.proofs.checks.check_plain.Tie as tie
 
-check-score-requires : tie.Need-check-score-requires
-check-score-requires c κs = search needs
+check-request-requires : tie.Need-check-request-requires
+check-request-requires c κs = search needs
 
 enum-known-e : tie.Need-enum-known-e
 enum-known-e c = search needs
 
 returns : tie.Need-returns
 returns c =
-    let a = c .before .before .before .before .before .before .args in
-    plain-score (a .cells .now) (a .tracks) (a .theme .now) (a .way) (a .bookmark) (a .r) (a .other) (c .before .before .before .check-score .ensures) (c .before .e .given .1)
+    let k = c .before .before .before in
+    let a = k .before .before .before .args in
+    turned-away (requestRows mostNotes (a .cells .now) (a .tracks) (a .theme .now))
+    (pageRows (rangeOf (a .way)) (columnsIn (a .cells .now) (a .tracks)) (a .bookmark) (a .r) (a .other)) (k .check-request .ensures) (c .before .e .given .1)
 
 enum-told : tie.Need-enum-told
 enum-told c = search needs
-
-check-theme-requires : tie.Need-check-theme-requires
-check-theme-requires c κs = search needs
-
-enum-known-e-2 : tie.Need-enum-known-e-2
-enum-known-e-2 c = search needs
-
-returns-2 : tie.Need-returns-2
-returns-2 c =
-    let m = c .before .before .before in
-    let a = m .before .before .before .before .before .before .args in
-    plain-theme (a .cells .now) (a .tracks) (a .theme .now) (a .way) (a .bookmark) (a .r) (a .other) (m .before .before .before .check-score .ensures) (m .before .enum-told .given .1) (m .check-theme .ensures) (c .before .e2 .given .1)
-
-enum-told-2 : tie.Need-enum-told-2
-enum-told-2 c = search needs
 
 columns-in-requires : tie.Need-columns-in-requires
 columns-in-requires c κs = search needs
@@ -40,24 +31,22 @@ columns-in-requires c κs = search needs
 check-page-requires : tie.Need-check-page-requires
 check-page-requires c κs = search needs
 
-returns-3 : tie.Need-returns-3
-returns-3 c =
-    let m = c .before .before .before .before in
-    let a = m .before .before .before .before .before .before .args in
-    plain-page (a .cells .now) (a .tracks) (a .theme .now) (a .way) (a .bookmark) (a .r) (a .other) (m .before .before .before .check-score .ensures) (m .before .enum-told .given .1) (m .check-theme .ensures) (c .before .before .enum-told2 .given .1) (c .before .columns-in .ensures) (c .check-page .ensures)
+returns-2 : tie.Need-returns-2
+returns-2 c =
+    let k = c .before .before .before .before in
+    let a = k .before .before .before .args in
+    gone-on (requestRows mostNotes (a .cells .now) (a .tracks) (a .theme .now))
+    (pageRows (rangeOf (a .way)) (columnsIn (a .cells .now) (a .tracks)) (a .bookmark) (a .r) (a .other)) (k .check-request .ensures) (c .before .before .enum-told .given .1)
+    (rw (c .before .columns-in .ensures) at (c .check-page .ensures))
 
 pub check-plain-spec : {M : Type 1} → statement M
 check-plain-spec =
     tie.close
     (tie.spec
-    check-score-requires
+    check-request-requires
     enum-known-e
     returns
     enum-told
-    check-theme-requires
-    enum-known-e-2
-    returns-2
-    enum-told-2
     columns-in-requires
     check-page-requires
-    returns-3)
+    returns-2)

@@ -3,7 +3,7 @@ use borrow.Author.Needs.{needs}
 use mathlib.Core.Path.{subst, sym, ap, _∙_}
 use mir.Syntax.{w64}
 use mir.Facts.{toZ-ofZ}
-use Rattle.search.specs.declared.page.Page.{Page}
+use Rattle.paging.specs.declared.page.Page.{Page}
 use Rattle.finder_c.specs.Numbers.{pageNumber, pageNumbers}
 use Rattle.finder_c.specs.Small.{SmallPage}
 use Rattle.finder_c.proofs.told.told_page.Statement.{statement}

@@ -4,6 +4,7 @@ use borrow.Author.Needs.{needs}
 use mathlib.Core.Path.{_∙_}
 use Prim.Native.Nat.{_-_, _<_}
 use native.Mathlib.Omega.{arith}
+use Rattle.score.specs.Limits.{mostColumns}
 use Rattle.reading.proofs.Lining.{filled-few}
 use Rattle.reading.proofs.Scoring.{Scoring, scoring-start, scoring-end, scoring-many, scoring-less, scoring-fits, scoring-room, scoring-bad, scoring-more}
 use Rattle.reading.proofs.lines.chord_lines.Statement.{statement}
@@ -13,7 +14,7 @@ abbrev Inv-loop : tie.InvT-loop
 Inv-loop text from cells₀ at₀ tracks₀ columns₀ base₀ cells at tracks columns base = Scoring text from cells₀ cells at tracks columns base
 
 abbrev μ-loop : tie.MeasureT-loop
-μ-loop text from cells₀ at₀ tracks₀ columns₀ base₀ cells at tracks columns base = 2048 - columns
+μ-loop text from cells₀ at₀ tracks₀ columns₀ base₀ cells at tracks columns base = mostColumns - columns
 
 loop-holds : tie.Need-loop-holds Inv-loop μ-loop
 loop-holds c = scoring-start _ _ _ (c .before .before .pre .0) (c .before .before .pre .1)
@@ -33,7 +34,7 @@ enum-known-count : tie.Need-enum-known-count Inv-loop μ-loop
 enum-known-count c = search needs
 
 -- one chord more may come
-less : (c : tie.After-known-told Inv-loop μ-loop) → c .before .before .before .before .before .before .before .before .before .loop .columns < 2048
+less : (c : tie.After-known-told Inv-loop μ-loop) → c .before .before .before .before .before .before .before .before .before .loop .columns < mostColumns
 less c =
     let e = c .before .before .before .before .before .before .before in
     scoring-less _ _ _ (e .before .before .loop .inv) (e .before .loop-test .taken) (e .if1 .left)

@@ -1,8 +1,7 @@
 -- `search::page::plain_page` meets its contract: a walk that is turned away, or the answer that is read off the buffers of one
 -- that is done. Assumes nothing.
 use borrow.Author.Needs.{needs}
-use native.Mathlib.Omega.{arith}
-use Rattle.search.proofs.page.Calls.{plain-away, plain-room, plain-turns}
+use Rattle.search.proofs.page.Calls.{plain-away, plain-fits, plain-turns}
 use Rattle.search.proofs.page.plain_page.Statement.{statement}
 use Rattle.search.proofs.page.plain_page.Tie as tie
 
@@ -15,11 +14,12 @@ enum-known-w c = search needs
 columns-in-requires : tie.Need-columns-in-requires
 columns-in-requires c κs = search needs
 
-turned-requires : tie.Need-turned-requires
-turned-requires c κs =
-    let a = c .before .before .before .before .before .before .before .before .before .before .before .before .before .before .before .args in
-    let r = plain-room (a .cells .now) (a .tracks) (a .theme .now) (a .way) (a .bookmark) (a .columns .now) (a .shifts .now) (rw (c .before .before .before .before .w .given .1) at (c .before .before .before .before .before .before .before .before .before .walk-plain .ensures)) in
-    (r .0, r .1, omega (arith, c .before .before .columns-in .ensures, r .2))
+page-of-requires : tie.Need-page-of-requires
+page-of-requires c κs =
+    let found = c .before .before .before .before in
+    let a = found .before .before .before .before .before .before .before .before .before .before .before .args in
+    plain-fits (a .cells .now) (a .tracks) (a .theme .now) (a .way) (a .bookmark) (a .columns .now) (a .shifts .now)
+    (rw (found .w .given .1) at (found .before .before .before .before .before .walk-plain .ensures)) (c .before .before .columns-in .ensures)
 
 enum-known-e : tie.Need-enum-known-e
 enum-known-e c = search needs
@@ -31,7 +31,11 @@ same-length-2 : tie.Need-same-length-2
 same-length-2 c = search needs
 
 returns : tie.Need-returns
-returns c = plain-turns _ _ _ _ _ _ _ (rw (c .before .before .before .before .before .w .given .1) at (c .before .before .before .before .before .before .before .before .before .before .walk-plain .ensures)) (c .before .before .before .columns-in .ensures) (c .turned .ensures)
+returns c =
+    let counted = c .before .before .before in
+    let found = counted .before .before in
+    plain-turns _ _ _ _ _ _ _
+    (rw (found .w .given .1) at (found .before .before .before .before .before .walk-plain .ensures)) (counted .columns-in .ensures) (c .page-of .ensures)
 
 same-length-3 : tie.Need-same-length-3
 same-length-3 c = search needs
@@ -49,7 +53,7 @@ plain-page-spec =
     walk-plain-requires
     enum-known-w
     columns-in-requires
-    turned-requires
+    page-of-requires
     enum-known-e
     same-length
     same-length-2

@@ -1,8 +1,7 @@
 -- `search::page::quick_page` meets its contract: a walk that is turned away, or the answer that is read off the buffers of one
 -- that is done. Assumes nothing.
 use borrow.Author.Needs.{needs}
-use native.Mathlib.Omega.{arith}
-use Rattle.search.proofs.page.Calls.{quick-away, quick-room, quick-turns}
+use Rattle.search.proofs.page.Calls.{quick-away, quick-fits, quick-turns}
 use Rattle.search.proofs.page.quick_page.Statement.{statement}
 use Rattle.search.proofs.page.quick_page.Tie as tie
 
@@ -15,10 +14,11 @@ enum-known-w c = search needs
 columns-in-requires : tie.Need-columns-in-requires
 columns-in-requires c κs = search needs
 
-turned-requires : tie.Need-turned-requires
-turned-requires c κs =
-    let r = quick-room _ _ _ _ _ _ _ _ _ (rw (c .before .before .before .before .w .given .1) at (c .before .before .before .before .before .before .before .before .before .before .before .walk-quick .ensures)) in
-    (r .0, r .1, omega (arith, c .before .before .columns-in .ensures, r .2))
+page-of-requires : tie.Need-page-of-requires
+page-of-requires c κs =
+    let found = c .before .before .before .before in
+    quick-fits _ _ _ _ _ _ _ _ _
+    (rw (found .w .given .1) at (found .before .before .before .before .before .before .before .walk-quick .ensures)) (c .before .before .columns-in .ensures)
 
 enum-known-e : tie.Need-enum-known-e
 enum-known-e c = search needs
@@ -33,7 +33,11 @@ same-length-3 : tie.Need-same-length-3
 same-length-3 c = search needs
 
 returns : tie.Need-returns
-returns c = quick-turns _ _ _ _ _ _ _ _ _ (rw (c .before .before .before .before .before .w .given .1) at (c .before .before .before .before .before .before .before .before .before .before .before .before .walk-quick .ensures)) (c .before .before .before .columns-in .ensures) (c .turned .ensures)
+returns c =
+    let counted = c .before .before .before in
+    let found = counted .before .before in
+    quick-turns _ _ _ _ _ _ _ _ _
+    (rw (found .w .given .1) at (found .before .before .before .before .before .before .before .walk-quick .ensures)) (counted .columns-in .ensures) (c .page-of .ensures)
 
 same-length-4 : tie.Need-same-length-4
 same-length-4 c = search needs
@@ -54,7 +58,7 @@ quick-page-spec =
     walk-quick-requires
     enum-known-w
     columns-in-requires
-    turned-requires
+    page-of-requires
     enum-known-e
     same-length
     same-length-2

@@ -3,15 +3,17 @@
 use borrow.Author.Needs.{needs}
 use mathlib.Core.Path.{sym, _∙_}
 use native.Mathlib.Omega.{arith}
+use Rattle.paging.specs.Lent.{lent}
+use Rattle.paging.proofs.UnderWay.{turnsLeft}
 use Rattle.telling.proofs.Puts.{wrote-length}
 use Rattle.telling.proofs.Searching.{searchOf, Paging, paging-start}
-use Rattle.telling.proofs.Paged.{turnsLeft, turn-refused, turn-written, turn-room, turn-found, turn-looks, turn-less, turn-more, end-few, end-room, end-wrote}
+use Rattle.telling.proofs.Paged.{turn-refused, turn-written, turn-room, turn-found, turn-looks, turn-less, turn-more, end-few, end-room, end-wrote}
 use Rattle.telling.proofs.pages.pages.Statement.{statement}
 use Rattle.telling.proofs.pages.pages.Tie as tie
 
 abbrev Inv-loop : tie.InvT-loop
 Inv-loop cells tracks theme way sets table₀ columns₀ shifts₀ out₀ bookmark₀ at₀ found₀ looks₀ more₀ table columns shifts out bookmark at found looks more =
-    Paging cells tracks theme way sets out₀ table columns shifts out bookmark at found looks more
+    Paging cells tracks theme way sets out₀ table (lent columns shifts) out bookmark at found looks more
 
 abbrev μ-loop : tie.MeasureT-loop
 μ-loop cells tracks theme way sets table₀ columns₀ shifts₀ out₀ bookmark₀ at₀ found₀ looks₀ more₀ table columns shifts out bookmark at found looks more =
@@ -38,9 +40,9 @@ hit-lines-requires c κs =
     let l = q .before .before .before .before in
     let p = rw (l .loop-test .taken) at (l .before .loop .inv) in
     let e = c .before .before .before .before .t .given .1 in
-    let cl = (q .quick-page .kept .1 .1 .1 .1 .1 .1 .1 .0 ∙ p .room .columns-long) in
+    let cl = (q .quick-page .kept .1 .1 .1 .1 .1 .1 .1 .0 ∙ p .room .pairs-room .of-columns) in
     let w = turn-written _ _ _ _ _ _ p (q .quick-page .ensures) e in
-    ((omega arith, (q .quick-page .kept .1 .1 .1 .1 .1 .1 .1 .1 .0 ∙ p .room .shifts-long) ∙ sym cl), turn-room _ _ _ _ _ _ p (q .quick-page .ensures) e)
+    ((omega arith, (q .quick-page .kept .1 .1 .1 .1 .1 .1 .1 .1 .0 ∙ p .room .pairs-room .of-shifts) ∙ sym cl), turn-room _ _ _ _ _ _ p (q .quick-page .ensures) e)
 
 add-found : tie.Need-add-found Inv-loop μ-loop
 add-found c =
@@ -73,7 +75,7 @@ loop-again c =
     let l = q .before .before .before .before in
     let p = rw (l .loop-test .taken) at (l .before .loop .inv) in
     let e = c .before .before .before .before .before .before .before .before .before .before .before .t .given .1 in
-    turn-more _ _ _ _ _ _ p (q .quick-page .ensures) e (q .quick-page .kept .1 .1 .1 .1 .1 .1 .0 ∙ p .room .table-long) (q .quick-page .kept .1 .1 .1 .1 .1 .1 .1 .0 ∙ p .room .columns-long) (q .quick-page .kept .1 .1 .1 .1 .1 .1 .1 .1 .0 ∙ p .room .shifts-long) (c .before .before .before .before .before .before .hit-lines .ensures)
+    turn-more _ _ _ _ _ _ p (q .quick-page .ensures) e (q .quick-page .kept .1 .1 .1 .1 .1 .1 .0 ∙ p .room .table-long) (record { of-columns = q .quick-page .kept .1 .1 .1 .1 .1 .1 .1 .0 ∙ p .room .pairs-room .of-columns; of-shifts = q .quick-page .kept .1 .1 .1 .1 .1 .1 .1 .1 .0 ∙ p .room .pairs-room .of-shifts }) (c .before .before .before .before .before .before .hit-lines .ensures)
 
 enum-told : tie.Need-enum-told Inv-loop μ-loop
 enum-told c = search needs
@@ -109,10 +111,10 @@ same-length : tie.Need-same-length Inv-loop μ-loop
 same-length c = c .before .before .before .before .before .loop .inv .room .table-long ∙ sym (c .before .before .before .before .before .before .before .before .before .before .before .before .before .pre .room .table-long)
 
 same-length-2 : tie.Need-same-length-2 Inv-loop μ-loop
-same-length-2 c = c .before .before .before .before .before .loop .inv .room .columns-long ∙ sym (c .before .before .before .before .before .before .before .before .before .before .before .before .before .pre .room .columns-long)
+same-length-2 c = c .before .before .before .before .before .loop .inv .room .pairs-room .of-columns ∙ sym (c .before .before .before .before .before .before .before .before .before .before .before .before .before .pre .room .pairs-room .of-columns)
 
 same-length-3 : tie.Need-same-length-3 Inv-loop μ-loop
-same-length-3 c = c .before .before .before .before .before .loop .inv .room .shifts-long ∙ sym (c .before .before .before .before .before .before .before .before .before .before .before .before .before .pre .room .shifts-long)
+same-length-3 c = c .before .before .before .before .before .loop .inv .room .pairs-room .of-shifts ∙ sym (c .before .before .before .before .before .before .before .before .before .before .before .before .before .pre .room .pairs-room .of-shifts)
 
 same-length-4 : tie.Need-same-length-4 Inv-loop μ-loop
 same-length-4 c = wrote-length (c .before .before .end-line .ensures) ∙ wrote-length (c .before .before .before .before .before .loop .inv .wrote)

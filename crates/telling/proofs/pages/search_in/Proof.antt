@@ -5,6 +5,7 @@ use Prim.Native.Nat.{_-_, _≤_}
 use native.Mathlib.Omega.{arith}
 use lib.ListN.{length, take}
 use lib.Seq.{take-at, length-take-le}
+use Rattle.score.specs.Limits.{mostColumns}
 use Rattle.score.specs.Score.{columnsIn}
 use borrow.Author.Needs.{needs}
 use Rattle.telling.proofs.Searching.{prepared-own}
@@ -43,7 +44,7 @@ pages-requires c κs =
     let p = c .before .before .before .before .before .before .before .before in
     let k = p .before .before in
     let a = k .before .before .before .before .before .before .before in
-    let few : columnsIn (a .args .cells .now) (a .args .tracks) ≤ 2048 = a .pre .accepted .columns-few in
+    let few : columnsIn (a .args .cells .now) (a .args .tracks) ≤ mostColumns = a .pre .accepted .columns-few in
     let n = k .columns-in .result - 1 - 0 in
     let lent : length (take n (a .args .sets .now)) ≡ n = length-take-le n (a .args .sets .now) (omega (arith, k .columns-in .ensures, a .pre .sets-room)) in
     record {

@@ -7,16 +7,17 @@ use native.Mathlib.Omega.{arith}
 use lib.ListN.{length}
 use denote.Ref.{now}
 use Rattle.score.specs.Score.{columnsIn}
-use Rattle.hits.proofs.Fitting.{or-none-left, or-none-right}
+use Rattle.masks.specs.Masks.{value}
+use Rattle.masks.proofs.Halves.{Halves, halves-and, value-none, value-few-ones}
 use Rattle.walking.specs.Alive.{Cached}
 use Rattle.walking.proofs.starts.Trying.{cells-within}
-use Rattle.walking.proofs.alive.Laws.{Following, alive-few, follow-first, none-spare, follow-none, end-spare, follow-end, follow-turn}
+use Rattle.walking.proofs.alive.Laws.{Following, follow-first, none-spare, follow-none, end-spare, follow-end, follow-halves}
 use Rattle.walking.proofs.alive.follow.Statement.{statement}
 use Rattle.walking.proofs.alive.follow.Tie as tie
 
 abbrev Inv-loop : tie.InvT-loop
 Inv-loop cells h theme way ring₀ j first spare low₀ high₀ looks₀ k₀ ring low high looks k =
-    Following way cells h theme j low high looks k × Cached way cells h ring
+    Following way cells h theme j (value low high) looks k × Halves low high × Cached way cells h ring
 
 abbrev μ-loop : tie.MeasureT-loop
 μ-loop cells h theme way ring₀ j first spare low₀ high₀ looks₀ k₀ ring low high looks k = length theme - k
@@ -24,8 +25,8 @@ abbrev μ-loop : tie.MeasureT-loop
 cast-j : tie.Need-cast-j Inv-loop μ-loop
 cast-j c = search needs
 
-shared-slice-read-t17 : tie.Need-shared-slice-read-t17 Inv-loop μ-loop
-shared-slice-read-t17 c = search needs
+shared-slice-read-t19 : tie.Need-shared-slice-read-t19 Inv-loop μ-loop
+shared-slice-read-t19 c = search needs
 
 width-of-requires : tie.Need-width-of-requires Inv-loop μ-loop
 width-of-requires c κs = search needs
@@ -36,29 +37,32 @@ all-starts-requires c κs = search needs
 loop-holds : tie.Need-loop-holds Inv-loop μ-loop
 loop-holds c =
     let s = c .before .before .before .before .before .before .before in
-    let a = c .all-starts .ensures in
-    (rw (a .0, a .1) (follow-first _ _ _ _ _ (s .pre .0) (s .pre .1 .0)), s .pre .1 .1)
+    let a = c .all-starts .result in
+    let h : Halves (a .low) (a .high) = record { lower = omega arith; upper = omega arith } in
+    (rw (c .all-starts .ensures) (follow-first _ _ _ _ _ (s .pre .0) (s .pre .1 .0)), h, s .pre .1 .1)
 
 sub-looks : tie.Need-sub-looks Inv-loop μ-loop
 sub-looks c =
     let l = c .before .before .loop in
     let s = c .before .before .before .before .before .before .before .before .before .before in
-    omega (arith, none-spare _ _ _ _ _ (s .pre .0) (s .pre .1 .0) _ _ _ _ (l .inv .0) (or-none-left (l .low) (l .high) (c .if1 .taken)) (or-none-right (l .low) (l .high) (c .if1 .taken)), c .before .before .before .before .width-of .ensures)
+    omega (arith, none-spare _ _ _ _ _ (s .pre .0) (s .pre .1 .0) _ _ _ (l .inv .0) (value-none (l .low) (l .high) (l .inv .1) (c .if1 .taken)), c .before .before .before .before .width-of .ensures)
 
 same-length : tie.Need-same-length Inv-loop μ-loop
-same-length c = c .before .before .loop .inv .1 .long ∙ sym (c .before .before .before .before .before .before .before .before .before .before .pre .1 .1 .long)
+same-length c = c .before .before .loop .inv .2 .long ∙ sym (c .before .before .before .before .before .before .before .before .before .before .pre .1 .1 .long)
 
 returns : tie.Need-returns Inv-loop μ-loop
 returns c =
     let l = c .before .before .loop in
     let s = c .before .before .before .before .before .before .before .before .before .before in
-    (rw (c .before .before .before .before .width-of .ensures) (follow-none _ _ _ _ _ (s .pre .0) (s .pre .1 .0) _ _ _ _ (l .inv .0) (or-none-left (l .low) (l .high) (c .if1 .taken)) (or-none-right (l .low) (l .high) (c .if1 .taken))), l .inv .1)
+    (rw (c .before .before .before .before .width-of .ensures) (follow-none _ _ _ _ _ (s .pre .0) (s .pre .1 .0) _ _ _ (l .inv .0) (value-none (l .low) (l .high) (l .inv .1) (c .if1 .taken))), l .inv .2)
 
 add-looks : tie.Need-add-looks Inv-loop μ-loop
-add-looks c = omega (arith, alive-few _ _ _ _ _ _ _ _ _ (c .before .before .loop .inv .0))
+add-looks c = omega (arith, value-few-ones _ _ (c .before .before .loop .inv .1))
 
 add-looks-2 : tie.Need-add-looks-2 Inv-loop μ-loop
-add-looks-2 c = let i = c .before .before .loop .inv .0 in omega (arith, alive-few _ _ _ _ _ _ _ _ _ i, i .bounded, i .upTo, c .before .before .before .before .before .before .before .before .before .before .pre .0 .notes-most)
+add-looks-2 c =
+    let i = c .before .before .loop .inv in
+    omega (arith, value-few-ones _ _ (i .1), i .0 .bounded, i .0 .upTo, c .before .before .before .before .before .before .before .before .before .before .pre .0 .notes-most)
 
 add-held-at : tie.Need-add-held-at Inv-loop μ-loop
 add-held-at c = search needs
@@ -66,15 +70,15 @@ add-held-at c = search needs
 sub-held-at : tie.Need-sub-held-at Inv-loop μ-loop
 sub-held-at c = omega (arith, c .before .before .before .before .before .before .before .before .before .before .pre .1 .0 .from-first)
 
-shared-slice-read-t26 : tie.Need-shared-slice-read-t26 Inv-loop μ-loop
-shared-slice-read-t26 c = search needs
+shared-slice-read-t28 : tie.Need-shared-slice-read-t28 Inv-loop μ-loop
+shared-slice-read-t28 c = search needs
 
 held-at-requires : tie.Need-held-at-requires Inv-loop μ-loop
 held-at-requires c κs =
     let s = c .before .before .before .before .before .before .before .before .before .before .before .before in
     let l = c .before .before .before .before .loop in
     let q : s .args .column .0 + l .k - 1 < columnsIn (now (s .args .cells)) (s .args .h) = omega (arith, s .pre .1 .0 .from-first, s .pre .1 .0 .to-last, c .before .before .before .loop-test .taken) in
-    ((cells-within _ _ _ (s .pre .0) _ q, omega (arith, q, s .pre .0 .columns-most), s .pre .0 .sung 0, s .pre .0 .sung (l .k)), l .inv .1)
+    ((cells-within _ _ _ (s .pre .0) _ q, omega (arith, q, s .pre .0 .columns-most), s .pre .0 .sung 0), l .inv .2)
 
 add-k : tie.Need-add-k Inv-loop μ-loop
 add-k c = search needs
@@ -85,21 +89,27 @@ loop-less c = search needs
 loop-again : tie.Need-loop-again Inv-loop μ-loop
 loop-again c =
     let s = c .before .before .before .before .before .before .before .before .before .before .before .before .before .before .before .before .before in
-    let w = c .before .before .before .before .held-at .ensures in
-    (follow-turn _ _ _ _ _ (s .pre .0) (s .pre .1 .0) _ _ _ _ (c .before .before .before .before .before .before .before .before .before .loop .inv .0) (c .before .before .before .before .before .before .before .before .loop-test .taken) _ _ (w .0), w .1)
+    let l = c .before .before .before .before .before .before .before .before .before .loop in
+    let t = c .before .before .before .before .before .before .before .before .loop-test .taken in
+    let w = c .before .before .before .before .held-at in
+    let h : Halves (w .result .low) (w .result .high) = record { lower = omega arith; upper = omega arith } in (
+      follow-halves _ _ _ _ _ (s .pre .0) (s .pre .1 .0) _ _ _ _ (l .inv .1) (l .inv .0) t _ _ h (w .ensures .0),
+      halves-and _ _ _ _ (l .inv .1) h,
+      w .ensures .1,
+    )
 
 sub-looks-2 : tie.Need-sub-looks-2 Inv-loop μ-loop
 sub-looks-2 c =
     let s = c .before .before .before .before .before .before .before .before .before in
-    omega (arith, end-spare _ _ _ _ _ (s .pre .0) (s .pre .1 .0) _ _ _ _ (c .before .loop .inv .0) (c .loop-test .left), c .before .before .before .width-of .ensures)
+    omega (arith, end-spare _ _ _ _ _ (s .pre .0) (s .pre .1 .0) _ _ _ (c .before .loop .inv .0) (c .loop-test .left), c .before .before .before .width-of .ensures)
 
 same-length-2 : tie.Need-same-length-2 Inv-loop μ-loop
-same-length-2 c = c .before .loop .inv .1 .long ∙ sym (c .before .before .before .before .before .before .before .before .before .pre .1 .1 .long)
+same-length-2 c = c .before .loop .inv .2 .long ∙ sym (c .before .before .before .before .before .before .before .before .before .pre .1 .1 .long)
 
 returns-2 : tie.Need-returns-2 Inv-loop μ-loop
 returns-2 c =
     let s = c .before .before .before .before .before .before .before .before .before in
-    (rw (c .before .before .before .width-of .ensures) (follow-end _ _ _ _ _ (s .pre .0) (s .pre .1 .0) _ _ _ _ (c .before .loop .inv .0) (c .loop-test .left)), c .before .loop .inv .1)
+    (rw (c .before .before .before .width-of .ensures) (follow-end _ _ _ _ _ (s .pre .0) (s .pre .1 .0) _ _ _ (c .before .loop .inv .0) (c .loop-test .left)), c .before .loop .inv .2)
 
 pub follow-spec : {M : Type 1} → statement M
 follow-spec =
@@ -108,7 +118,7 @@ follow-spec =
     Inv-loop
     μ-loop
     cast-j
-    shared-slice-read-t17
+    shared-slice-read-t19
     width-of-requires
     all-starts-requires
     loop-holds
@@ -119,7 +129,7 @@ follow-spec =
     add-looks-2
     add-held-at
     sub-held-at
-    shared-slice-read-t26
+    shared-slice-read-t28
     held-at-requires
     add-k
     loop-less

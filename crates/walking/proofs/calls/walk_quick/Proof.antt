@@ -6,7 +6,7 @@ use native.Mathlib.Omega.{arith}
 use lib.ListN.{length}
 use Rattle.asking.specs.Asking.{QuickAsks}
 use Rattle.asking.proofs.Rows.{quick-clear}
-use Rattle.filter.specs.Table.{themeTable, tableAfter}
+use Rattle.filter.specs.Table.{wordBits, themeTable, tableAfter}
 use Rattle.filter.proofs.Words.{table-length, after-filled}
 use Rattle.walking.proofs.Answers.{finds-away, finds-done, quick-asks, table-kept, table-filled}
 use Rattle.walking.proofs.calls.walk_quick.Statement.{statement}
@@ -38,15 +38,15 @@ fill-table-requires : tie.Need-fill-table-requires
 fill-table-requires c κs = tt
 
 -- the table that is filled is the theme's
-filled : (c : tie.After-enum-told) → let a = c .before .before .before .before .before .before .before .before .args in tableAfter (a .theme .now) (a .table .now) ≡ themeTable (a .theme .now)
+filled : (c : tie.After-enum-told) → let a = c .before .before .before .before .before .before .before .before .args in tableAfter wordBits (a .theme .now) (a .table .now) ≡ themeTable wordBits (a .theme .now)
 filled c =
     let a = c .before .before .before .before .before .before .before .before .args in
-    after-filled (a .theme .now) (a .table .now) (λ z. omega (arith, asked c .plain .accepted .notes-some)) (asked c .table-long)
+    after-filled wordBits (a .theme .now) (a .table .now) (λ z. omega (arith, asked c .plain .accepted .notes-some)) (asked c .table-long)
 
 walk-candidates-requires : tie.Need-walk-candidates-requires
 walk-candidates-requires c κs =
     let q = asked (c .before .before .before .before .before .before .before) in
-    record { plain = q .plain; with-sets = q .with-sets; table-long = ap length (c .before .before .before .before .before .fill-table .ensures ∙ filled (c .before .before .before .before .before .before .before)) ∙ table-length _ }
+    record { plain = q .plain; with-sets = q .with-sets; table-long = ap length (c .before .before .before .before .before .fill-table .ensures ∙ filled (c .before .before .before .before .before .before .before)) ∙ table-length wordBits _ }
 
 same-length : tie.Need-same-length
 same-length c = search needs

@@ -2,7 +2,7 @@
 -- class. Assumes nothing.
 use borrow.Author.Needs.{needs}
 use mathlib.Core.Path.{sym, _∙_}
-use Rattle.walking.proofs.starts.Laws.{holds-below, holds-above, holds-exact, holds-octave}
+use Rattle.asking.proofs.Holding.{holds-below, holds-above, holds-exact, holds-octave}
 use Rattle.walking.proofs.starts.holds_at.Statement.{statement}
 use Rattle.walking.proofs.starts.holds_at.Tie as tie
 

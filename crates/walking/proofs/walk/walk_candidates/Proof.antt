@@ -14,12 +14,13 @@ use Rattle.score.specs.Score.{columnsIn, scoreOf}
 use Rattle.asking.specs.Way.{span, codeOf}
 use Rattle.asking.specs.Codes.{codeGiven}
 use Rattle.walking.specs.Starts.{key, starts}
+use Rattle.filter.specs.Table.{wordBits}
 use Rattle.walking.specs.Candidates.{candidate, quickStarts}
 use Rattle.walking.specs.Scan.{Filters}
 use Rattle.walking.specs.Walk.{Ready}
 use Rattle.walking.specs.Alive.{Cached}
 use Rattle.walking.proofs.Answers.{accepted-ready, asked-sets, asked-small, asked-lent, plain-code}
-use Rattle.walking.proofs.masks.Laws.{cached-none}
+use Rattle.walking.proofs.ring.Laws.{cached-none}
 use Rattle.walking.proofs.alive.Laws.{both-left}
 use Rattle.walking.proofs.register.Laws.{warmed-filters}
 use Rattle.walking.proofs.walk.Walking.{Walking, quick-start, walk-asks, walk-bound, walk-turn, walk-over, candidates-front, candidates-few, candidates-long}
@@ -28,7 +29,7 @@ use Rattle.walking.proofs.walk.walk_candidates.Tie as tie
 
 abbrev Inv-loop : tie.InvT-loop
 Inv-loop cells h theme way sets table columns₀ shifts₀ n m ring₀ list₀ j₀ code₀ found₀ looks₀ register₀ columns shifts ring list j code found looks register =
-    Walking (candidate table sets (length theme)) way cells h theme (from key (j₀ * 256 + code₀) (quickStarts way (scoreOf cells h) theme table sets))
+    Walking (candidate wordBits table sets (length theme)) way cells h theme (from key (j₀ * 256 + code₀) (quickStarts wordBits way (scoreOf cells h) theme table sets))
     columns₀ shifts₀ columns shifts j code found looks
     × Filters table sets (length theme) register j × Cached way cells h ring × (length list ≡ 64) × (j ≤ n + 1)
 

@@ -18,7 +18,7 @@ use Rattle.walking.specs.Starts.{key, starts}
 use Rattle.walking.specs.Walk.{Ready}
 use Rattle.walking.specs.Alive.{Cached}
 use Rattle.walking.proofs.Answers.{accepted-ready, plain-code}
-use Rattle.walking.proofs.masks.Laws.{cached-none}
+use Rattle.walking.proofs.ring.Laws.{cached-none}
 use Rattle.walking.proofs.alive.Laws.{both-left}
 use Rattle.walking.proofs.walk.Walking.{Walking, every-start, walk-asks, walk-bound, walk-turn, walk-over, every-front, every-long}
 use Rattle.walking.proofs.walk.walk_every.Statement.{statement}

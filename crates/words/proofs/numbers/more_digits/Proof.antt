@@ -24,6 +24,9 @@ cast-more c = omega (arith, digit-some (c .before .before .byte-at .result) (sym
 add-more : tie.Need-add-more
 add-more c = omega (arith, digit-some (c .before .before .byte-at .result) (sym (c .before .is-digit .ensures) ∙ c .if1 .taken))
 
+cast-if2 : tie.Need-cast-if2
+cast-if2 c = search needs
+
 cast-t12 : tie.Need-cast-t12
 cast-t12 c = search needs
 
@@ -49,6 +52,7 @@ more-digits-spec =
     sub-more
     cast-more
     add-more
+    cast-if2
     cast-t12
     add-t13
     returns

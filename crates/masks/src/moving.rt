@@ -1,0 +1,86 @@
+// A word moved by a note: in exact by its distance from the theme's first note, in octave round about by its class.
+
+use crate::columns::word_of;
+use crate::word::Word;
+use asking::Way;
+use score::Pitch;
+ghost use mathlib.Core.Path.{_≡_};
+ghost use Prim.Native.Nat.{_*_, _/_, _%_, _^_, _<_};
+ghost use Rattle.masks.specs.Masks.{value, columnWord, turnedWord, movedWord};
+
+// The word moved down by d places.
+fn down(w: Word, d: u8) -> Word
+    ensures { λ r. ⌜ value (r .low) (r .high) ≡ value (w .low) (w .high) / 2 ^ d ⌝ }
+{
+    let low = w.low;
+    let high = w.high;
+    if 64 <= d {
+        if 128 <= d {
+            return Word { low: 0, high: 0 };
+        }
+        return Word {
+            low: high >> (d - 64),
+            high: 0,
+        };
+    }
+    Word {
+        low: (low >> d) | ((high << 1) << (63 - d)),
+        high: high >> d,
+    }
+}
+
+// The word moved up by d places; what leaves the 128 bits is lost.
+fn up(w: Word, d: u8) -> Word
+    ensures { λ r. ⌜ value (r .low) (r .high) ≡ value (w .low) (w .high) * 2 ^ d % 2 ^ 128 ⌝ }
+{
+    let low = w.low;
+    let high = w.high;
+    if 64 <= d {
+        if 128 <= d {
+            return Word { low: 0, high: 0 };
+        }
+        return Word {
+            low: 0,
+            high: low << (d - 64),
+        };
+    }
+    Word {
+        low: low << d,
+        high: (high << d) | ((low >> 1) >> (63 - d)),
+    }
+}
+
+// Twelve bits turned down by d places, 0 to 11: what falls out below comes in above.
+fn turned(low: u64, d: u8) -> u64
+    requires { ⌜ d < 12 ⌝ }
+    ensures { λ r. ⌜ r ≡ turnedWord d low ⌝ }
+{
+    ((low >> d) | (low << (12 - d))) & 4095
+}
+
+// The word moved by the note p, for a theme that begins with `first`: of the word of a column, the starts at which it holds p.
+// What comes from outside the word is 0, notes above 127 move it as far as they say, and in octave twelve bits are given.
+pub fn moved(way: Way, w: Word, first: Pitch, p: Pitch) -> Word
+    ensures { λ r. ⌜ value (r .low) (r .high) ≡ movedWord way first p (value (w .low) (w .high)) ⌝ }
+{
+    match way {
+        Way::Exact => {
+            if first.0 <= p.0 {
+                return down(w, p.0 - first.0);
+            }
+            up(w, first.0 - p.0)
+        }
+        Way::Octave => Word {
+            low: turned(w.low, p.0 % 12),
+            high: 0,
+        },
+    }
+}
+
+// The starts at which a column holds p, for a theme that begins with `first`.
+pub fn held(way: Way, column: &[u8], first: Pitch, p: Pitch) -> Word
+    ensures { λ r. ⌜ value (r .low) (r .high) ≡ movedWord way first p (columnWord way (now (column .entry))) ⌝ }
+{
+    let w = word_of(way, column);
+    moved(way, w, first, p)
+}

@@ -1,0 +1,29 @@
+-- The answer of a page as it is read off the buffers. Assumes nothing.
+use mathlib.Core.Bool.{Bool, cond, _||_}
+use Prim.Native.Nat.{ℕ, _-_}
+use lib.Dec.{ltb, eqb}
+use lib.IntN.{pos}
+use lib.ListN.{length, getD}
+use Rattle.score.specs.Score.{columnAt}
+use Rattle.asking.specs.declared.bookmark.Bookmark.{Bookmark}
+use Rattle.asking.specs.Bookmarks.{afterPair}
+use Rattle.paging.specs.declared.page.Turn.{Turn}
+use Rattle.paging.specs.Lent.{Lent}
+
+-- the buffers have room left after so many pairs; those that no page can fill always have
+abbrev pub roomLeft : (found : ℕ) → Lent → Bool
+roomLeft found buffers =
+    ltb found (length (buffers .columns)) || eqb (length (buffers .columns)) 0 || ltb (length (buffers .shifts)) (length (buffers .columns))
+
+-- a full page goes on after the last pair in the buffers, and another is finished
+abbrev pub readTurn : (end : Bookmark) (found spent : ℕ) → Lent → Turn
+readTurn end found spent buffers =
+    let at = length (buffers .columns) - 1 in
+    record {
+      written = found;
+      next =
+          cond (roomLeft found buffers) end
+          (afterPair (record { column = columnAt (getD (buffers .columns) at 0); shift = getD (buffers .shifts) at (pos 0) }));
+      finished = roomLeft found buffers;
+      looks = spent;
+    }

@@ -1,3 +1,0 @@
--- Laws of the words of columns.
-pub mod Moving
-pub mod Laws

@@ -1,0 +1,2 @@
+-- Laws of the words that are kept.
+pub mod Laws

@@ -1,0 +1,63 @@
+// The words of columns, kept from column to column: a ring of places, each with the word of a column and the number of that
+// column.
+
+use asking::Way;
+use masks::Word;
+use masks::moved;
+use masks::word_of;
+use score::Pitch;
+ghost use mathlib.Core.Path.{_≡_};
+ghost use Prim.Native.Nat.{_+_, _*_, _≤_, _<_};
+ghost use lib.ListN.{length, take, drop};
+ghost use Rattle.masks.specs.Masks.{value, columnWord, heldWord};
+ghost use Rattle.walking.specs.Alive.{Cached};
+
+// How many columns have a place. The lower halves of their words stand at the ring's front, the upper halves behind them.
+const PLACES: usize = 32;
+
+// Where the numbers of the columns stand, counted from 1; 0 is none.
+const TAGS: usize = 64;
+
+// The ring's length.
+pub const RING: usize = 96;
+
+// The word of the column after k others: as the ring has it, or found now and kept there.
+fn word_at(cells: &[u8], h: usize, way: Way, k: usize, ring: &mut [u64]) -> Word
+    requires { ⌜ (k * h + h ≤ length (now cells)) × (k < 2048) ⌝ }
+    requires { ⌜ Cached way (now cells) h (now ring) ⌝ }
+    ensures { λ r. ⌜ (value (r .low) (r .high) ≡ columnWord way (take h (drop (k * h) (now (cells .entry))))) × Cached way (now (cells .entry)) h (now (ring .exit)) ⌝ }
+{
+    let s = k % PLACES;
+    let tag = k as u64 + 1;
+    if ring[TAGS + s] == tag {
+        return Word {
+            low: ring[s],
+            high: ring[PLACES + s],
+        };
+    }
+    let base = k * h;
+    let end = base + h;
+    let w = word_of(way, &cells[base..end]);
+    ring[s] = w.low;
+    ring[PLACES + s] = w.high;
+    ring[TAGS + s] = tag;
+    w
+}
+
+// The starts, for a theme that begins with `first`, at which the column after k others holds p.
+pub fn held_at(
+    cells: &[u8],
+    h: usize,
+    way: Way,
+    k: usize,
+    first: Pitch,
+    p: Pitch,
+    ring: &mut [u64],
+) -> Word
+    requires { ⌜ (k * h + h ≤ length (now cells)) × (k < 2048) × (first .0 ≤ 127) ⌝ }
+    requires { ⌜ Cached way (now cells) h (now ring) ⌝ }
+    ensures { λ r. ⌜ (value (r .low) (r .high) ≡ heldWord way first p (take h (drop (k * h) (now (cells .entry))))) × Cached way (now (cells .entry)) h (now (ring .exit)) ⌝ }
+{
+    let w = word_at(cells, h, way, k, ring);
+    moved(way, w, first, p)
+}
