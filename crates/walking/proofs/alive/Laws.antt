@@ -19,7 +19,8 @@ use Rattle.theory.specs.Pages.{hits}
 use Rattle.theory.specs.Bits.{bit}
 use Rattle.theory.specs.Marks.{marks}
 use Rattle.theory.proofs.Bits.{bit-high, bit-ones}
-use Rattle.theory.proofs.Marks.{marks-is, marks-both, marks-few, count-append}
+use Rattle.theory.proofs.Lists.{count-append}
+use Rattle.theory.proofs.Marks.{marks-is, marks-both, marks-few}
 use Rattle.theory.proofs.Counts.{count-none}
 use Rattle.theory.proofs.Pages.{hits-append}
 use Rattle.theory.proofs.Hits.{hits-part, hits-all}

@@ -51,38 +51,6 @@ module _ (way : Way) (cells : List ℕ) (h : ℕ) (theme : List ℕ) (j : ℕ) (
       let k : span way - code ≤ first (λ c. holds way c (note theme 1) (column (scoreOf cells h) (columnAt j))) (count code (span way - code)) = omega (arith, next-is) in
       rw (hits-none (λ c. holds way c (note theme 1) (column (scoreOf cells h) (columnAt j))) code (span way - code) k)
 
--- nothing is tried
-pub tries-none : (way : Way) (score : List (List ℕ)) (theme : List ℕ) (C : List Place) {kept : Bool} (found : ℕ) (columns : List ℕ) (shifts : List ℤ)
-    → kept ≡ false → Tries way score theme (cond kept C []) found columns shifts found 0 columns shifts
-tries-none way score theme C found columns shifts e = rw e nothing
-  where
-    none : (r : ℕ) → pageHits (hit way score theme) r [] ≡ []
-    none zero = refl
-    none (suc r) = refl
-
-    free : (r : ℕ) → 0 ≡ pageLooks (hit way score theme) (looks way score theme) r []
-    free zero = refl
-    free (suc r) = refl
-
-    nothing : Tries way score theme [] found columns shifts found 0 columns shifts
-    nothing =
-        let z = none (length columns - found) in
-        record { count = rw z (omega arith); costs = free (length columns - found); in-columns = rw z; in-shifts = rw z }
-
-pub tries-all : (way : Way) (score : List (List ℕ)) (theme : List ℕ) (C : List Place) {kept : Bool} (found : ℕ) (columns : List ℕ) (shifts : List ℤ)
-    (found′ spent : ℕ) (columns′ : List ℕ) (shifts′ : List ℤ) → kept ≡ true → Tries way score theme C found columns shifts found′ spent columns′ shifts′
-    → Tries way score theme (cond kept C []) found columns shifts found′ spent columns′ shifts′
-tries-all way score theme C found columns shifts found′ spent columns′ shifts′ e t = rw e t
-
--- the buffers stay as long as they were
-module _ {way : Way} {score : List (List ℕ)} {theme : List ℕ} {tried : List Place} {found : ℕ} {columns : List ℕ} {shifts : List ℤ}
-    {found′ spent : ℕ} {columns′ : List ℕ} {shifts′ : List ℤ} (t : Tries way score theme tried found columns shifts found′ spent columns′ shifts′) where
-  pub tries-long : length columns′ ≡ length columns
-  tries-long = simp length-sets at (ap length (t .in-columns))
-
-  pub tries-long-shifts : length shifts′ ≡ length shifts
-  tries-long-shifts = simp length-sets at (ap length (t .in-shifts))
-
 -- ---- a column under way: `out` is what it gave so far
 
 pub record Filling (way : Way) (cells : List ℕ) (h : ℕ) (theme : List ℕ) (j x found : ℕ) (columns₀ : List ℕ) (shifts₀ : List ℤ)

@@ -3,15 +3,16 @@
 use mathlib.Core.Path.{_≡_, refl, ap, _∙_}
 use mathlib.Core.Bool.{Bool, true, false, cond}
 use mathlib.Core.List.{List, [], _∷_, _++_, map, map-append, append-assoc, List·Memᴰ as In, List·Memᴰ·head, List·Memᴰ·tail}
-use Prim.Native.Nat.{ℕ, zero, suc, _+_, _-_, _*_, _≤_, _<_}
+use Prim.Native.Nat.{ℕ, zero, suc, _+_, _-_, _*_, _≤_, _<_, zero-le}
 use native.Mathlib.Nat.{le-trans, suc-mul, mul-le-mul-right}
 use native.Mathlib.Omega.{arith}
-use lib.Dec.{leb, ltb}
-use lib.ListN.{length, getD, drop, length-drop}
+use lib.Dec.{leb, ltb, eqb}
+use lib.ListN.{length, getD, drop, set, length-drop}
 use lib.Seq.{drop-cons}
-use borrow.Author.Tests.{le-leb, lt-leb, ltb-false}
-use Rattle.theory.specs.Lists.{count}
+use borrow.Author.Tests.{le-leb, lt-leb, ltb-false, ne-eqb, eq-eqb}
+use Rattle.theory.specs.Lists.{count, over}
 use Rattle.theory.specs.Pages.{hits, Rising, from}
+use Rattle.theory.proofs.Lists.{count-length, over-more, over-length, count-append}
 use Rattle.theory.proofs.Pages.{hits-append}
 use Rattle.theory.proofs.Bookmarks.{Below, none, one, below-up, from-past, from-all, rising-append}
 use Rattle.theory.proofs.Members.{in-count, in-hits, rising-count, rising-hits, rising-map, rising-add}
@@ -21,18 +22,22 @@ use Rattle.asking.specs.declared.way.Way.{Way}
 use Rattle.asking.specs.Way.{span, holds}
 use Rattle.score.specs.Score.{note}
 use Rattle.walking.specs.Starts.{Place, place, key, codes, startsIn, starts}
-use Rattle.walking.specs.Walk.{Fits, columnStarts}
+use Rattle.walking.specs.Walk.{Fits, columnStarts, listStarts}
 use Rattle.walking.proofs.Order.{span-lt, rising-startsIn}
 
 -- ---- lists
 
--- the numbers from a on, in two parts
-count-append : (a m n : ℕ) → count a (m + n) ≡ count a m ++ count (a + m) n
-count-append a zero n = let e : 0 + n ≡ n = omega arith in let g : a + 0 ≡ a = omega arith in rw (e, g)
-count-append a (suc m) n =
-    let e : suc m + n ≡ suc (m + n) = omega arith in
-    let g : a + suc m ≡ suc a + m = omega arith in
-    rw (e, g, count-append (suc a) m n)
+-- numbers written in front of a list, one more at a time
+pub record Counted (first : ℕ) (list₀ list : List ℕ) (i : ℕ) : Type 0 where
+  pub listed : list ≡ over list₀ (count first i)
+
+module _ (first : ℕ) (list₀ list : List ℕ) (i : ℕ) (t : Counted first list₀ list i) where
+  pub count-long : i ≤ length list₀ → length list ≡ length list₀
+  count-long h = ap length (t .listed) ∙ over-length list₀ (count first i) (omega (arith, count-length first i))
+
+  pub count-turn : i < length list₀ → Counted first list₀ (set list i (first + i)) (i + 1)
+  count-turn h =
+      record { listed = rw (t .listed, count-append first i 1) (over-more list₀ (count first i) 0 i (first + i) (count-length first i) h) }
 
 -- what is kept of what stands at or after a key, where keys rise
 pub from-hits : {A : Type 0} (key′ : A → ℕ) (keep : A → Bool) (a b : ℕ) (xs : List A) → Rising key′ a xs → from key′ b (hits keep xs) ≡ hits keep (from key′ b xs)
@@ -116,6 +121,10 @@ module _ (way : Way) (p : Pitch) (m : ℕ) where
           places-below i (i * 256 + x) (hits (λ code. holds way code p c) (count 0 x))
           (λ k q. let d = in-hits (λ code. holds way code p c) (count 0 x) q in omega (arith, in-count 0 x (d .0) .1))
 
+zero-both : (b : Bool) → _≡_ {A = ℕ} (cond b 0 0) 0
+zero-both true = refl
+zero-both false = refl
+
 module _ (way : Way) (score : List (List ℕ)) (theme : List ℕ) where
   at-column : (j x : ℕ) → 1 ≤ j → from key (j * 256 + x) (starts way score theme) ≡ from key (j * 256 + x) (startsIn way (note theme 1) (length theme) j (drop (j - 1) score))
   at-column j x h =
@@ -155,13 +164,44 @@ module _ (way : Way) (score : List (List ℕ)) (theme : List ℕ) where
   abbrev pub keptFrom : (keep : ℕ → Bool) (j x : ℕ) → List Place
   keptFrom keep j x = hits (λ s. keep (s .column)) (from key (j * 256 + x) (starts way score theme))
 
-  pub kept-more : (keep : ℕ → Bool) (j x : ℕ) → Fits (length score) (length theme) j → 1 ≤ length theme → x ≤ span way
+  -- a column's starts where it is kept, and then those from the next column on
+  kept-more : (keep : ℕ → Bool) (j x : ℕ) → Fits (length score) (length theme) j → 1 ≤ length theme → x ≤ span way
       → keptFrom keep j x ≡ cond (keep j) (columnStarts way score theme j x) [] ++ keptFrom keep (j + 1) 0
   kept-more keep j x f m h =
       let z : (j + 1) * 256 + 0 ≡ suc j * 256 = omega (arith, suc-mul j 256) in
       ap (hits (λ s. keep (s .column))) (along-more j x f m h)
       ∙ hits-append (λ s. keep (s .column)) (columnStarts way score theme j x) (from key (suc j * 256) (starts way score theme))
       ∙ rw (keep-column keep j (codes way (note theme 1) (column score (columnAt j)) x), z)
+
+  -- a list of columns behind column j begins each at its first code
+  list-behind : (keep : ℕ → Bool) (j x k d : ℕ) → j < k
+      → listStarts way score theme j x (hits keep (count k d)) ≡ listStarts way score theme (j + 1) 0 (hits keep (count k d))
+  list-behind keep j x k zero h = refl
+  list-behind keep j x k (suc d) h = step (keep k) (list-behind keep j x (suc k) d (omega arith))
+    where
+      step : (b : Bool) → listStarts way score theme j x (hits keep (count (suc k) d)) ≡ listStarts way score theme (j + 1) 0 (hits keep (count (suc k) d))
+          → listStarts way score theme j x (cond b (k ∷ hits keep (count (suc k) d)) (hits keep (count (suc k) d)))
+          ≡ listStarts way score theme (j + 1) 0 (cond b (k ∷ hits keep (count (suc k) d)) (hits keep (count (suc k) d)))
+      step true e = rw (ne-eqb j k (λ z. omega arith), zero-both (eqb (j + 1) k), e)
+      step false e = e
+
+  -- the starts kept in d columns from column j on, and then those behind
+  pub kept-list : (keep : ℕ → Bool) (d j x : ℕ) → 1 ≤ j → 1 ≤ length theme → x ≤ span way → j + d + length theme ≤ length score + 2
+      → keptFrom keep j x ≡ listStarts way score theme j x (hits keep (count j d)) ++ keptFrom keep (j + d) (cond (eqb d 0) x 0)
+  kept-list keep zero j x first m h q = let e : j + 0 ≡ j = omega arith in rw e
+  kept-list keep (suc d) j x first m h q =
+      let f : Fits (length score) (length theme) j = record { from-first = first; to-last = omega arith } in
+      let e : j + suc d ≡ j + 1 + d = omega arith in
+      let s : suc j ≡ j + 1 = omega arith in
+      let behind : keptFrom keep (j + 1) 0 ≡ listStarts way score theme j x (hits keep (count (suc j) d)) ++ keptFrom keep (j + 1 + d) 0 =
+      kept-list keep d (j + 1) 0 (omega arith) m zero-le (omega arith) ∙ rw (zero-both (eqb d 0), list-behind keep j x (suc j) d (omega arith), s) in
+      kept-more keep j x f m h ∙ rw (e, ne-eqb (suc d) 0 (λ z. omega arith)) (step (keep j) behind)
+    where
+      step : (b : Bool) → keptFrom keep (j + 1) 0 ≡ listStarts way score theme j x (hits keep (count (suc j) d)) ++ keptFrom keep (j + 1 + d) 0
+          → cond b (columnStarts way score theme j x) [] ++ keptFrom keep (j + 1) 0
+          ≡ listStarts way score theme j x (cond b (j ∷ hits keep (count (suc j) d)) (hits keep (count (suc j) d))) ++ keptFrom keep (j + 1 + d) 0
+      step true ih = rw (eq-eqb j j refl, append-assoc) (ap (λ (l : List Place). columnStarts way score theme j x ++ l) ih)
+      step false ih = ih
 
   pub kept-end : (keep : ℕ → Bool) (j x : ℕ) → 1 ≤ j → 1 ≤ length theme → length score + 1 < j + length theme → keptFrom keep j x ≡ []
   kept-end keep j x h m q = ap (hits (λ s. keep (s .column))) (along-end j x h m q)
