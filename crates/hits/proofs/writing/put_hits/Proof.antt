@@ -77,9 +77,11 @@ put-marked-requires-2 c κs =
     let s = a .args in
     let q = room (d .before) in
     let m : length (marks 64 (d .low-code .result) (s .word .low)) ≡ ones (s .word .low) = marks-ones 64 _ _ (halves a .lower) in
-    let w = p .put-marked in
-    (omega (arith, q .in-columns, w .ensures .count, m, w .kept .0), omega (arith, q .in-shifts, w .ensures .count, m, w .kept .1 .0),
-     omega (arith, d .low-code .ensures, low-code-le (s .way) (s .first)))
+    let w = p .put-marked in (
+      omega (arith, q .in-columns, w .ensures .count, m, w .kept .0),
+      omega (arith, q .in-shifts, w .ensures .count, m, w .kept .1 .0),
+      omega (arith, d .low-code .ensures, low-code-le (s .way) (s .first)),
+    )
 
 same-length : tie.Need-same-length
 same-length c = search needs
