@@ -92,7 +92,15 @@ pub fn try_all(
         let hits = u64::count_ones(word.low) + u64::count_ones(word.high);
         if (hits as usize) < columns.len() - spot.found {
             return Walked {
-                found: put_hits(columns, shifts, spot.found, word, Pitch(theme[0]), column, way),
+                found: put_hits(
+                    columns,
+                    shifts,
+                    spot.found,
+                    word,
+                    Pitch(theme[0]),
+                    column,
+                    way,
+                ),
                 looks: a.looks,
             };
         }

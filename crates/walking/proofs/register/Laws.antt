@@ -23,7 +23,7 @@ use Rattle.walking.specs.Scan.{entryWord, Runs, Filters, ListsCandidates
 pub regFrom-candidate : (table sets : List ℕ) (m j₀ j : ℕ) → 2 ≤ m → m ≤ 32 → 1 ≤ j₀ → j₀ ≤ j
     → eqb (bit (regFrom 32 (entryWord table sets) (j₀ - 1) (j + m - 2)) (m - 2)) 0 ≡ candidate wordBits table sets m j
 unfolding candidate
-regFrom-candidate wordBits table sets m j₀ j low high first on =
+regFrom-candidate table sets m j₀ j low high first on =
     ap (λ (b : ℕ). eqb b 0) (regFrom-register 32 (entryWord table sets) (j₀ - 1) (m - 2) (j + m - 2) (omega arith) (omega arith))
 
 -- the register that is warmed up before column j decides that column next
@@ -75,7 +75,7 @@ module _ (table sets : List ℕ) (m j : ℕ) (list₀ : List ℕ) where
           let z : s + 1 - 1 ≡ s = omega arith in
           let y : j + i + m - 3 + 1 ≡ j + i + m - 2 = omega arith in
           let c : eqb (bit (regFrom 32 (entryWord table sets) s (j + i + m - 2)) (m - 2)) 0 ≡ candidate wordBits table sets m (j + i) =
-          rw z at (regFrom-candidate wordBits table sets m (s + 1) (j + i) notes most (omega arith) (omega (arith, t .filters .before))) in
+          rw z at (regFrom-candidate table sets m (s + 1) (j + i) notes most (omega arith) (omega (arith, t .filters .before))) in
           let w : word′ ≡ regFrom 32 (entryWord table sets) s (j + i + m - 2) = rw y at (taken .taken) in
           sym c ∙ rw (← w) (ap (λ (q : ℕ). eqb (bit word′ q) 0) (sym (mod-eq-of-lt (omega arith)))) ∙ sym d
 

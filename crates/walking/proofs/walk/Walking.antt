@@ -29,7 +29,7 @@ use Rattle.walking.specs.Walk.{Ready, Fits, listStarts, ListsEvery, Trie
 use Rattle.walking.proofs.Order.{starts-rising}
 use Rattle.walking.proofs.LookBound.{most-lt, sum-looks-le}
 use Rattle.walking.proofs.walk.Along.{from-hits, hits-all, keptFrom, kept-list, kept-end}
-use Rattle.walking.proofs.walk.Taking.{Taking, take-start, take-few, take-part, take-over, tries-walks}
+use Rattle.walking.proofs.Taking.{Taking, take-start, take-few, take-part, take-over, tries-walks}
 
 -- the columns listed are among those counted
 hits-within : (keep : ℕ → Bool) (a n i : ℕ) → i < length (hits keep (count a n)) → (a ≤ getD (hits keep (count a n)) i 0) × (getD (hits keep (count a n)) i 0 < a + n)

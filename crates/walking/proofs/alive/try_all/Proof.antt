@@ -5,7 +5,7 @@ use borrow.Author.Tests.{eqb-true}
 use mathlib.Core.Path.{_≡_, sym, subst, _∙_}
 use mathlib.Core.Logic.{⊎-elim}
 use native.Mathlib.Omega.{arith}
-use Rattle.hits.proofs.Fitting.{ones-few}
+use Rattle.masks.proofs.Halves.{Halves, value-few-ones, value-ones}
 use Rattle.walking.specs.Alive.{Cached}
 use Rattle.walking.proofs.alive.Laws.{both-left}
 use Rattle.walking.proofs.alive.AtOnce.{at-once}
@@ -20,23 +20,27 @@ start c = c .before .before .before .before .before .before .before .before .bef
 cached : (c : tie.Joined1) → let s = c .before .before .before .before .before .before in Cached (s .args .way) (s .args .cells .now) (s .args .h) (c .if1 .ring)
 cached c =
     let s = c .before .before .before .before .before .before in
-    ⊎-elim (λ w. subst (Cached (s .args .way) (s .args .cells .now) (s .args .h)) (sym (w .10)) (w .3 .ensures .1))
+    ⊎-elim (λ w. subst (Cached (s .args .way) (s .args .cells .now) (s .args .h)) (sym (w .11)) (w .3 .ensures .1))
     (λ w. subst (Cached (s .args .way) (s .args .cells .now) (s .args .h)) (sym (w .1)) (s .pre .1 .1)) (c .if1 .came)
 
 follow-requires : tie.Need-follow-requires
 follow-requires c κs = let s = c .before .before .before .before .before .before .before .before in (s .pre .0, (s .pre .1 .0 .fits, s .pre .1 .1))
 
 add-hits : tie.Need-add-hits
-add-hits c = let a = c .before .before .before .before .follow .result in omega (arith, ones-few (a .low) (a .high) (omega arith) (omega arith))
+add-hits c =
+    let w = c .before .before .before .before .before .follow .result .word in
+    omega (arith, value-few-ones (w .low) (w .high) (record { lower = omega arith; upper = omega arith }))
 
 cast-if2 : tie.Need-cast-if2
-cast-if2 c = let a = c .before .before .before .before .follow .result in omega (arith, ones-few (a .low) (a .high) (omega arith) (omega arith))
+cast-if2 c =
+    let w = c .before .before .before .before .before .follow .result .word in
+    omega (arith, value-few-ones (w .low) (w .high) (record { lower = omega arith; upper = omega arith }))
 
 sub-if2 : tie.Need-sub-if2
 sub-if2 c = search needs
 
-shared-slice-read-t29 : tie.Need-shared-slice-read-t29
-shared-slice-read-t29 c = search needs
+shared-slice-read-t30 : tie.Need-shared-slice-read-t30
+shared-slice-read-t30 c = search needs
 
 put-hits-requires : tie.Need-put-hits-requires
 put-hits-requires c κs = tt
@@ -53,10 +57,14 @@ same-length-3 c = search needs
 returns : tie.Need-returns
 returns c =
     let e = c .before .before .before .before .before .before .before in
-    let f = e .before .before .before .before .before .before in
+    let f = e .before .before .before .before .before .before .before in
     let s = start f in
+    let w = f .follow .result .word in
     let z : s .args .spot .code ≡ 0 = eqb-true _ _ (both-left _ _ (f .before .before .before .if1 .taken)) in
-    (rw z (at-once _ _ _ _ _ _ _ (f .follow .ensures .0) (s .pre .0 .sung 0) _ _ _ (s .pre .1 .0 .same-room) (s .pre .1 .0 .room) (e .if2 .taken) _ _ _ (c .before .before .before .put-hits .ensures)), f .follow .ensures .1)
+    let h : Halves (w .low) (w .high) = record { lower = omega arith; upper = omega arith } in
+    let room = rw (value-ones _ _ h) at (e .if2 .taken) in
+    let put = c .before .before .before .put-hits .ensures in
+    (rw z (at-once _ _ _ _ _ _ (f .follow .ensures .0) (s .pre .0 .sung 0) _ _ _ (s .pre .1 .0 .same-room) (s .pre .1 .0 .room) room _ _ _ put), f .follow .ensures .1)
 
 try-column-requires : tie.Need-try-column-requires
 try-column-requires c κs = let s = c .before .before .before .before .before .before .before .before in (s .pre .0, s .pre .1 .0)
@@ -81,7 +89,7 @@ try-all-spec =
     add-hits
     cast-if2
     sub-if2
-    shared-slice-read-t29
+    shared-slice-read-t30
     put-hits-requires
     same-length
     same-length-2

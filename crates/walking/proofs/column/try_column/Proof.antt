@@ -49,10 +49,10 @@ next-code-requires c κs =
     (cells-within _ _ _ (s .pre .0) (s .args .spot .column .0 - 1) (omega arith), s .pre .0 .sung 0, c .before .loop .inv .low)
 
 same-length : tie.Need-same-length Inv-loop μ-loop
-same-length c = c .before .before .before .loop .inv .long
+same-length c = c .before .before .before .loop .inv .taking .long
 
 same-length-2 : tie.Need-same-length-2 Inv-loop μ-loop
-same-length-2 c = let l = c .before .before .before in l .loop .inv .long-shifts ∙ sym (start l .pre .1 .same-room)
+same-length-2 c = let l = c .before .before .before in l .loop .inv .taking .long-shifts ∙ sym (start l .pre .1 .same-room)
 
 returns : tie.Need-returns Inv-loop μ-loop
 returns c =
@@ -97,10 +97,10 @@ loop-again c =
     fill-turn _ _ _ _ _ _ _ _ _ _ _ _ _ _ (l .loop .inv) (s .pre .0) (s .pre .1 .fits) _ refl _ (e .before .next-code .ensures) q (e .before .before .loop-test .taken) _ _ (a .before .before .before .before .try-start .ensures) _ _ _ (a .keep .ensures)
 
 same-length-3 : tie.Need-same-length-3 Inv-loop μ-loop
-same-length-3 c = c .before .loop .inv .long
+same-length-3 c = c .before .loop .inv .taking .long
 
 same-length-4 : tie.Need-same-length-4 Inv-loop μ-loop
-same-length-4 c = c .before .loop .inv .long-shifts ∙ sym (start (c .before) .pre .1 .same-room)
+same-length-4 c = c .before .loop .inv .taking .long-shifts ∙ sym (start (c .before) .pre .1 .same-room)
 
 returns-2 : tie.Need-returns-2 Inv-loop μ-loop
 returns-2 c = fill-full _ _ _ _ _ _ _ _ _ _ _ _ _ _ (c .before .loop .inv) (c .loop-test .left)

@@ -1,6 +1,6 @@
 -- What the loops of a walk keep: of the page over the starts `whole`, written from the place `found` on, `out` was found so far and the
 -- starts `rest` are left. Laws: start; few (the looks of a part are among those of the whole); part (a part of the rest is tried); over.
--- Then the same along a list of columns. Assumes nothing.
+-- What is tried from the first place on is a walk. Assumes nothing.
 use mathlib.Core.Path.{_≡_, refl, sym, ap, _∙_}
 use mathlib.Core.Bool.{Bool, true, false, cond, _&&_}
 use mathlib.Core.List.{List, [], _∷_, _++_, map-append}
@@ -86,12 +86,15 @@ module _ (way : Way) (score : List (List ℕ)) (theme : List ℕ) (whole : List 
       pub take-end : rest ≡ [] → Tries way score theme whole found columns₀ shifts₀ at spent columns shifts
       take-end e = done (going-end _ _ _ _ (rw e at (t .going)))
 
+      pub take-full : length columns ≤ at → Tries way score theme whole found columns₀ shifts₀ at spent columns shifts
+      take-full h =
+          let z : length columns₀ - at ≡ 0 = omega (arith, t .long) in
+          done (going-full _ _ _ _ (rw z at (t .going)))
+
       pub take-over : (more : Bool) → (more ≡ false → rest ≡ []) → (more && ltb at (length columns)) ≡ false
           → Tries way score theme whole found columns₀ shifts₀ at spent columns shifts
       take-over false none stop = take-end (none refl)
-      take-over true none stop =
-          let z : length columns₀ - at ≡ 0 = omega (arith, t .long, ltb-false at (length columns) stop) in
-          done (going-full _ _ _ _ (rw z at (t .going)))
+      take-over true none stop = take-full (ltb-false at (length columns) stop)
 
 -- what is tried from the first place on is a walk
 pub tries-walks : (way : Way) (score : List (List ℕ)) (theme : List ℕ) (whole : List Place) (columns : List ℕ) (shifts : List ℤ) (found spent : ℕ) (columns′ : List ℕ) (shifts′ : List ℤ)
@@ -106,68 +109,3 @@ tries-walks way score theme whole columns shifts found spent columns′ shifts�
       in-columns = (rw z at (t .in-columns)) ∙ over-sets columns [] 0 (columnsOf tried) 0 refl (omega (arith, length-map tried (λ s. s .column), few));
       in-shifts = (rw z at (t .in-shifts)) ∙ over-sets shifts [] (pos 0) (shiftsOf way tried) 0 refl (omega (arith, same, length-map tried (λ s. shiftOf way (s .code)), few));
     }
-
--- ---- along a list of columns
-
-drop-none : {A : Type 0} (n : ℕ) (l : List A) → length l ≤ n → drop n l ≡ []
-drop-none n [] h = drop-nil n
-drop-none zero (x ∷ l) h = absurd (omega arith)
-drop-none (suc n) (x ∷ l) h = drop-none n l (omega arith)
-
--- of the starts of the listed columns those before column i are tried
-pub record Trying (way : Way) (score : List (List ℕ)) (theme : List ℕ) (spot : Spot) (list : List ℕ) (columns₀ : List ℕ) (shifts₀ : List ℤ)
-    (columns : List ℕ) (shifts : List ℤ) (at spent i : ℕ) : Type 0 where
-  pub taking : Taking way score theme (listStarts way score theme (spot .column .0) (spot .code) list) (spot .found) columns₀ shifts₀
-      columns shifts (listStarts way score theme (spot .column .0) (spot .code) (drop i list)) at spent
-
-pub along-start : (way : Way) (score : List (List ℕ)) (theme : List ℕ) (spot : Spot) (list : List ℕ) (columns : List ℕ) (shifts : List ℤ)
-    → spot .found ≤ length columns → length shifts ≡ length columns → Trying way score theme spot list columns shifts columns shifts (spot .found) 0 0
-along-start way score theme spot list columns shifts a b = record { taking = take-start _ _ _ _ _ _ _ a b }
-
-module _ (way : Way) (score : List (List ℕ)) (theme : List ℕ) (spot : Spot) (list : List ℕ) (columns₀ : List ℕ) (shifts₀ : List ℤ)
-    (columns : List ℕ) (shifts : List ℤ) (at spent i : ℕ) where
-  abbrev all : List Place
-  all = listStarts way score theme (spot .column .0) (spot .code) list
-
-  abbrev left : ℕ → List Place
-  left k = listStarts way score theme (spot .column .0) (spot .code) (drop k list)
-
-  module _ (r : Trying way score theme spot list columns₀ shifts₀ columns shifts at spent i) where
-    t : Taking way score theme all (spot .found) columns₀ shifts₀ columns shifts (left i) at spent
-    t = r .taking
-
-    -- what trying the column asks for
-    pub along-stands : (n m : ℕ) → Fits n m (getD list i 0) → spot .code ≤ span way → (next : Spot) → next ≡ atColumn spot (getD list i 0) at → Stands way n m next columns shifts
-    along-stands n m fits low next e =
-        rw e
-        record { fits = fits; low = below (eqb (spot .column .0) (getD list i 0)); room = omega (arith, t .room, t .long); same-room = t .long-shifts ∙ sym (t .long) }
-      where
-        below : (b : Bool) → cond b (spot .code) 0 ≤ span way
-        below true = low
-        below false = zero-le
-
-    -- no column is left, or no room
-    pub along-over : (ltb i (length list) && ltb at (length columns)) ≡ false → Tries way score theme all (spot .found) columns₀ shifts₀ at spent columns shifts
-    along-over = take-over _ _ _ _ _ _ _ _ _ _ _ _ t (ltb i (length list)) (λ e. ap (listStarts way score theme (spot .column .0) (spot .code)) (drop-none i list (ltb-false i (length list) e)))
-
-    module _ (q : i < length list) (next : Spot) (e : next ≡ atColumn spot (getD list i 0) at) where
-      -- the column's starts and those of the columns behind it
-      parts : left i ≡ columnStarts way score theme (next .column .0) (next .code) ++ left (i + 1)
-      parts = let z : suc i ≡ i + 1 = omega arith in rw (e, ← z) (ap (listStarts way score theme (spot .column .0) (spot .code)) (drop-cons list i 0 q))
-
-      ready : Taking way score theme all (spot .found) columns₀ shifts₀ columns shifts (columnStarts way score theme (next .column .0) (next .code) ++ left (i + 1)) at spent
-      ready = rw parts at t
-
-      module _ (at′ costs : ℕ) (columns′ : List ℕ) (shifts′ : List ℤ)
-          (tries : Tries way score theme (columnStarts way score theme (next .column .0) (next .code)) (next .found) columns shifts at′ costs columns′ shifts′) where
-        here : Tries way score theme (columnStarts way score theme (next .column .0) (next .code)) at columns shifts at′ costs columns′ shifts′
-        here = let z : next .found ≡ at = ap (λ (s : Spot). s .found) e in rw z at tries
-
-        pub along-bound : (most : ℕ) → pageLooks (hit way score theme) (looks way score theme) (length columns₀ - spot .found) all < most → spent + costs < most
-        along-bound most few = omega (arith, take-few _ _ _ _ _ _ _ _ _ _ _ (columnStarts way score theme (next .column .0) (next .code)) (left (i + 1)) ready, here .costs)
-
-        pub along-turn : Trying way score theme spot list columns₀ shifts₀ columns′ shifts′ at′ (spent + costs) (i + 1)
-        along-turn =
-            record {
-              taking = take-part _ _ _ _ _ _ _ _ _ _ _ (columnStarts way score theme (next .column .0) (next .code)) (left (i + 1)) ready at′ costs columns′ shifts′ here;
-            }
