@@ -6,6 +6,7 @@
 pub mod register;
 pub mod table;
 
+pub use register::WORD_BITS;
 pub use register::marks;
 pub use register::step;
 pub use table::fill_table;

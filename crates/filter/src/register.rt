@@ -5,10 +5,14 @@ ghost use Prim.Native.Nat.{_%_};
 ghost use lib.Dec.{eqb};
 ghost use Rattle.theory.specs.Bits.{bit};
 ghost use Rattle.theory.specs.Register as Register;
+ghost use Rattle.filter.specs.Table.{wordBits};
+
+// How many bits the register and the table's words have.
+pub const WORD_BITS: usize = 32;
 
 // One word more: the register is doubled with its top bit lost, then or-ed with the word.
 pub fn step(register: u32, word: u32) -> u32
-    ensures { λ r. ⌜ r ≡ Register.step 32 register word ⌝ }
+    ensures { λ r. ⌜ r ≡ Register.step wordBits register word ⌝ }
 {
     std::num::wrapping_add_u32(register, register) | word
 }
@@ -16,7 +20,7 @@ pub fn step(register: u32, word: u32) -> u32
 // Whether the register marks a candidate: its bit `top`, which is m - 2 for a theme of m notes, is zero. Its bits go round:
 // bit 32 is bit 0.
 pub fn marks(register: u32, top: u32) -> bool
-    ensures { λ r. ⌜ r ≡ eqb (bit register (top % 32)) 0 ⌝ }
+    ensures { λ r. ⌜ r ≡ eqb (bit register (top % wordBits)) 0 ⌝ }
 {
     (register >> (top & 31)) & 1 == 0
 }

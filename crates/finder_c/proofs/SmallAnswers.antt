@@ -24,7 +24,7 @@ use Rattle.asking.specs.declared.bookmark.Bookmark.{Bookmark}
 use Rattle.walking.specs.Starts.{Place, looks}
 use Rattle.asking.specs.Way.{rangeOf}
 use Rattle.asking.specs.Refusals.{row4, row5, row8, badNote, pageRows}
-use Rattle.filter.specs.Table.{themeTable}
+use Rattle.filter.specs.Table.{wordBits, themeTable}
 use Rattle.paging.specs.Lent.{Lent}
 use Rattle.paging.specs.Search.{Search, left}
 use Rattle.paging.specs.Page.{Leaf, leaf, away}
@@ -133,7 +133,7 @@ module _ (cells : List ℕ) (h : ℕ) (theme : List ℕ) (way : Way) (b : Bookma
   quick-small sets table =
       let page = pageRows (rangeOf way) (columnsIn cells h) b (length (buffers .columns)) (length (buffers .shifts)) in
       let rows = row6 cells h sets ∷ row7 sets ∷ row8 (length table) ∷ page in
-      let S = quickSearch way (scoreOf cells h) theme (themeTable theme) sets in
+      let S = quickSearch wordBits way (scoreOf cells h) theme (themeTable wordBits theme) sets in
       judge-small (λ (l : Leaf). SmallPage (l .answer)) (away buffers) (leaf S b buffers) (λ r s. s) (rowsOfQuick cells h theme way b sets table buffers)
       (score-small _ cells h (row4 mostNotes theme ∷ row5 theme ∷ rows)
       (λ e. theme-small _ theme rows (λ m. sets-small _ cells h sets (row8 (length table) ∷ page) e (λ t. nowhere, λ t. page-small S (looks-some way (scoreOf cells h) theme m)))))

@@ -21,7 +21,8 @@ use Rattle.listing.specs.Answer.{answer, output}
 use Rattle.words.proofs.Places.{bad-got}
 use Rattle.telling.proofs.Widths.{decimal-le}
 use Rattle.listing.proofs.RightLines.{chord-is, theme-is}
-use Rattle.listing.proofs.Texts.{note-text, some-text, chord-text, theme-text}
+use Rattle.listing.proofs.Rights.{note-text}
+use Rattle.listing.proofs.Texts.{some-text, chord-text, theme-text}
 
 -- ---- how long a line is
 

@@ -120,7 +120,7 @@ pub record Cells (rests : Bool) (text : List ℕ) (value : ℕ) (rest : List ℕ
   pub right : IsValue rests value
   pub is : text ≡ cellText value ++ rest
 
-note-text : (n : ℕ) → n ≤ highestPitch → cellText n ≡ decimal n
+pub note-text : (n : ℕ) → n ≤ highestPitch → cellText n ≡ decimal n
 note-text n h = rw (ne-eqb n restCell (λ e. omega arith))
 
 pub cell-right : (rests : Bool) (text : List ℕ) {value : ℕ} {rest : List ℕ} → cell rests text ≡ got value rest → Cells rests text value rest

@@ -21,7 +21,7 @@ use Rattle.reading.specs.Request.{Request, all, chords, right, withChords, mean
 use Rattle.listing.specs.Texts.{cellText, fieldsText, chordText, themeText, textOf, Each, IsNote, IsCell, IsChord, IsTheme, Right}
 use Rattle.words.proofs.Places.{digit-some, bad-got}
 use Rattle.telling.proofs.Decimals.{decimal-small, decimal-more}
-use Rattle.listing.proofs.Rights.{IsValue}
+use Rattle.listing.proofs.Rights.{IsValue, note-text}
 
 below-or : (n top : ℕ) → (n < top) ⊎ (top ≤ n)
 below-or n top = step (ltb n top) refl
@@ -99,9 +99,6 @@ number-front text {n} {rest} e = step (isDigit (front text)) refl e
         → cond t (cond (eqb (front text) 48) (got 0 (drop 1 text)) (next (moreDigits (front text - 48) (drop 1 text)) moreDigits)) bad ≡ got n rest → 48 ≤ front text
     step true p k = digit-some (front text) p .0
     step false p k = absurd (bad-got k)
-
-pub note-text : (n : ℕ) → n ≤ highestPitch → cellText n ≡ decimal n
-note-text n h = rw (ne-eqb n restCell (λ e. omega arith))
 
 cell-text : (rests : Bool) (value : ℕ) (rest : List ℕ) → isDigit (front rest) ≡ false → IsValue rests value → cell rests (cellText value ++ rest) ≡ got value rest
 unfolding cell

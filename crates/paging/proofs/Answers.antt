@@ -7,7 +7,7 @@ use mathlib.Core.List.{List}
 use Prim.Native.Nat.{ℕ}
 use Rattle.score.specs.declared.refusals.Refusal.{Refusal}
 use Rattle.score.specs.Refusals.{Row, distinct, GivenBy, placeBy}
-use Rattle.score.proofs.Judged.{Clear, judge-either, judge-clear, judge-given, judge-clear-of, judge-shown}
+use Rattle.score.proofs.Judged.{Clear, judge-clear, judge-clear-of, answer-refused, answer-kept}
 use Rattle.asking.specs.declared.bookmark.Bookmark.{Bookmark}
 use Rattle.paging.specs.declared.page.Turn.{Turn}
 use Rattle.paging.specs.declared.page.Page.{Page}
@@ -16,21 +16,14 @@ use Rattle.paging.specs.Lent.{Lent}
 use Rattle.paging.specs.Search.{Search}
 use Rattle.paging.specs.Page.{Leaf, leaf, away, paged, Pages}
 
--- ---- a page that was turned is no refusal, and a refusal tells itself
+-- ---- a page that was turned is no refusal
 
 abbrev isTurned : Page → Bool
 isTurned (Turned t) = true
 isTurned (Refused r) = false
 
-abbrev refusalOf : Refusal → Page → Refusal
-refusalOf d (Turned t) = d
-refusalOf d (Refused r) = r
-
 pub turned-refused : {t : Turn} {r : Refusal} → Turned t ≡ Refused r → ⊥
 turned-refused e = true≢false (ap isTurned e)
-
-pub refused-same : {r s : Refusal} → Refused r ≡ Refused s → r ≡ s
-refused-same {r} e = ap (refusalOf r) e
 
 -- ---- any call
 
@@ -48,17 +41,14 @@ module _ {Start : Type 0} (rows : List Row) (S : Search Start) (b : Bookmark) (b
   )
 
   pub paged-refused : distinct rows ≡ true → (k p : ℕ) → (answered ≡ Refused (record { number = k; place = p })) ↔ (GivenBy rows k × (p ≡ placeBy rows k))
-  paged-refused d k p = (
-    judge-shown (away buffers) (leaf S b buffers) (λ l s. l .answer ≡ Refused s) (λ r s e. refused-same e) (λ s e. turned-refused e)
-        rows d (record { number = k; place = p }),
-    λ g. ap (λ (l : Leaf). l .answer) (judge-given (away buffers) (leaf S b buffers) rows k (g .0))
-        ∙ ap (λ (q : ℕ). Refused (record { number = k; place = q })) (sym (g .1)),
-  )
+  paged-refused d k p =
+      answer-refused (λ (l : Leaf). l .answer) Refused (λ r s e. cc) (away buffers) (leaf S b buffers) (λ r. refl) (λ r e. turned-refused e) rows d k p
 
   -- a refused call writes nothing
   pub paged-kept : (r : Refusal) → answered ≡ Refused r → paged rows S b buffers .buffers ≡ buffers
-  paged-kept r =
-      judge-either (away buffers) (leaf S b buffers) (λ l. l .answer ≡ Refused r → l .buffers ≡ buffers) (λ s e. refl) (λ e. absurd (turned-refused e)) rows
+  paged-kept r e =
+      answer-kept (λ (l : Leaf). l .answer) Refused (λ r s e. cc) (away buffers) (leaf S b buffers) (λ r. refl) (λ r e. turned-refused e) rows (λ (l : Leaf). l .buffers ≡ buffers)
+      (λ r. refl) r e
 
 -- there is one answer, and one way to leave the buffers
 pub pages-unique : {page : Leaf} {a a′ : Page} {l l′ : Lent} → Pages page a l → Pages page a′ l′ → (a ≡ a′) × (l ≡ l′)

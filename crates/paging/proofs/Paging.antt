@@ -11,6 +11,7 @@ use lib.Dec.{leb}
 use lib.ListN.{length, length-map}
 use Rattle.theory.specs.Lists.{last}
 use Rattle.theory.specs.Pages.{hits, pageHits, pageLooks, rest, full, Rising, from}
+use Rattle.theory.proofs.Either.{either}
 use Rattle.theory.proofs.Pages.{page-full}
 use Rattle.theory.proofs.Bookmarks.{from-next}
 use Rattle.theory.proofs.Members.{in-hits, in-page, last-in}
@@ -149,11 +150,7 @@ module _ {Start : Type 0} (S : Search Start) (right : Right S) (r : ℕ) (room :
                 (sym e) (λ g. from-next (S .hit) (key S right) 0 (keyOf Exact b) r x (S .starts) (starts-rise S right) room g) g)
 
   pub next-range : (b : Bookmark) → inside S right (answer b .next)
-  next-range b = step (isFull b) refl
-    where
-      step : (t : Bool) → isFull b ≡ t → inside S right (answer b .next)
-      step true e = next-after b e
-      step false e = rw (full-is b, e) (finished-range (right .narrow) (S .columns) (right .few))
+  next-range b = either (isFull b) (next-after b) (λ e. rw (full-is b, e) (finished-range (right .narrow) (S .columns) (right .few)))
 
 -- ---- a call that turns the pages of a search, with room r
 

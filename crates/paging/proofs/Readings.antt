@@ -11,6 +11,7 @@ use lib.ListN.{length, length-map}
 use borrow.Author.Tests.{not-true, not-false}
 use Rattle.theory.specs.Lists.{sum, join}
 use Rattle.theory.specs.Pages.{hits, pageHits}
+use Rattle.theory.proofs.Either.{either}
 use Rattle.theory.proofs.Pages.{rest-less}
 use Rattle.theory.proofs.Lists.{join-map}
 use Rattle.theory.proofs.Readings.{Reading as Walk, last as walk-last, more as walk-more, reading-join, reading-count, reading-looks}
@@ -86,11 +87,12 @@ module _ {Start : Type 0} {S : Search Start} {r : ℕ} {call : Bookmark → Lent
     -- by the hits that are left
     read-fuel : (fuel k : ℕ) (b : Bookmark) → inside b → length (hits (S .hit) (left S b)) < fuel → Read supply call r k b
     read-fuel zero k b i h = absurd (not-suc-le-zero h)
-    read-fuel (suc fuel) k b i h = step (filled b) refl (read-fuel fuel (suc k) (told calls b .next) (next-range S (calls .right) r (calls .some-room) b))
+    read-fuel (suc fuel) k b i h =
+        either (filled b) (page-more (read-fuel fuel (suc k) (told calls b .next) (next-range S (calls .right) r (calls .some-room) b))) page-last
       where
-        step : (t : Bool) → filled b ≡ t
-            → (length (hits (S .hit) (left S (told calls b .next))) < fuel → Read supply call r (suc k) (told calls b .next)) → Read supply call r k b
-        step true f ih =
+        page-more : (length (hits (S .hit) (left S (told calls b .next))) < fuel → Read supply call r (suc k) (told calls b .next)) → filled b ≡ true
+            → Read supply call r k b
+        page-more ih f =
             let s =
             ih (rw (next-left S (calls .right) r (calls .some-room) b f i) (omega (arith, h, rest-less (S .hit) r (left S b) (calls .some-room) f))) in
             record {
@@ -99,7 +101,9 @@ module _ {Start : Type 0} {S : Search Start} {r : ℕ} {call : Bookmark → Lent
               reading = more (call-turns calls b i (supply k) (room k)) (finished-is S (calls .right) r (calls .some-room) b ∙ ap not f) (s .reading);
               supplied = (refl, s .supplied);
             }
-        step false f ih =
+
+        page-last : filled b ≡ false → Read supply call r k b
+        page-last f =
             record {
               pages = found S r b ∷ [];
               turns = told calls b ∷ [];

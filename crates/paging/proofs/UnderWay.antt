@@ -10,6 +10,7 @@ use native.Mathlib.Omega.{arith}
 use lib.ListN.{length, length-map, length-append, take-append-drop}
 use Rattle.theory.specs.Lists.{sum}
 use Rattle.theory.specs.Pages.{hits, pageHits, rest}
+use Rattle.theory.proofs.Either.{either}
 use Rattle.theory.proofs.Pages.{page-take, rest-drop, rest-nil, length-last, rest-less}
 use Rattle.theory.proofs.Looks.{looks-split}
 use Rattle.theory.proofs.Going.{page-le}
@@ -77,24 +78,23 @@ module _ {Start : Type 0} {S : Search Start} {r : ℕ} {call : Bookmark → Lent
 
   -- what is to come after it is what the page leaves
   rest-to-come : toCome S (told calls b .next) (not (told calls b .finished)) ≡ rest (S .hit) r (left S b)
-  rest-to-come = rw (finished-is S (calls .right) r (calls .some-room) b) (step filled refl)
-    where
-      step : (t : Bool) → filled ≡ t → cond (not (not t)) (left S (told calls b .next)) [] ≡ rest (S .hit) r (left S b)
-      step true e = next-left S (calls .right) r (calls .some-room) b e i
-      step false e = sym (rest-nil (S .hit) r (left S b) (length-last (S .hit) r (left S b) e))
+  rest-to-come =
+      rw (finished-is S (calls .right) r (calls .some-room) b)
+      (either filled (λ e. rw e (next-left S (calls .right) r (calls .some-room) b e i))
+      (λ e. rw e (sym (rest-nil (S .hit) r (left S b) (length-last (S .hit) r (left S b) e)))))
 
   -- fewer turns are left
   turns-less : turnsLeft S (told calls b .next) (not (told calls b .finished)) < turnsLeft S b true
-  turns-less = rw (finished-is S (calls .right) r (calls .some-room) b) (step filled refl)
-    where
-      step : (t : Bool) → filled ≡ t → cond (not (not t)) (suc (length (hits (S .hit) (left S (told calls b .next))))) 0 < suc (length (hits (S .hit) (left S b)))
-      step true e =
-          omega (
-            arith,
-            ap (λ (l : List Start). length (hits (S .hit) l)) (next-left S (calls .right) r (calls .some-room) b e i),
-            rest-less (S .hit) r (left S b) (calls .some-room) e,
-          )
-      step false e = omega arith
+  turns-less =
+      rw (finished-is S (calls .right) r (calls .some-room) b)
+      (either filled
+      (λ e. rw e
+      (omega (
+        arith,
+        ap (λ (l : List Start). length (hits (S .hit) l)) (next-left S (calls .right) r (calls .some-room) b e i),
+        rest-less (S .hit) r (left S b) (calls .some-room) e,
+      )))
+      (λ e. rw e (omega arith)))
 
   -- the hits of a page, and of what is left
   page-rest : map (S .shown) (hits (S .hit) (left S b)) ≡ found S r b ++ map (S .shown) (hits (S .hit) (rest (S .hit) r (left S b)))

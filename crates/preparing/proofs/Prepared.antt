@@ -18,22 +18,15 @@ use Rattle.score.specs.Sets.{Apart, sets}
 use Rattle.score.specs.Refusals.{GivenBy, placeBy}
 use Rattle.preparing.specs.Preparing.{Filled, prepareRows, prepared}
 use Rattle.score.proofs.IntervalSets.{sets-at, set-bit}
-use Rattle.score.proofs.Judged.{Clear, judge-either, judge-clear, judge-given, judge-clear-of, judge-shown}
+use Rattle.score.proofs.Judged.{Clear, judge-either, judge-clear, judge-clear-of, answer-refused}
 
--- an accepted answer is no refusal, and a refusal tells itself
+-- an accepted answer is no refusal
 abbrev isPrepared : Preparation → Bool
 isPrepared Prepared = true
 isPrepared (Refused r) = false
 
-abbrev refusalOf : Refusal → Preparation → Refusal
-refusalOf d Prepared = d
-refusalOf d (Refused r) = r
-
 prepared-refused : {r : Refusal} → Prepared ≡ Refused r → ⊥
 prepared-refused e = true≢false (ap isPrepared e)
-
-refused-same : {r s : Refusal} → Refused r ≡ Refused s → r ≡ s
-refused-same {r} e = ap (refusalOf r) e
 
 module _ (cells : List ℕ) (h : ℕ) (lent : List ℕ) where
   abbrev refuse : Refusal → Filled
@@ -50,12 +43,8 @@ module _ (cells : List ℕ) (h : ℕ) (lent : List ℕ) where
 
   pub prepare-refused : (k p : ℕ) → (prepared cells h lent .answer ≡ Refused (record { number = k; place = p }))
       ↔ (GivenBy (prepareRows cells h lent) k × (p ≡ placeBy (prepareRows cells h lent) k))
-  prepare-refused k p = (
-    judge-shown refuse full (λ (x : Filled) s. x .answer ≡ Refused s) (λ r s e. refused-same e) (λ s e. prepared-refused e) (prepareRows cells h lent) refl
-        (record { number = k; place = p }),
-    λ g. ap (λ (x : Filled). x .answer) (judge-given refuse full (prepareRows cells h lent) k (g .0))
-        ∙ ap (λ (q : ℕ). Refused (record { number = k; place = q })) (sym (g .1)),
-  )
+  prepare-refused k p =
+      answer-refused (λ (x : Filled). x .answer) Refused (λ r s e. cc) refuse full (λ r. refl) (λ r e. prepared-refused e) (prepareRows cells h lent) refl k p
 
   -- a refused call writes nothing, an accepted one fills every set
   pub prepare-kept : (r : Refusal) → prepared cells h lent .answer ≡ Refused r → prepared cells h lent .sets ≡ lent

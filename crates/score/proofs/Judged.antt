@@ -2,13 +2,16 @@
 -- applies gives, exactly. Where no number stands at two rows, whatever their order, a number tells its row. Assumes nothing.
 use mathlib.Core.Path.{_≡_, refl, sym, ap, _∙_}
 use mathlib.Core.Bool.{Bool, true, false, cond, true≢false}
+use mathlib.Core.Logic.{_↔_}
 use mathlib.Core.List.{List, [], _∷_, _++_}
 use Prim.Native.Nat.{ℕ}
+use native.Mathlib.Omega.{arith}
 use lib.Dec.{eqb}
 use borrow.Author.Tests.{eq-eqb, ne-eqb, eqb-true}
 use Rattle.theory.specs.Lists.{some}
 use Rattle.score.specs.declared.refusals.Refusal.{Refusal}
-use Rattle.score.specs.Refusals.{Row, judge, distinct, GivenBy, placeBy}
+use Rattle.score.specs.declared.refusals.Verdict.the-variants.{Accepted, Refused as Away}
+use Rattle.score.specs.Refusals.{Row, judge, verdict, distinct, GivenBy, placeBy}
 
 -- no row applies
 abbrev pub Clear : List Row → Type 0
@@ -120,3 +123,35 @@ module _ {A B : Type 0} (R : A → B → Type 0) (f : Refusal → A) (g : Refusa
       step : (t : Bool) → R (judge rows f a) (judge rows g b) → R (cond t (f (row .given)) (judge rows f a)) (cond t (g (row .given)) (judge rows g b))
       step true ih = p (row .given)
       step false ih = ih
+
+-- ---- a call whose answer is read off what comes of its rows
+
+-- `away` is how an answer tells a refusal: each refusal in its own way, and what is accepted is none
+module _ {A X : Type 0} (answer : A → X) (away : Refusal → X) (same : (r s : Refusal) → away r ≡ away s → r ≡ s) (refused : Refusal → A) (accepted : A)
+    (gives : (r : Refusal) → answer (refused r) ≡ away r) (never : (r : Refusal) → answer accepted ≡ away r → ⊥) (rows : List Row) where
+  -- it gives exactly the first row's refusal, by its number and its place
+  pub answer-refused : distinct rows ≡ true → (k p : ℕ)
+      → (answer (judge rows refused accepted) ≡ away (record { number = k; place = p })) ↔ (GivenBy rows k × (p ≡ placeBy rows k))
+  answer-refused d k p = (
+    judge-shown refused accepted (λ a s. answer a ≡ away s) (λ r s e. same r s (sym (gives r) ∙ e)) never rows d (record { number = k; place = p }),
+    λ g. ap answer (judge-given refused accepted rows k (g .0)) ∙ gives _ ∙ ap (λ (q : ℕ). away (record { number = k; place = q })) (sym (g .1)),
+  )
+
+  -- it gives none exactly where no row applies
+  pub answer-accepted : ((r : Refusal) → answer (judge rows refused accepted) ≡ away r → ⊥) ↔ Clear rows
+  answer-accepted = (
+    λ f. judge-clear-of refused accepted (λ a. (r : Refusal) → answer a ≡ away r → ⊥) (λ r g. g r (gives r)) rows f,
+    λ c r e. never r (sym (ap answer (judge-clear refused accepted rows c)) ∙ e),
+  )
+
+  -- what holds of every refusal holds where the answer is one
+  pub answer-kept : (Kept : A → Type 0) → ((r : Refusal) → Kept (refused r)) → (r : Refusal) → answer (judge rows refused accepted) ≡ away r
+      → Kept (judge rows refused accepted)
+  answer-kept Kept k r = judge-either refused accepted (λ a. answer a ≡ away r → Kept a) (λ s e. k s) (λ e. absurd (never r e)) rows
+
+-- a verdict that accepts: no row applies
+pub verdict-clear : (rows : List Row) → verdict rows ≡ Accepted → Clear rows
+verdict-clear rows e = judge-clear-of Away Accepted (λ v. v ≡ Accepted) (λ r k. other r k) rows e
+  where
+    other : (r : Refusal) → Away r ≡ Accepted → ⊥
+    other r k = let z : _≡_ {A = ℕ} 0 1 = cc in omega arith

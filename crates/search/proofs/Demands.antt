@@ -32,7 +32,7 @@ use Rattle.asking.specs.declared.bookmark.Bookmark.{Bookmark}
 use Rattle.asking.specs.Way.{rangeOf}
 use Rattle.asking.specs.Bookmarks.{firstBookmark}
 use Rattle.asking.specs.Asking.{Accepted, AcceptedSets, InRange, PlainAsks}
-use Rattle.filter.specs.Table.{themeTable}
+use Rattle.filter.specs.Table.{wordBits, themeTable}
 use Rattle.paging.specs.Lent.{Lent, Room}
 use Rattle.paging.specs.Search.{allLooks, spent}
 use Rattle.paging.specs.OnePage.{PageOf}
@@ -65,19 +65,19 @@ module _ (cells : List ℕ) (h : ℕ) (theme : List ℕ) (way : Way) where
   all-looks-none l = sum-looks-none way (scoreOf cells h) theme h (column-le (columnsIn cells h) h cells) (omega (arith, score-length cells h))
 
   -- by any table and any sets
-  pub quick-looks-less : (table lent : List ℕ) → allLooks (quickSearch way (scoreOf cells h) theme table lent) ≤ plainLooks way (scoreOf cells h) theme
-  quick-looks-less table lent = only-looks (λ s. candidate table lent (length theme) (s .column)) (plainSearch way (scoreOf cells h) theme)
+  pub quick-looks-less : (w : ℕ) (table lent : List ℕ) → allLooks (quickSearch w way (scoreOf cells h) theme table lent) ≤ plainLooks way (scoreOf cells h) theme
+  quick-looks-less w table lent = only-looks (λ s. candidate w table lent (length theme) (s .column)) (plainSearch way (scoreOf cells h) theme)
 
   pub candidate-looks-le : (lent : List ℕ) → candidateLooks way (scoreOf cells h) theme lent ≤ plainLooks way (scoreOf cells h) theme
-  candidate-looks-le lent = quick-looks-less (themeTable theme) lent
+  candidate-looks-le lent = quick-looks-less wordBits (themeTable wordBits theme) lent
 
   module _ (b : Bookmark) (r : ℕ) where
     pub plain-page-le : spent (plainSearch way (scoreOf cells h) theme) r b ≤ mostLooks cells h theme
     plain-page-le = le-trans (page-within (plainSearch way (scoreOf cells h) theme) r b) all-looks-le
 
-    pub quick-page-le : (table lent : List ℕ) → spent (quickSearch way (scoreOf cells h) theme table lent) r b ≤ mostLooks cells h theme
-    quick-page-le table lent =
-        le-trans (page-within (quickSearch way (scoreOf cells h) theme table lent) r b) (le-trans (quick-looks-less table lent) all-looks-le)
+    pub quick-page-le : (w : ℕ) (table lent : List ℕ) → spent (quickSearch w way (scoreOf cells h) theme table lent) r b ≤ mostLooks cells h theme
+    quick-page-le w table lent =
+        le-trans (page-within (quickSearch w way (scoreOf cells h) theme table lent) r b) (le-trans (quick-looks-less w table lent) all-looks-le)
 
 -- ---- demand 3
 

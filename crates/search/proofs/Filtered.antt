@@ -40,51 +40,51 @@ use Rattle.filter.proofs.Words.{word-in, table-at}
 abbrev words : (table lent : List ℕ) → ℕ → ℕ
 words table lent k = getD table (getD lent k 0) 0
 
-pub candidate-diagonal : (table lent : List ℕ) (m j : ℕ) → 2 ≤ m → m ≤ 32 → 1 ≤ j
-    → (candidate table lent m j ≡ true) ↔ ((i : ℕ) → i + 2 ≤ m → bit (getD table (getD lent (j - 1 + i) 0) 0) i ≡ 0)
+pub candidate-diagonal : (w : ℕ) (table lent : List ℕ) (m j : ℕ) → 2 ≤ m → m ≤ w → 1 ≤ j
+    → (candidate w table lent m j ≡ true) ↔ ((i : ℕ) → i + 2 ≤ m → bit (getD table (getD lent (j - 1 + i) 0) 0) i ≡ 0)
 unfolding candidate
-candidate-diagonal table lent m j low high h = (there, back)
+candidate-diagonal w table lent m j low high h = (there, back)
   where
     end : j + m - 2 ≡ j - 1 + suc (m - 2)
     end = omega arith
 
-    there : eqb (bit (register 32 (words table lent) (j + m - 2)) (m - 2)) 0 ≡ true → (i : ℕ) → i + 2 ≤ m → bit (words table lent (j - 1 + i)) i ≡ 0
+    there : eqb (bit (register w (words table lent) (j + m - 2)) (m - 2)) 0 ≡ true → (i : ℕ) → i + 2 ≤ m → bit (words table lent (j - 1 + i)) i ≡ 0
     there e i k =
-        let z : bit (register 32 (words table lent) (j + m - 2)) (m - 2) ≡ 0 = eqb-true _ _ e in
-        register-sound 32 (words table lent) (j - 1) (m - 2) (omega arith) (rw end at z) i (omega arith)
+        let z : bit (register w (words table lent) (j + m - 2)) (m - 2) ≡ 0 = eqb-true _ _ e in
+        register-sound w (words table lent) (j - 1) (m - 2) (omega arith) (rw end at z) i (omega arith)
 
-    back : ((i : ℕ) → i + 2 ≤ m → bit (words table lent (j - 1 + i)) i ≡ 0) → eqb (bit (register 32 (words table lent) (j + m - 2)) (m - 2)) 0 ≡ true
+    back : ((i : ℕ) → i + 2 ≤ m → bit (words table lent (j - 1 + i)) i ≡ 0) → eqb (bit (register w (words table lent) (j + m - 2)) (m - 2)) 0 ≡ true
     back f =
-        let z : bit (register 32 (words table lent) (j - 1 + suc (m - 2))) (m - 2) ≡ 0
-        = register-complete 32 (words table lent) (j - 1) (m - 2) (omega arith) (λ i k. f i (omega arith)) in
+        let z : bit (register w (words table lent) (j - 1 + suc (m - 2))) (m - 2) ≡ 0
+        = register-complete w (words table lent) (j - 1) (m - 2) (omega arith) (λ i k. f i (omega arith)) in
         eq-eqb _ _ (rw (← end) at z)
 
 -- ---- the theme's table, and any lent sets
 
-module _ (theme : List ℕ) (low : 2 ≤ length theme) (high : length theme ≤ 32) where
+module _ (w : ℕ) (theme : List ℕ) (low : 2 ≤ length theme) (high : length theme ≤ w) where
   pub candidate-iff : (lent : List ℕ) → ((k : ℕ) → getD lent k 0 < 4096) → (j : ℕ) → 1 ≤ j
-      → (candidate (themeTable theme) lent (length theme) j ≡ true)
+      → (candidate w (themeTable w theme) lent (length theme) j ≡ true)
       ↔ ((i : ℕ) → i + 2 ≤ length theme → bit (getD lent (j - 1 + i) 0) (themeInterval theme i .0) ≡ 0)
   candidate-iff lent small j h = (λ e i k. sym (same i k) ∙ all .0 e i k, λ f. all .1 (λ i k. same i k ∙ f i k))
     where
-      all : (candidate (themeTable theme) lent (length theme) j ≡ true)
-          ↔ ((i : ℕ) → i + 2 ≤ length theme → bit (getD (themeTable theme) (getD lent (j - 1 + i) 0) 0) i ≡ 0)
-      all = candidate-diagonal (themeTable theme) lent (length theme) j low high h
+      all : (candidate w (themeTable w theme) lent (length theme) j ≡ true)
+          ↔ ((i : ℕ) → i + 2 ≤ length theme → bit (getD (themeTable w theme) (getD lent (j - 1 + i) 0) 0) i ≡ 0)
+      all = candidate-diagonal w (themeTable w theme) lent (length theme) j low high h
 
       same : (i : ℕ) → i + 2 ≤ length theme
-          → bit (getD (themeTable theme) (getD lent (j - 1 + i) 0) 0) i ≡ bit (getD lent (j - 1 + i) 0) (themeInterval theme i .0)
+          → bit (getD (themeTable w theme) (getD lent (j - 1 + i) 0) 0) i ≡ bit (getD lent (j - 1 + i) 0) (themeInterval theme i .0)
       same i k =
-          ap (λ (x : ℕ). bit x i) (table-at theme (getD lent (j - 1 + i) 0) (small (j - 1 + i)))
-          ∙ word-in theme (getD lent (j - 1 + i) 0) i (omega arith) k
+          ap (λ (x : ℕ). bit x i) (table-at w theme (getD lent (j - 1 + i) 0) (small (j - 1 + i)))
+          ∙ word-in w theme (getD lent (j - 1 + i) 0) i (omega arith) k
 
   -- ---- the score's own sets: each interval of the theme is that of two pitches in neighbouring columns
 
   pub candidate-apart : (score : List (List ℕ)) (j : ℕ) → 1 ≤ j → j + length theme ≤ length score + 1
-      → (candidate (themeTable theme) (sets score) (length theme) j ≡ true)
+      → (candidate w (themeTable w theme) (sets score) (length theme) j ≡ true)
       ↔ ((i : ℕ) → i + 2 ≤ length theme → Apart (getD score (j - 1 + i) []) (getD score (j - 1 + i + 1) []) (themeInterval theme i))
   candidate-apart score j from-first to-last = (λ e i k. same i k .0 (all .0 e i k), λ f. all .1 (λ i k. same i k .1 (f i k)))
     where
-      all : (candidate (themeTable theme) (sets score) (length theme) j ≡ true)
+      all : (candidate w (themeTable w theme) (sets score) (length theme) j ≡ true)
           ↔ ((i : ℕ) → i + 2 ≤ length theme → bit (getD (sets score) (j - 1 + i) 0) (themeInterval theme i .0) ≡ 0)
       all = candidate-iff (sets score) (sets-lt score) j from-first
 
@@ -120,10 +120,10 @@ held-apart way code p q a b h e f =
     let y = holds-offset way code q b f in
     record { x = x .0; y = y .0; here = x .1; next = y .1; far = interval-from (x .0) (y .0) (interval p q) (interval-lt p q) (omega (arith, x .2, y .2)) }
 
-module _ (way : Way) (score : List (List ℕ)) (theme : List ℕ) (low : 2 ≤ length theme) (high : length theme ≤ 32) (notes : (i : ℕ) → getD theme i 0 ≤ 127) where
+module _ (w : ℕ) (way : Way) (score : List (List ℕ)) (theme : List ℕ) (low : 2 ≤ length theme) (high : length theme ≤ w) (notes : (i : ℕ) → getD theme i 0 ≤ 127) where
   each-candidate : (code j : ℕ) → 1 ≤ j → j + length theme ≤ length score + 1 → Each way code theme (onward score (columnAt j))
-      → candidate (themeTable theme) (sets score) (length theme) j ≡ true
-  each-candidate code j from-first to-last each = candidate-apart theme low high score j from-first to-last .1 there
+      → candidate w (themeTable w theme) (sets score) (length theme) j ≡ true
+  each-candidate code j from-first to-last each = candidate-apart w theme low high score j from-first to-last .1 there
     where
       held : (i k c : ℕ) → i < length theme → k ≡ i → c ≡ j - 1 + i → holds way code (pitch (getD theme k 0)) (getD score c []) ≡ true
       held i k c h e f = rw (e, f) (rw (getD-drop (j - 1) score i []) at (each i h))
@@ -134,11 +134,11 @@ module _ (way : Way) (score : List (List ℕ)) (theme : List ℕ) (low : 2 ≤ l
           (held i (i + 1 - 1) (j - 1 + i) (omega arith) (omega arith) refl)
           (held (i + 1) (i + 2 - 1) (j - 1 + i + 1) (omega arith) (omega arith) (omega arith))
 
-  pub stands-candidate : {pair : Pair} → Stands way score theme pair → candidate (themeTable theme) (sets score) (length theme) (pair .column .0) ≡ true
+  pub stands-candidate : {pair : Pair} → Stands way score theme pair → candidate w (themeTable w theme) (sets score) (length theme) (pair .column .0) ≡ true
   stands-candidate {pair} t = each-candidate (placeOf way pair .code) (pair .column .0) (t .from-first) (t .to-last) (stands-each way score theme t)
 
   pub hit-candidate : {s : Place} → In s (starts way score theme) → hit way score theme s ≡ true
-      → candidate (themeTable theme) (sets score) (length theme) (s .column) ≡ true
+      → candidate w (themeTable w theme) (sets score) (length theme) (s .column) ≡ true
   hit-candidate {s} m e =
       let t = in-starts way score theme m in
       each-candidate (s .code) (s .column) (t .from-first) (t .to-last) (hit-each way score theme s (t .first-note) e)

@@ -12,7 +12,7 @@ use Rattle.asking.specs.declared.way.Way.{Way}
 use Rattle.asking.specs.declared.bookmark.Bookmark.{Bookmark}
 use Rattle.asking.specs.Asking.{QuickAsks}
 use Rattle.asking.proofs.Rows.{quick-clear}
-use Rattle.filter.specs.Table.{themeTable}
+use Rattle.filter.specs.Table.{wordBits, themeTable}
 use Rattle.paging.specs.declared.page.Turn.{Turn}
 use Rattle.paging.specs.declared.page.Page.{Page}
 use Rattle.paging.specs.declared.page.Page.the-variants.{Turned, Refused}
@@ -26,7 +26,7 @@ use Rattle.search.specs.Page.{rowsOfQuick, quickPage, quickTable, QuickP
 
 module _ (cells : List ℕ) (h : ℕ) (theme : List ℕ) (way : Way) (b : Bookmark) (sets table : List ℕ) (buffers : Lent) where
   abbrev S : Search Place
-  S = quickSearch way (scoreOf cells h) theme (themeTable theme) sets
+  S = quickSearch wordBits way (scoreOf cells h) theme (themeTable wordBits theme) sets
 
   abbrev Asks : Type 0
   Asks = QuickAsks cells h theme way b sets table (buffers .columns) (buffers .shifts)
@@ -37,10 +37,10 @@ module _ (cells : List ℕ) (h : ℕ) (theme : List ℕ) (way : Way) (b : Bookma
       paged-clear (rowsOfQuick cells h theme way b sets table buffers) S b buffers (quick-clear cells h theme way b sets table (buffers .columns) (buffers .shifts) .0 a)
 
   -- it leaves the theme's table
-  pub quick-fills : Asks → quickTable cells h theme way b sets table buffers ≡ themeTable theme
+  pub quick-fills : Asks → quickTable cells h theme way b sets table buffers ≡ themeTable wordBits theme
   unfolding quickTable
   quick-fills a =
-      judge-clear (λ r. table) (themeTable theme) (rowsOfQuick cells h theme way b sets table buffers)
+      judge-clear (λ r. table) (themeTable wordBits theme) (rowsOfQuick cells h theme way b sets table buffers)
       (quick-clear cells h theme way b sets table (buffers .columns) (buffers .shifts) .0 a)
 
   pub quick-turned : ((t : Turn) × (quickPage cells h theme way b sets table buffers .answer ≡ Turned t)) ↔ Asks
@@ -61,7 +61,7 @@ module _ (cells : List ℕ) (h : ℕ) (theme : List ℕ) (way : Way) (b : Bookma
   unfolding quickPage quickTable
   quick-kept r e = (
     paged-kept (rowsOfQuick cells h theme way b sets table buffers) S b buffers r e,
-    judge-both (λ (l : Leaf) (t : List ℕ). l .answer ≡ Refused r → t ≡ table) (away buffers) (λ r. table) (leaf S b buffers) (themeTable theme) (λ s f. refl)
+    judge-both (λ (l : Leaf) (t : List ℕ). l .answer ≡ Refused r → t ≡ table) (away buffers) (λ r. table) (leaf S b buffers) (themeTable wordBits theme) (λ s f. refl)
         (λ f. absurd (turned-refused f)) (rowsOfQuick cells h theme way b sets table buffers) e,
   )
 

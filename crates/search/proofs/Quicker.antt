@@ -25,7 +25,7 @@ use Rattle.asking.specs.Way.{rangeOf}
 use Rattle.asking.specs.Refusals.{badNote, requestRows, setsRows, pageRows}
 use Rattle.asking.specs.Asking.{Accepted, AcceptedSets}
 use Rattle.asking.proofs.Rows.{accepted-clear, sets-clear}
-use Rattle.filter.specs.Table.{themeTable}
+use Rattle.filter.specs.Table.{wordBits, themeTable}
 use Rattle.paging.specs.Lent.{Lent}
 use Rattle.paging.specs.Search.{listed}
 use Rattle.paging.specs.Page.{leaf, away, paged}
@@ -40,11 +40,11 @@ use Rattle.search.proofs.Filtered.{hit-candidate}
 
 -- what the quick search lists: the pairs at candidates
 pub quick-pairs : (way : Way) (score : List (List ℕ)) (theme lent : List ℕ)
-    → listed (quickSearch way score theme (themeTable theme) lent) ≡ candidatePairs way score theme lent
+    → listed (quickSearch wordBits way score theme (themeTable wordBits theme) lent) ≡ candidatePairs way score theme lent
 quick-pairs way score theme lent =
-    only-listed (λ s. candidate (themeTable theme) lent (length theme) (s .column)) (plainSearch way score theme)
+    only-listed (λ s. candidate wordBits (themeTable wordBits theme) lent (length theme) (s .column)) (plainSearch way score theme)
     ∙ sym
-    (hits-map (pairAt way) (λ (pair : Pair). candidate (themeTable theme) lent (length theme) (pair .column .0)) (hits (hit way score theme) (starts way score theme)))
+    (hits-map (pairAt way) (λ (pair : Pair). candidate wordBits (themeTable wordBits theme) lent (length theme) (pair .column .0)) (hits (hit way score theme) (starts way score theme)))
 
 -- ---- the score's own sets are accepted, and the notes are pitches
 
@@ -69,13 +69,13 @@ module _ (cells : List ℕ) (h : ℕ) (theme : List ℕ) (way : Way) (a : Accept
   score = scoreOf cells h
 
   abbrev keep : Place → Bool
-  keep s = candidate (themeTable theme) (sets score) (length theme) (s .column)
+  keep s = candidate wordBits (themeTable wordBits theme) (sets score) (length theme) (s .column)
 
   kept : (s : Place) → In s (starts way score theme) → hit way score theme s ≡ true → keep s ≡ true
-  kept s m e = hit-candidate way score theme (a .notes-some) (a .notes-few) (note-le a) m e
+  kept s m e = hit-candidate wordBits way score theme (a .notes-some) (a .notes-few) (note-le a) m e
 
   -- so all pairs are listed
-  pub own-listed : listed (quickSearch way score theme (themeTable theme) (sets score)) ≡ pairs way score theme
+  pub own-listed : listed (quickSearch wordBits way score theme (themeTable wordBits theme) (sets score)) ≡ pairs way score theme
   own-listed = same-listed keep (plainSearch way score theme) kept
 
   pub own-pairs : candidatePairs way score theme (sets score) ≡ pairs way score theme
@@ -93,10 +93,10 @@ module _ (cells : List ℕ) (h : ℕ) (theme : List ℕ) (way : Way) (a : Accept
         judge-skip (away buffers) (leaf (plainSearch way score theme) b buffers) (requestRows mostNotes cells h theme) lastRows (accepted-clear mostNotes cells h theme .0 a)
 
     quick-skip : (table : List ℕ) → length table ≡ 4096
-        → quickPage cells h theme way b (sets score) table buffers ≡ paged lastRows (quickSearch way score theme (themeTable theme) (sets score)) b buffers
+        → quickPage cells h theme way b (sets score) table buffers ≡ paged lastRows (quickSearch wordBits way score theme (themeTable wordBits theme) (sets score)) b buffers
     unfolding quickPage
     quick-skip table e =
-        judge-skip (away buffers) (leaf (quickSearch way score theme (themeTable theme) (sets score)) b buffers)
+        judge-skip (away buffers) (leaf (quickSearch wordBits way score theme (themeTable wordBits theme) (sets score)) b buffers)
         (requestRows mostNotes cells h theme ++ setsRows cells h (sets score) (length table)) lastRows
         (clear-append (requestRows mostNotes cells h theme) (setsRows cells h (sets score) (length table)) (accepted-clear mostNotes cells h theme .0 a)
         (sets-clear cells h (sets score) table .0 (own-sets, e)))

@@ -41,10 +41,11 @@ module _ (way : Way) (score : List (List ℕ)) (theme : List ℕ) (b : Bookmark)
   pub left-plain : from key (keyOf way b) (starts way score theme) ≡ left (plainSearch way score theme) b
   left-plain = left-reached way (length score) b i (starts way score theme) (starts-rising way score theme) (λ s m. in-starts way score theme m .small)
 
-  pub left-quick : (table sets : List ℕ) → from key (keyOf way b) (quickStarts way score theme table sets) ≡ left (quickSearch way score theme table sets) b
+  pub left-quick : (w : ℕ) (table sets : List ℕ)
+      → from key (keyOf way b) (quickStarts w way score theme table sets) ≡ left (quickSearch w way score theme table sets) b
   unfolding quickStarts
-  left-quick table sets =
-      let keep : Place → Bool = λ s. candidate table sets (length theme) (s .column) in
+  left-quick w table sets =
+      let keep : Place → Bool = λ s. candidate w table sets (length theme) (s .column) in
       left-reached way (length score) b i (hits keep (starts way score theme)) (rising-hits keep key 256 (starts way score theme) (starts-rising way score theme))
       (λ s m. in-starts way score theme (in-hits keep (starts way score theme) m .0) .small)
 

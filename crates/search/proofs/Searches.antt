@@ -17,7 +17,7 @@ use Rattle.asking.specs.Way.{rangeOf}
 use Rattle.asking.specs.Asking.{Accepted, AcceptedSets, InRange, PlainAsks, QuickAsks}
 use Rattle.asking.proofs.Rows.{plain-clear, quick-clear}
 use Rattle.asking.proofs.Shifts.{shift-above, shift-below}
-use Rattle.filter.specs.Table.{themeTable}
+use Rattle.filter.specs.Table.{wordBits, themeTable}
 use Rattle.paging.specs.Lent.{Lent, Room}
 use Rattle.paging.specs.Search.{Narrow, Right}
 use Rattle.paging.specs.Page.{leaf}
@@ -53,8 +53,8 @@ module _ (way : Way) (score : List (List ℕ)) (theme : List ℕ) (notes : 2 ≤
         few = few;
       }
 
-  pub quick-right : (table sets : List ℕ) → Right (quickSearch way score theme table sets)
-  quick-right table sets = only-right (λ s. candidate table sets (length theme) (s .column)) (plainSearch way score theme) plain-right
+  pub quick-right : (w : ℕ) (table sets : List ℕ) → Right (quickSearch w way score theme table sets)
+  quick-right w table sets = only-right (λ s. candidate w table sets (length theme) (s .column)) (plainSearch way score theme) plain-right
 
 -- ---- the calls
 
@@ -85,15 +85,15 @@ module _ (cells : List ℕ) (h : ℕ) (theme : List ℕ) (way : Way) (a : Accept
   -- with sets that are accepted, and at each call any table of 4,096 places
   module _ (sets : List ℕ) (s : AcceptedSets cells h sets) (table : Bookmark → Lent → List ℕ)
       (long : (b : Bookmark) (buffers : Lent) → length (table b buffers) ≡ 4096) where
-    pub quick-calls : Calls (quickSearch way (scoreOf cells h) theme (themeTable theme) sets) r (λ b buffers. quickPage cells h theme way b sets (table b buffers) buffers)
+    pub quick-calls : Calls (quickSearch wordBits way (scoreOf cells h) theme (themeTable wordBits theme) sets) r (λ b buffers. quickPage cells h theme way b sets (table b buffers) buffers)
     unfolding quickPage
     quick-calls =
         record {
-          right = quick-right way (scoreOf cells h) theme (a .notes-some) score-few (themeTable theme) sets;
+          right = quick-right way (scoreOf cells h) theme (a .notes-some) score-few wordBits (themeTable wordBits theme) sets;
           some-room = room;
           turns =
               λ b buffers i m.
-              paged-clear (rowsOfQuick cells h theme way b sets (table b buffers) buffers) (quickSearch way (scoreOf cells h) theme (themeTable theme) sets) b buffers
+              paged-clear (rowsOfQuick cells h theme way b sets (table b buffers) buffers) (quickSearch wordBits way (scoreOf cells h) theme (themeTable wordBits theme) sets) b buffers
               (quick-clear cells h theme way b sets (table b buffers) (buffers .columns) (buffers .shifts) .0
               (record { plain = asks b buffers i m; with-sets = s; table-long = long b buffers }));
         }

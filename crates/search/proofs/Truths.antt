@@ -18,7 +18,7 @@ use Rattle.asking.specs.declared.bookmark.Pair.{Pair}
 use Rattle.asking.specs.declared.bookmark.Bookmark.{Bookmark}
 use Rattle.asking.specs.Way.{Holds}
 use Rattle.asking.specs.Asking.{AcceptedSets, PlainAsks}
-use Rattle.filter.specs.Table.{themeTable}
+use Rattle.filter.specs.Table.{wordBits, themeTable}
 use Rattle.paging.specs.declared.page.Turn.{Turn}
 use Rattle.paging.specs.declared.page.Page.{Page}
 use Rattle.paging.specs.declared.page.Page.the-variants.{Turned, Refused}
@@ -63,7 +63,7 @@ module _ (cells : List ℕ) (h : ℕ) (theme : List ℕ) (way : Way) (b : Bookma
       let p = quick-page cells h theme way b buffers a lent table s e in
       let c : In pair (candidatePairs way (scoreOf cells h) theme lent)
       = in-first (length (buffers .columns)) b (candidatePairs way (scoreOf cells h) theme lent) (subst (In pair) (p .front) m) in
-      listed-stands way (scoreOf cells h) theme (in-hits (λ (q : Pair). candidate (themeTable theme) lent (length theme) (q .column .0)) (pairs way (scoreOf cells h) theme) c .0)
+      listed-stands way (scoreOf cells h) theme (in-hits (λ (q : Pair). candidate wordBits (themeTable wordBits theme) lent (length theme) (q .column .0)) (pairs way (scoreOf cells h) theme) c .0)
 
 -- ---- looks: the answer's own, within the bound
 
@@ -84,9 +84,9 @@ module _ (cells : List ℕ) (h : ℕ) (theme : List ℕ) (way : Way) (b : Bookma
   unfolding looksOf
   quick-looks-le lent table e =
       let a = quick-turned cells h theme way b lent table buffers .0 (t, e) in
-      let q : t .looks ≡ spent (quickSearch way (scoreOf cells h) theme (themeTable theme) lent) (length (buffers .columns)) b =
+      let q : t .looks ≡ spent (quickSearch wordBits way (scoreOf cells h) theme (themeTable wordBits theme) lent) (length (buffers .columns)) b =
       ap looksOf (sym e ∙ ap (λ (l : Leaf). l .answer) (quick-leaf cells h theme way b lent table buffers a)) in
-      le-trans (le-of-eq q) (quick-page-le cells h theme way b (length (buffers .columns)) (themeTable theme) lent)
+      le-trans (le-of-eq q) (quick-page-le cells h theme way b (length (buffers .columns)) wordBits (themeTable wordBits theme) lent)
 
 -- ---- what follows from the definition
 

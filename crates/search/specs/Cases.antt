@@ -18,7 +18,7 @@ use Rattle.paging.specs.declared.page.Page.{Page}
 use Rattle.paging.specs.declared.page.Page.the-variants.{Turned, Refused}
 use Rattle.paging.specs.Lent.{Lent, lent, readPairs}
 use Rattle.paging.specs.Page.{Leaf}
-use Rattle.filter.specs.Table.{themeTable}
+use Rattle.filter.specs.Table.{wordBits, themeTable}
 use Rattle.walking.specs.Candidates.{candidate}
 use Rattle.asking.specs.Bookmarks.{firstBookmark}
 use Rattle.search.specs.Page.{plainPage, quickPage}
@@ -89,7 +89,7 @@ made c =
       room = c .room;
       sets = setsOf (scoreOf (c .cells) (c .tracks));
       candidates =
-          hits (λ j. candidate (themeTable (c .theme)) (setsOf (scoreOf (c .cells) (c .tracks))) (length (c .theme)) j)
+          hits (λ j. candidate wordBits (themeTable wordBits (c .theme)) (setsOf (scoreOf (c .cells) (c .tracks))) (length (c .theme)) j)
           (count 1 (length (scoreOf (c .cells) (c .tracks)) + 1 - length (c .theme)));
       pages = read (plainly c) 3 (firstBookmark (rangeOf (c .way)));
       quick = map (λ p. p .looks) (read (quickly c) 3 (firstBookmark (rangeOf (c .way))));

@@ -7,7 +7,7 @@ use Rattle.theory.specs.Pages.{hits}
 use Rattle.score.specs.Score.{columnsIn}
 use Rattle.asking.specs.declared.way.Way.{Way}
 use Rattle.asking.specs.declared.bookmark.Pair.{Pair}
-use Rattle.filter.specs.Table.{themeTable}
+use Rattle.filter.specs.Table.{wordBits, themeTable}
 use Rattle.paging.specs.Search.{allLooks}
 use Rattle.walking.specs.Candidates.{candidate}
 use Rattle.search.specs.Pairs.{plainSearch, quickSearch, pairs}
@@ -17,7 +17,7 @@ abbrev pub plainLooks : Way → (score : List (List ℕ)) (theme : List ℕ) →
 plainLooks way score theme = allLooks (plainSearch way score theme)
 
 abbrev pub candidateLooks : Way → (score : List (List ℕ)) (theme sets : List ℕ) → ℕ
-candidateLooks way score theme sets = allLooks (quickSearch way score theme (themeTable theme) sets)
+candidateLooks way score theme sets = allLooks (quickSearch wordBits way score theme (themeTable wordBits theme) sets)
 
 -- the most looks of a whole list: (n - m + 1) * h * (m - 1) where m <= n, else 0
 abbrev pub mostLooks : (cells : List ℕ) (h : ℕ) (theme : List ℕ) → ℕ
@@ -25,4 +25,4 @@ mostLooks cells h theme = (columnsIn cells h + 1 - length theme) * h * (length t
 
 -- the pairs whose column the sets make a candidate
 abbrev pub candidatePairs : Way → (score : List (List ℕ)) (theme sets : List ℕ) → List Pair
-candidatePairs way score theme sets = hits (λ pair. candidate (themeTable theme) sets (length theme) (pair .column .0)) (pairs way score theme)
+candidatePairs way score theme sets = hits (λ pair. candidate wordBits (themeTable wordBits theme) sets (length theme) (pair .column .0)) (pairs way score theme)

@@ -8,7 +8,7 @@ use Rattle.score.specs.Refusals.{Row, judge}
 use Rattle.asking.specs.declared.way.Way.{Way}
 use Rattle.asking.specs.declared.bookmark.Bookmark.{Bookmark}
 use Rattle.asking.specs.Refusals.{plainRows, quickRows}
-use Rattle.filter.specs.Table.{themeTable}
+use Rattle.filter.specs.Table.{wordBits, themeTable}
 use Rattle.paging.specs.declared.page.Page.{Page}
 use Rattle.paging.specs.Lent.{Lent}
 use Rattle.paging.specs.Page.{Leaf, paged, Pages}
@@ -35,11 +35,11 @@ rowsOfQuick cells h theme way b sets table buffers = quickRows cells h theme way
 -- a page of the starts at the columns that the theme's table and the lent sets make candidates
 unfoldable pub quickPage : (cells : List ℕ) (h : ℕ) (theme : List ℕ) → Way → Bookmark → (sets table : List ℕ) → Lent → Leaf
 quickPage cells h theme way b sets table buffers =
-    paged (rowsOfQuick cells h theme way b sets table buffers) (quickSearch way (scoreOf cells h) theme (themeTable theme) sets) b buffers
+    paged (rowsOfQuick cells h theme way b sets table buffers) (quickSearch wordBits way (scoreOf cells h) theme (themeTable wordBits theme) sets) b buffers
 
 -- the lent table after it: an accepted call leaves the theme's
 unfoldable pub quickTable : (cells : List ℕ) (h : ℕ) (theme : List ℕ) → Way → Bookmark → (sets table : List ℕ) → Lent → List ℕ
-quickTable cells h theme way b sets table buffers = judge (rowsOfQuick cells h theme way b sets table buffers) (λ r. table) (themeTable theme)
+quickTable cells h theme way b sets table buffers = judge (rowsOfQuick cells h theme way b sets table buffers) (λ r. table) (themeTable wordBits theme)
 
 -- what a quick call promises: this answer, these buffers, and this table
 pub record QuickPages (cells : List ℕ) (h : ℕ) (theme : List ℕ) (way : Way) (b : Bookmark) (sets table : List ℕ) (buffers : Lent)

@@ -27,9 +27,9 @@ plainSearch way score theme =
       shown = pairAt way;
     }
 
--- the quick search reaches those at the columns that a table and sets make candidates: any table and any sets
-abbrev pub quickSearch : Way → (score : List (List ℕ)) (theme table sets : List ℕ) → Search Place
-quickSearch way score theme table sets = only (λ s. candidate table sets (length theme) (s .column)) (plainSearch way score theme)
+-- the quick search reaches those at the columns that a table and sets make candidates: words of any width, any table and any sets
+abbrev pub quickSearch : (w : ℕ) → Way → (score : List (List ℕ)) (theme table sets : List ℕ) → Search Place
+quickSearch w way score theme table sets = only (λ s. candidate w table sets (length theme) (s .column)) (plainSearch way score theme)
 
 -- all pairs
 abbrev pub pairs : Way → (score : List (List ℕ)) (theme : List ℕ) → List Pair

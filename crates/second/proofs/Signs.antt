@@ -10,7 +10,7 @@ use mir.Syntax.{w8, w16, w32}
 use mir.Val.{Fits, SFits, toZ, ofZ}
 use mir.Facts.{toZ-ofZ, toZ-pos}
 use mir.ValLaws.{sfits-le}
-use Rattle.theory.proofs.Signed.{mag-sub}
+use Rattle.theory.proofs.Signed.{mag-sub, read-wide-fits}
 
 minus-mag : (a b : ℤ) (H K : ℕ) → mag a < H → mag b < K → mag (a -ℤ b) < H + K
 minus-mag (pos x) (pos zero) H K h k = omega arith
@@ -30,17 +30,10 @@ bytes-mag t p f g = minus-mag (toZ w32 t) (toZ w32 p) 256 256 (byte-mag t f) (by
 pub bytes-fit : (t p : ℕ) → Fits w8 t → Fits w8 p → SFits w32 (toZ w32 t -ℤ toZ w32 p)
 bytes-fit t p f g = record { sfits = omega (arith, bytes-mag t p f g) }
 
--- of 16 bits, read in 32
-wide-fits : (z : ℤ) → SFits w16 z → SFits w32 z
-wide-fits z f = record { sfits = omega (arith, f .sfits) }
-
-pub shift-fits : (z : ℤ) → SFits w16 z → SFits w32 (toZ w16 (ofZ w16 z))
-shift-fits z f = subst (SFits w32) (sym (toZ-ofZ f)) (wide-fits z f)
-
 -- of two bytes and a number of 16 bits
 pub apart-fits : (t p : ℕ) (c : ℤ) → Fits w8 t → Fits w8 p → SFits w16 c → SFits w32 (toZ w32 (ofZ w32 (toZ w32 t -ℤ toZ w32 p)) -ℤ toZ w32 (ofZ w32 (toZ w16 (ofZ w16 c))))
 apart-fits t p c f g h =
-    rw (toZ-ofZ (bytes-fit t p f g), toZ-ofZ (shift-fits c h), toZ-ofZ h)
+    rw (toZ-ofZ (bytes-fit t p f g), toZ-ofZ (read-wide-fits c h), toZ-ofZ h)
     (record { sfits = omega (arith, minus-mag (toZ w32 t -ℤ toZ w32 p) c 512 32768 (bytes-mag t p f g) (h .sfits)) })
 
 -- a quotient

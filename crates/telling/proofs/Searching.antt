@@ -30,7 +30,7 @@ use Rattle.asking.specs.Way.{span, rangeOf}
 use Rattle.walking.specs.Starts.{Place, starts, hit}
 use Rattle.search.specs.Pairs.{pairAt, quickSearch, pairs}
 use Rattle.search.specs.Page.{quickPage}
-use Rattle.filter.specs.Table.{themeTable}
+use Rattle.filter.specs.Table.{wordBits, themeTable}
 use Rattle.asking.specs.Bookmarks.{firstBookmark}
 use Rattle.asking.specs.Asking.{Accepted, AcceptedSets}
 use Rattle.paging.specs.Lent.{Lent}
@@ -51,7 +51,7 @@ use Rattle.telling.proofs.Widths.{lines-le, end-le}
 
 -- what is sought: the quick search by the theme's table
 abbrev pub searchOf : (cells : List ℕ) (h : ℕ) (theme : List ℕ) → Way → (lent : List ℕ) → Search Place
-searchOf cells h theme way lent = quickSearch way (scoreOf cells h) theme (themeTable theme) lent
+searchOf cells h theme way lent = quickSearch wordBits way (scoreOf cells h) theme (themeTable wordBits theme) lent
 
 -- ---- the sets that are prepared are the score's own
 

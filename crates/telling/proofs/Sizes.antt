@@ -12,22 +12,16 @@ use borrow.Author.Tests.{ltb-true}
 use mir.Syntax.{w16, w32}
 use mir.Val.{Fits, SFits, toZ, ofZ}
 use mir.Facts.{toZ-ofZ}
+use Rattle.theory.proofs.Signed.{wide-fits}
 use Rattle.telling.specs.Text.{decimal, signed, field}
 
 -- ---- widened
-
-pub wide-fits : (z : ℤ) → SFits w16 z → SFits w32 z
-wide-fits (pos n) f = record { sfits = let l : n < 32768 = f .sfits in omega arith }
-wide-fits (negsuc n) f = record { sfits = let l : n < 32768 = f .sfits in omega arith }
 
 abbrev pub wide : ℤ → ℤ
 wide z = toZ w32 (ofZ w32 (toZ w16 (ofZ w16 z)))
 
 pub wide-is : (z : ℤ) → SFits w16 z → wide z ≡ z
 wide-is z f = ap (λ (y : ℤ). toZ w32 (ofZ w32 y)) (toZ-ofZ f) ∙ toZ-ofZ (wide-fits z f)
-
-pub narrow-fits : (z : ℤ) → SFits w16 z → SFits w32 (toZ w16 (ofZ w16 z))
-narrow-fits z f = subst (SFits w32) (sym (toZ-ofZ f)) (wide-fits z f)
 
 -- ---- turned
 

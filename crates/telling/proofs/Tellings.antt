@@ -19,7 +19,7 @@ use Rattle.score.specs.declared.refusals.Verdict.the-variants.{Accepted as Pass
 use Rattle.score.specs.Score.{scoreOf}
 use Rattle.score.specs.Refusals.{verdict, GivenBy, placeBy}
 use Rattle.score.proofs.Judging.{judge-away}
-use Rattle.score.proofs.Judged.{Clear, judge-either, judge-clear, judge-given, judge-clear-of, judge-shown}
+use Rattle.score.proofs.Judged.{judge-either, judge-clear, judge-clear-of, verdict-clear, answer-refused}
 use Rattle.asking.specs.Limits.{mostNotes}
 use Rattle.asking.specs.declared.way.Way.{Way}
 use Rattle.asking.specs.Refusals.{requestRows}
@@ -33,9 +33,6 @@ use Rattle.telling.specs.Steps.{Wrote}
 
 pub tells-unique : {tale : Tale} {a b : Telling} {s t : List ℕ} → Tells tale a s → Tells tale b t → (a ≡ b) × (s ≡ t)
 tells-unique p q = (p .answers ∙ sym (q .answers), p .writes ∙ sym (q .writes))
-
-refused-same : {r s : Refusal} → Refused r ≡ Refused s → r ≡ s
-refused-same e = cc
 
 -- ---- a text, and the buffer
 
@@ -81,10 +78,7 @@ module _ (text out : List ℕ) where
 module _ (cells : List ℕ) (h : ℕ) (theme : List ℕ) (way : Way) where
   module _ {v : Verdict} (checked : v ≡ verdict (requestRows mostNotes cells h theme)) where
     pub checked-accepted : v ≡ Passed → Accepted mostNotes cells h theme
-    checked-accepted e = accepted-clear mostNotes cells h theme .1 (judge-clear-of Away Passed (λ w. w ≡ Passed) (λ r k. never r k) (requestRows mostNotes cells h theme) (sym checked ∙ e))
-      where
-        never : (r : Refusal) → Away r ≡ Passed → ⊥
-        never r k = let z : _≡_ {A = ℕ} 0 1 = cc in omega arith
+    checked-accepted e = accepted-clear mostNotes cells h theme .1 (verdict-clear (requestRows mostNotes cells h theme) (sym checked ∙ e))
 
     pub tells-refused : (out : List ℕ) {r : Refusal} → v ≡ Away r → Tells (searchTold cells h theme way out) (Refused r) out
     unfolding searchTold
@@ -119,12 +113,9 @@ module _ (cells : List ℕ) (h : ℕ) (theme : List ℕ) (way : Way) where
     pub search-refused : (k p : ℕ) → (searchTold cells h theme way out .answer ≡ Refused (record { number = k; place = p }))
         ↔ (GivenBy (requestRows mostNotes cells h theme) k × (p ≡ placeBy (requestRows mostNotes cells h theme) k))
     unfolding searchTold
-    search-refused k p = (
-      judge-shown away (told lines out) (λ (t : Tale) (s : Refusal). t .answer ≡ Refused s) (λ r s e. refused-same e) (never-refused lines out) (requestRows mostNotes cells h theme) refl
-          (record { number = k; place = p }),
-      λ g. ap (λ (t : Tale). t .answer) (judge-given away (told lines out) (requestRows mostNotes cells h theme) k (g .0))
-          ∙ ap (λ (q : ℕ). Refused (record { number = k; place = q })) (sym (g .1)),
-    )
+    search-refused k p =
+        answer-refused (λ (t : Tale). t .answer) Refused (λ r s e. cc) away (told lines out) (λ r. refl) (never-refused lines out)
+        (requestRows mostNotes cells h theme) refl k p
 
     pub search-kept : ((n : ℕ) → searchTold cells h theme way out .answer ≡ Told n → ⊥) → searchTold cells h theme way out .out ≡ out
     unfolding searchTold

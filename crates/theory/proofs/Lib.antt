@@ -3,6 +3,7 @@
 -- `Thin` (starts left out), `Going` (a page under way). Bits: `Bits`, `Masks` (what code writes),
 -- `Marks` (what a word marks), `Register`. Signs: `Signed`, `Integers` (their order).
 pub mod Unique
+pub mod Either
 pub mod Lists
 pub mod Members
 pub mod Counts

@@ -9,7 +9,7 @@ use lib.IntN.{ℤ, pos, negsuc, subℕ, _+ℤ_, _-ℤ_, +ℤ-negℤ-cancel, +ℤ
 use lib.Pow.{pow-pos}
 use lib.Signed.{mag, nonNeg, ltZ, _≤ℤ_, _<ℤ_, leZ-yes, ltZ-yes}
 use borrow.Author.Tests.{ltb-true, ltb-false, le-ltb}
-use mir.Syntax.{Width}
+use mir.Syntax.{Width, w16, w32}
 use mir.Val.{SFits, toZ, ofZ, hbits}
 use mir.Facts.{toZ-ofZ, toZ-pos}
 
@@ -95,3 +95,11 @@ pub raise-fits : (w : Width) (z : ℤ) → SFits w z → ltZ z (pos (2 ^ hbits w
 raise-fits w (pos a) f h = record { sfits = let l : a < 2 ^ hbits w - 1 = ltb-true a (2 ^ hbits w - 1) h in omega arith }
 raise-fits w (negsuc zero) f h = record { sfits = pow-pos (hbits w) }
 raise-fits w (negsuc (suc a)) f h = subst (SFits w) (sym (+ℤ-one (negsuc (suc a)))) (record { sfits = let l : suc a < 2 ^ hbits w = f .sfits in omega arith })
+
+-- ---- a number of 16 bits, read in 32
+
+pub wide-fits : (z : ℤ) → SFits w16 z → SFits w32 z
+wide-fits z f = record { sfits = omega (arith, f .sfits) }
+
+pub read-wide-fits : (z : ℤ) → SFits w16 z → SFits w32 (toZ w16 (ofZ w16 z))
+read-wide-fits z f = subst (SFits w32) (sym (toZ-ofZ f)) (wide-fits z f)

@@ -30,7 +30,7 @@ use Rattle.asking.specs.Asking.{Accepted, AcceptedSets, PlainAsks, QuickAsks}
 use Rattle.asking.specs.Refusals.{plainRows, quickRows}
 use Rattle.asking.proofs.Rows.{plain-clear, quick-clear}
 use Rattle.asking.proofs.Shifts.{code-le}
-use Rattle.filter.specs.Table.{themeTable}
+use Rattle.filter.specs.Table.{wordBits, themeTable}
 use Rattle.walking.specs.declared.walked.Walked.{Walked}
 use Rattle.walking.specs.declared.calls.Walk.{Walk}
 use Rattle.walking.specs.declared.calls.Walk.the-variants.{Done, Refused}
@@ -164,10 +164,10 @@ module _ (cells : List ℕ) (h : ℕ) (theme : List ℕ) (way : Way) (b : Bookma
   quick-asks a v = quick-clear cells h theme way b sets table columns shifts .1 (accepted-clear rows (sym a ∙ v))
 
   -- the table: as it was, or the theme's
-  pub table-kept : {v : Verdict} {e : Refusal} → v ≡ verdict rows → v ≡ Away e → table ≡ judge rows (λ r. table) (themeTable theme)
+  pub table-kept : {v : Verdict} {e : Refusal} → v ≡ verdict rows → v ≡ Away e → table ≡ judge rows (λ r. table) (themeTable wordBits theme)
   table-kept a v = sym (judge-away (λ r. table) _ rows (sym a ∙ v))
 
-  pub table-filled : Clear rows → judge rows (λ r. table) (themeTable theme) ≡ themeTable theme
+  pub table-filled : Clear rows → judge rows (λ r. table) (themeTable wordBits theme) ≡ themeTable wordBits theme
   table-filled c = judge-clear (λ r. table) _ rows c
 
   pub quick-walks-unique : {a a′ : Walk} {t t′ c c′ : List ℕ} {s s′ : List ℤ} → QuickWalks cells h theme way b sets table columns shifts a t c s

@@ -14,7 +14,7 @@ use Rattle.asking.specs.declared.bookmark.Bookmark.{Bookmark}
 use Rattle.asking.specs.Way.{shiftOf}
 use Rattle.asking.specs.Bookmarks.{keyOf}
 use Rattle.asking.specs.Refusals.{plainRows, quickRows}
-use Rattle.filter.specs.Table.{themeTable}
+use Rattle.filter.specs.Table.{wordBits, themeTable}
 use Rattle.walking.specs.declared.calls.Walk.{Walk}
 use Rattle.walking.specs.declared.calls.Walk.the-variants.{Done, Refused}
 use Rattle.walking.specs.Starts.{Place, key, starts, hit, looks}
@@ -57,5 +57,5 @@ PlainWalks cells h theme way b columns shifts =
 pub record QuickWalks (cells : List ℕ) (h : ℕ) (theme : List ℕ) (way : Way) (b : Bookmark) (sets table columns : List ℕ) (shifts : List ℤ)
     (answer : Walk) (table′ columns′ : List ℕ) (shifts′ : List ℤ) : Type 0 where
   pub finds : Finds (quickRows cells h theme way b sets table columns shifts) way (scoreOf cells h) theme
-      (quickStarts way (scoreOf cells h) theme (themeTable theme) sets) b columns shifts answer columns′ shifts′
-  pub fills-table : table′ ≡ judge (quickRows cells h theme way b sets table columns shifts) (λ r. table) (themeTable theme)
+      (quickStarts wordBits way (scoreOf cells h) theme (themeTable wordBits theme) sets) b columns shifts answer columns′ shifts′
+  pub fills-table : table′ ≡ judge (quickRows cells h theme way b sets table columns shifts) (λ r. table) (themeTable wordBits theme)

@@ -9,6 +9,7 @@ use lib.ListN.{length, getD}
 use Rattle.theory.specs.Bits.{bit}
 use Rattle.theory.specs.Register.{regFrom}
 use Rattle.walking.specs.Candidates.{candidate}
+use Rattle.filter.specs.Table.{wordBits}
 
 -- the table's word for entry k of the sets, from 0
 abbrev pub entryWord : (table sets : List ℕ) → ℕ → ℕ
@@ -32,7 +33,7 @@ pub record Seeks (table sets : List ℕ) (top register from register′ at : ℕ
 -- the columns that are kept
 abbrev pub keepOf : (every : Bool) (table sets : List ℕ) (m : ℕ) → ℕ → Bool
 keepOf true table sets m j = true
-keepOf false table sets m j = candidate table sets m j
+keepOf false table sets m j = candidate wordBits table sets m j
 
 -- the register of a walk along candidates that began at column j₀: the entries before the one that decides column j are taken
 abbrev pub Filters : (every : Bool) (table sets : List ℕ) (m j₀ register j : ℕ) → Type 0

@@ -15,6 +15,7 @@ use Rattle.score.specs.Score.{pitch, columnAt, column, columnsIn}
 use Rattle.asking.specs.declared.way.Way.{Way}
 use Rattle.asking.specs.declared.way.Way.the-variants.{Exact, Octave}
 use Rattle.asking.specs.Way.{span, holds}
+use Rattle.filter.specs.Table.{wordBits}
 use Rattle.score.specs.Score.{note}
 use Rattle.walking.specs.Starts.{Place, place, codes, starts, hit, looks}
 use Rattle.walking.specs.Candidates.{quickStarts}
@@ -92,4 +93,4 @@ pub record Walks (way : Way) (score : List (List ℕ)) (theme : List ℕ) (walke
 -- the starts that a walk reaches
 abbrev pub reached : (every : Bool) → Way → (score : List (List ℕ)) (theme table sets : List ℕ) → List Place
 reached true way score theme table sets = starts way score theme
-reached false way score theme table sets = quickStarts way score theme table sets
+reached false way score theme table sets = quickStarts wordBits way score theme table sets

@@ -5,14 +5,14 @@ use mathlib.Core.Path.{_≡_, refl, sym, ap, ap₂, _∙_, subst}
 use mathlib.Core.Bool.{Bool, true, false, cond}
 use mathlib.Core.List.{List}
 use Prim.Native.Nat.{ℕ, _+_, _-_, _*_, _%_, _^_, _≤_, _<_, zero-le, min, max}
-use native.Mathlib.Nat.{mod-lt, mod-add-mod, add-mod-mod, pow-suc, one-mul, zero-lt-suc}
+use native.Mathlib.Nat.{mod-lt, mod-eq-of-lt, mod-add-mod, add-mod-mod, pow-suc, one-mul, zero-lt-suc}
 use native.Mathlib.Numerals.{add-one}
 use native.Mathlib.Decide.{decLe, decLt}
 use native.Mathlib.Omega.{arith}
 use lib.Bits.{bitOr, or-comm, or-lt, or-shifted}
 use lib.Dec.{ltb, eqb}
 use lib.ListN.{length, getD, set, replicate, length-set, length-replicate, getD-replicate}
-use lib.Pow.{pow-pos}
+use lib.Pow.{pow-pos, pow-lt}
 use lib.Seq.{getD-set-same, getD-set-other}
 use borrow.Author.Tests.{lt-ltb, le-ltb, eqb-true, eqb-false}
 use Rattle.theory.specs.Bits.{bit}
@@ -27,18 +27,18 @@ use Rattle.filter.proofs.Words.{word-in, word-out, word-lt, word-unique
 zero-bit : (q : ℕ) → bit 0 q ≡ 0
 zero-bit q = bit-high 0 q 0 (omega arith) zero-le
 
-pub blank-few : (theme : List ℕ) (k : ℕ) → k ≡ length theme - 1 → 1 ≤ length theme → 4294967295 * 2 ^ k % 2 ^ 32 ≡ word theme 0
-blank-few theme k e h =
-    word-unique theme 0 (4294967295 * 2 ^ k % 2 ^ 32) (mod-lt (4294967295 * 2 ^ k) (pow-pos 32))
-    (λ i l m. bit-mod (4294967295 * 2 ^ k) i 32 l ∙ bit-shl-low 4294967295 k i (omega arith) ∙ sym (zero-bit (themeInterval theme i .0)))
+pub blank-few : (w : ℕ) (theme : List ℕ) (k : ℕ) → k ≡ length theme - 1 → 1 ≤ length theme → (2 ^ w - 1) * 2 ^ k % 2 ^ w ≡ word w theme 0
+blank-few w theme k e h =
+    word-unique w theme 0 ((2 ^ w - 1) * 2 ^ k % 2 ^ w) (mod-lt ((2 ^ w - 1) * 2 ^ k) (pow-pos w))
+    (λ i l m. bit-mod ((2 ^ w - 1) * 2 ^ k) i w l ∙ bit-shl-low (2 ^ w - 1) k i (omega arith) ∙ sym (zero-bit (themeInterval theme i .0)))
     (λ i l m.
     let f : k + (i - k) ≡ i = omega arith in
-    bit-mod (4294967295 * 2 ^ k) i 32 l
-    ∙ subst (λ (n : ℕ). bit (4294967295 * 2 ^ k) n ≡ bit 4294967295 (i - k)) f (bit-shl 4294967295 k (i - k)) ∙ bit-ones (i - k) 32 (omega arith))
+    bit-mod ((2 ^ w - 1) * 2 ^ k) i w l
+    ∙ subst (λ (n : ℕ). bit ((2 ^ w - 1) * 2 ^ k) n ≡ bit (2 ^ w - 1) (i - k)) f (bit-shl (2 ^ w - 1) k (i - k)) ∙ bit-ones (i - k) w (omega arith))
 
-pub blank-many : (theme : List ℕ) → 32 ≤ length theme - 1 → 0 ≡ word theme 0
-blank-many theme h =
-    word-unique theme 0 0 (pow-pos 32) (λ i l m. zero-bit i ∙ sym (zero-bit (themeInterval theme i .0))) (λ i l m. absurd (omega arith))
+pub blank-many : (w : ℕ) (theme : List ℕ) → w ≤ length theme - 1 → 0 ≡ word w theme 0
+blank-many w theme h =
+    word-unique w theme 0 0 (pow-pos w) (λ i l m. zero-bit i ∙ sym (zero-bit (themeInterval theme i .0))) (λ i l m. absurd (omega arith))
 
 -- ---- the rows
 
@@ -80,20 +80,20 @@ row-more theme i d q = pick (decLt q i) (decLt i q)
         let k : i ≤ i = omega arith in
         rw (e, lt-ltb i (i + 1) m, le-ltb i i k) (omega (arith, bit-pow-same i, here-lt (eqb (themeInterval theme i .0) d)))
 
-pub record Rows (theme : List ℕ) (i mark : ℕ) (rows : List ℕ) : Type 0 where
+pub record Rows (w : ℕ) (theme : List ℕ) (i mark : ℕ) (rows : List ℕ) : Type 0 where
   pub within : i < length theme
   pub long : length rows ≡ 12
-  pub marks : mark ≡ 2 ^ i % 2 ^ 32
-  pub small : (d : ℕ) → d < 12 → getD rows d 0 < 2 ^ 32
-  pub bits : (d : ℕ) → d < 12 → (q : ℕ) → q < 32 → bit (getD rows d 0) q ≡ rowBit theme i d q
+  pub marks : mark ≡ 2 ^ i % 2 ^ w
+  pub small : (d : ℕ) → d < 12 → getD rows d 0 < 2 ^ w
+  pub bits : (d : ℕ) → d < 12 → (q : ℕ) → q < w → bit (getD rows d 0) q ≡ rowBit theme i d q
 
-pub rows-start : (theme : List ℕ) → 1 ≤ length theme → Rows theme 0 1 (replicate {A = ℕ} 12 0)
-rows-start theme h =
+pub rows-start : (w : ℕ) (theme : List ℕ) → 0 < w → 1 ≤ length theme → Rows w theme 0 1 (replicate {A = ℕ} 12 0)
+rows-start w theme wide h =
     record {
       within = h;
       long = length-replicate {A = ℕ} 12 0;
-      marks = refl;
-      small = λ d l. rw (none d l) (pow-pos 32);
+      marks = sym (mod-eq-of-lt (pow-lt {i = 0} {j = w} wide));
+      small = λ d l. rw (none d l) (pow-pos w);
       bits = λ d l q m. ap (λ (x : ℕ). bit x q) (none d l) ∙ zero-bit q ∙ sym (ap (λ (b : Bool). cond b (here (eqb (themeInterval theme q .0) d)) 0) (le-ltb q 0 zero-le));
     }
   where
@@ -101,10 +101,10 @@ rows-start theme h =
     none d l = getD-replicate {A = ℕ} 12 d 0 0 l
 
 -- the next interval, at: its row has a bit more, and the others stay
-pub rows-more : {theme : List ℕ} {i mark : ℕ} {rows : List ℕ} (at : ℕ) → Rows theme i mark rows → i + 1 < length theme
+pub rows-more : {w : ℕ} {theme : List ℕ} {i mark : ℕ} {rows : List ℕ} (at : ℕ) → Rows w theme i mark rows → i + 1 < length theme
     → at ≡ interval (pitch (getD theme i 0)) (pitch (getD theme (i + 1) 0)) .0
-    → Rows theme (i + 1) (mark * 2 ^ 1 % 2 ^ 32) (set rows at (bitOr (getD rows at 0) mark))
-rows-more {theme} {i} {mark} {rows} at r h step =
+    → Rows w theme (i + 1) (mark * 2 ^ 1 % 2 ^ w) (set rows at (bitOr (getD rows at 0) mark))
+rows-more {w} {theme} {i} {mark} {rows} at r h step =
     record {
       within = h;
       long = length-set rows at v ∙ r .long;
@@ -122,18 +122,18 @@ rows-more {theme} {i} {mark} {rows} at r h step =
     below : at < 12
     below = rw e (mod-lt _ (zero-lt-suc 11))
 
-    doubled : mark * 2 ^ 1 % 2 ^ 32 ≡ 2 ^ (i + 1) % 2 ^ 32
+    doubled : mark * 2 ^ 1 % 2 ^ w ≡ 2 ^ (i + 1) % 2 ^ w
     doubled =
         let two : mark * 2 ^ 1 ≡ mark + mark = omega arith in
         let next : 2 ^ i + 2 ^ i ≡ 2 ^ (i + 1) = rw (add-one, pow-suc) (omega arith) in
-        ap (λ (n : ℕ). n % 2 ^ 32) two ∙ ap (λ (n : ℕ). (n + n) % 2 ^ 32) (r .marks)
-        ∙ mod-add-mod (2 ^ i) (2 ^ 32) (2 ^ i % 2 ^ 32) ∙ add-mod-mod (2 ^ i) (2 ^ i) (2 ^ 32) ∙ ap (λ (n : ℕ). n % 2 ^ 32) next
+        ap (λ (n : ℕ). n % 2 ^ w) two ∙ ap (λ (n : ℕ). (n + n) % 2 ^ w) (r .marks)
+        ∙ mod-add-mod (2 ^ i) (2 ^ w) (2 ^ i % 2 ^ w) ∙ add-mod-mod (2 ^ i) (2 ^ i) (2 ^ w) ∙ ap (λ (n : ℕ). n % 2 ^ w) next
 
-    mark-lt : mark < 2 ^ 32
-    mark-lt = rw (r .marks) (mod-lt (2 ^ i) (pow-pos 32))
+    mark-lt : mark < 2 ^ w
+    mark-lt = rw (r .marks) (mod-lt (2 ^ i) (pow-pos w))
 
-    mark-bit : (q : ℕ) → q < 32 → bit mark q ≡ bit (2 ^ i) q
-    mark-bit q m = ap (λ (x : ℕ). bit x q) (r .marks) ∙ bit-mod (2 ^ i) q 32 m
+    mark-bit : (q : ℕ) → q < w → bit mark q ≡ bit (2 ^ i) q
+    mark-bit q m = ap (λ (x : ℕ). bit x q) (r .marks) ∙ bit-mod (2 ^ i) q w m
 
     same : (d : ℕ) → eqb at d ≡ true → getD (set rows at v) d 0 ≡ bitOr (getD rows d 0) mark
     same d f =
@@ -143,11 +143,11 @@ rows-more {theme} {i} {mark} {rows} at r h step =
     other : (d : ℕ) → eqb at d ≡ false → getD (set rows at v) d 0 ≡ getD rows d 0
     other d f = getD-set-other rows at d v 0 (λ g. eqb-false at d f (sym g))
 
-    small′ : (d : ℕ) → d < 12 → (t : Bool) → eqb at d ≡ t → getD (set rows at v) d 0 < 2 ^ 32
-    small′ d l true f = rw (same d f) (or-lt 32 (getD rows d 0) mark (r .small d l) mark-lt)
+    small′ : (d : ℕ) → d < 12 → (t : Bool) → eqb at d ≡ t → getD (set rows at v) d 0 < 2 ^ w
+    small′ d l true f = rw (same d f) (or-lt w (getD rows d 0) mark (r .small d l) mark-lt)
     small′ d l false f = rw (other d f) (r .small d l)
 
-    bits′ : (d : ℕ) → d < 12 → (q : ℕ) → q < 32 → (t : Bool) → eqb at d ≡ t → bit (getD (set rows at v) d 0) q ≡ rowBit theme (i + 1) d q
+    bits′ : (d : ℕ) → d < 12 → (q : ℕ) → q < w → (t : Bool) → eqb at d ≡ t → bit (getD (set rows at v) d 0) q ≡ rowBit theme (i + 1) d q
     bits′ d l q m true f =
         let g : here (eqb (themeInterval theme i .0) d) ≡ 1 = ap here (ap (λ (n : ℕ). eqb n d) (sym e) ∙ f) in
         ap (λ (x : ℕ). bit x q) (same d f)
@@ -163,21 +163,21 @@ pow-or : (d s : ℕ) → s < 2 ^ d → 2 ^ d + s ≡ bitOr s (2 ^ d)
 pow-or d s l =
     sym (or-comm s (2 ^ d) ∙ ap (λ (n : ℕ). bitOr n s) (sym (one-mul (2 ^ d))) ∙ or-shifted 1 d s l ∙ ap (λ (n : ℕ). n + s) (one-mul (2 ^ d)))
 
-pub rows-above : {theme : List ℕ} {i mark : ℕ} {rows : List ℕ} → Rows theme i mark rows → length theme - 1 ≤ i
-    → (d s : ℕ) → d < 12 → s < 2 ^ d → word theme (2 ^ d + s) ≡ bitOr (word theme s) (getD rows d 0)
-rows-above {theme} {i} {mark} {rows} r h d s l m =
-    bit-ext 32 (word theme (2 ^ d + s)) (bitOr (word theme s) (getD rows d 0)) (word-lt theme (2 ^ d + s))
-    (or-lt 32 (word theme s) (getD rows d 0) (word-lt theme s) (r .small d l))
+pub rows-above : {w : ℕ} {theme : List ℕ} {i mark : ℕ} {rows : List ℕ} → Rows w theme i mark rows → length theme - 1 ≤ i
+    → (d s : ℕ) → d < 12 → s < 2 ^ d → word w theme (2 ^ d + s) ≡ bitOr (word w theme s) (getD rows d 0)
+rows-above {w} {theme} {i} {mark} {rows} r h d s l m =
+    bit-ext w (word w theme (2 ^ d + s)) (bitOr (word w theme s) (getD rows d 0)) (word-lt w theme (2 ^ d + s))
+    (or-lt w (word w theme s) (getD rows d 0) (word-lt w theme s) (r .small d l))
     (λ q k. pick q k (decLe (q + 2) (length theme)))
   where
-    pick : (q : ℕ) → q < 32 → Dec (q + 2 ≤ length theme) → bit (word theme (2 ^ d + s)) q ≡ bit (bitOr (word theme s) (getD rows d 0)) q
+    pick : (q : ℕ) → q < w → Dec (q + 2 ≤ length theme) → bit (word w theme (2 ^ d + s)) q ≡ bit (bitOr (word w theme s) (getD rows d 0)) q
     pick q k (yes n) =
         let t = themeInterval theme q .0 in
         let up : bit (2 ^ d + s) t ≡ max (bit s t) (here (eqb t d)) =
         ap (λ (x : ℕ). bit x t) (pow-or d s m) ∙ bit-or s (2 ^ d) t ∙ ap (max (bit s t)) (pow-bit d t) in
         let row : bit (getD rows d 0) q ≡ here (eqb t d) =
         r .bits d l q k ∙ ap (λ (b : Bool). cond b (here (eqb t d)) 0) (lt-ltb q i (omega (arith, r .within))) in
-        omega (arith, word-in theme (2 ^ d + s) q k n, word-in theme s q k n, up, row, bit-or (word theme s) (getD rows d 0) q)
+        omega (arith, word-in w theme (2 ^ d + s) q k n, word-in w theme s q k n, up, row, bit-or (word w theme s) (getD rows d 0) q)
     pick q k (no n) =
         let g : length theme < q + 2 = omega arith in
-        omega (arith, word-out theme (2 ^ d + s) q k g, word-out theme s q k g, bit-or (word theme s) (getD rows d 0) q, bit-lt (getD rows d 0) q)
+        omega (arith, word-out w theme (2 ^ d + s) q k g, word-out w theme s q k g, bit-or (word w theme s) (getD rows d 0) q, bit-lt (getD rows d 0) q)

@@ -19,7 +19,7 @@ use Rattle.asking.specs.Way.{rangeOf}
 use Rattle.asking.specs.Bookmarks.{keyOf, finishedBookmark}
 use Rattle.asking.specs.Asking.{InRange, PlainAsks, QuickAsks}
 use Rattle.asking.proofs.Rows.{plain-clear, quick-clear}
-use Rattle.filter.specs.Table.{themeTable}
+use Rattle.filter.specs.Table.{wordBits, themeTable}
 use Rattle.paging.specs.declared.page.Page.{Page}
 use Rattle.paging.specs.declared.page.Page.the-variants.{Turned, Refused}
 use Rattle.paging.specs.Lent.{Lent, lent, Room, written}
@@ -104,7 +104,7 @@ module _ (cells : List ℕ) (h : ℕ) (theme : List ℕ) (way : Way) (b : Bookma
   unfolding quickPage quickTable quickStarts
   quick-away l =
       record {
-        pages = search-away (rowsOfQuick cells h theme way b sets table (lent columns shifts)) way (scoreOf cells h) theme (quickStarts way (scoreOf cells h) theme (themeTable theme) sets) b columns shifts (l .finds);
+        pages = search-away (rowsOfQuick cells h theme way b sets table (lent columns shifts)) way (scoreOf cells h) theme (quickStarts wordBits way (scoreOf cells h) theme (themeTable wordBits theme) sets) b columns shifts (l .finds);
         fills-table = l .fills-table;
       }
 
@@ -123,7 +123,7 @@ module _ (cells : List ℕ) (h : ℕ) (theme : List ℕ) (way : Way) (b : Bookma
         let asks = asked-quick .plain in
         record {
           pages =
-              search-turns (rowsOfQuick cells h theme way b sets table (lent columns shifts)) way (scoreOf cells h) theme (quickStarts way (scoreOf cells h) theme (themeTable theme) sets) b columns shifts (asks .room) (asks .same-room)
-              (left-quick way (scoreOf cells h) theme b (rw (score-length cells h) (asks .marked)) (themeTable theme) sets) (l .finds) (e ∙ sym (score-length cells h)) r;
+              search-turns (rowsOfQuick cells h theme way b sets table (lent columns shifts)) way (scoreOf cells h) theme (quickStarts wordBits way (scoreOf cells h) theme (themeTable wordBits theme) sets) b columns shifts (asks .room) (asks .same-room)
+              (left-quick way (scoreOf cells h) theme b (rw (score-length cells h) (asks .marked)) wordBits (themeTable wordBits theme) sets) (l .finds) (e ∙ sym (score-length cells h)) r;
           fills-table = l .fills-table;
         }

@@ -15,9 +15,10 @@ use Rattle.theory.specs.Register.{step, regFrom}
 use Rattle.theory.proofs.Register.{regFrom-register, regFrom-turn}
 use Rattle.walking.specs.Candidates.{candidate}
 use Rattle.walking.specs.Scan.{entryWord, Runs, Seeks}
+use Rattle.filter.specs.Table.{wordBits}
 
 pub regFrom-candidate : (table sets : List ℕ) (m j₀ j : ℕ) → 2 ≤ m → m ≤ 32 → 1 ≤ j₀ → j₀ ≤ j
-    → eqb (bit (regFrom 32 (entryWord table sets) (j₀ - 1) (j + m - 2)) (m - 2)) 0 ≡ candidate table sets m j
+    → eqb (bit (regFrom 32 (entryWord table sets) (j₀ - 1) (j + m - 2)) (m - 2)) 0 ≡ candidate wordBits table sets m j
 unfolding candidate
 regFrom-candidate table sets m j₀ j low high first on =
     ap (λ (b : ℕ). eqb b 0) (regFrom-register 32 (entryWord table sets) (j₀ - 1) (m - 2) (j + m - 2) (omega arith) (omega arith))

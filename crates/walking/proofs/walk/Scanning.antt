@@ -14,6 +14,7 @@ use Rattle.theory.specs.Pages.{from}
 use Rattle.theory.specs.Register.{regFrom}
 use Rattle.score.specs.Score.{columnsIn, scoreOf}
 use Rattle.asking.specs.declared.way.Way.{Way}
+use Rattle.filter.specs.Table.{wordBits}
 use Rattle.walking.specs.Starts.{key, starts}
 use Rattle.walking.specs.Candidates.{candidate}
 use Rattle.walking.specs.Scan.{entryWord, Runs, Seeks, keepOf, Filters, Comes}
@@ -33,7 +34,7 @@ module _ (way : Way) (score : List (List ℕ)) (theme : List ℕ) (j x : ℕ) (t
   unfolding quickStarts
   kept-reached true = hits-all (from key (j * 256 + x) (starts way score theme))
   kept-reached false =
-      sym (from-hits key (λ s. candidate table sets (length theme) (s .column)) 256 (j * 256 + x) (starts way score theme) (starts-rising way score theme))
+      sym (from-hits key (λ s. candidate wordBits table sets (length theme) (s .column)) 256 (j * 256 + x) (starts way score theme) (starts-rising way score theme))
 
 -- ---- the column that comes next
 

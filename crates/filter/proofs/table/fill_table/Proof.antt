@@ -4,23 +4,23 @@ use borrow.Author.Needs.{needs}
 use mathlib.Core.Path.{sym, _∙_}
 use Prim.Native.Nat.{_-_}
 use Rattle.theory.proofs.Masks.{one-shl}
-use Rattle.filter.specs.Table.{word, themeTable}
+use Rattle.filter.specs.Table.{wordBits, word, themeTable}
 use Rattle.filter.proofs.Words.{after-none, after-other, after-filled}
 use Rattle.filter.proofs.table.Doubling.{Filled, filled-first, filled-room, filled-twice, filled-all}
 use Rattle.filter.proofs.table.fill_table.Statement.{statement}
 use Rattle.filter.proofs.table.fill_table.Tie as tie
 
 abbrev Inv-loop : tie.InvT-loop
-Inv-loop theme table₀ rows d₀ table d = Filled (word theme) table d
+Inv-loop theme table₀ rows d₀ table d = Filled (word wordBits theme) table d
 
 abbrev μ-loop : tie.MeasureT-loop
 μ-loop theme table₀ rows d₀ table d = 12 - d
 
 returns : tie.Need-returns Inv-loop μ-loop
-returns c = sym (after-none (c .before .before .before .args .theme .now) _ (c .if1 .taken))
+returns c = sym (after-none wordBits (c .before .before .before .args .theme .now) _ (c .if1 .taken))
 
 returns-2 : tie.Need-returns-2 Inv-loop μ-loop
-returns-2 c = sym (after-other (c .before .before .before .before .args .theme .now) _ (c .if2 .taken))
+returns-2 c = sym (after-other wordBits (c .before .before .before .before .args .theme .now) _ (c .if2 .taken))
 
 rows-of-requires : tie.Need-rows-of-requires Inv-loop μ-loop
 rows-of-requires c κs = search needs
@@ -65,7 +65,7 @@ same-length c = c .before .loop .inv .long ∙ sym (c .before .before .before .b
 returns-3 : tie.Need-returns-3 Inv-loop μ-loop
 unfolding themeTable
 returns-3 c =
-    filled-all (c .before .loop .inv) (search needs) ∙ sym (after-filled _ _ (c .before .before .before .before .before .if1 .left) (c .before .before .before .before .if2 .left))
+    filled-all (c .before .loop .inv) (search needs) ∙ sym (after-filled wordBits _ _ (c .before .before .before .before .before .if1 .left) (c .before .before .before .before .if2 .left))
 
 pub fill-table-spec : {M : Type 1} → statement M
 fill-table-spec =

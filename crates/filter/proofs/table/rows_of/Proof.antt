@@ -5,12 +5,13 @@ use mathlib.Core.Path.{ap}
 use Prim.Native.Nat.{_-_}
 use native.Mathlib.Omega.{arith}
 use Rattle.score.specs.declared.quantities.Interval.{Interval}
+use Rattle.filter.specs.Table.{wordBits}
 use Rattle.filter.proofs.table.Laws.{Rows, rows-start, rows-more, rows-above}
 use Rattle.filter.proofs.table.rows_of.Statement.{statement}
 use Rattle.filter.proofs.table.rows_of.Tie as tie
 
 abbrev Inv-loop : tie.InvT-loop
-Inv-loop theme rows₀ mark₀ intervals i₀ rows mark i = Rows theme i mark rows
+Inv-loop theme rows₀ mark₀ intervals i₀ rows mark i = Rows wordBits theme i mark rows
 
 abbrev μ-loop : tie.MeasureT-loop
 μ-loop theme rows₀ mark₀ intervals i₀ rows mark i = intervals - i
@@ -19,7 +20,7 @@ sub-intervals : tie.Need-sub-intervals Inv-loop μ-loop
 sub-intervals c = search needs
 
 loop-holds : tie.Need-loop-holds Inv-loop μ-loop
-loop-holds c = rows-start _ (c .before .pre)
+loop-holds c = rows-start wordBits _ (omega arith) (c .before .pre)
 
 shared-slice-read-note : tie.Need-shared-slice-read-note Inv-loop μ-loop
 shared-slice-read-note c = search needs

@@ -1,6 +1,7 @@
 -- `second::totals::apart` meets its contract: it is safe and ends. Assumes nothing.
 use borrow.Author.Needs.{needs}
-use Rattle.second.proofs.Signs.{bytes-fit, shift-fits, apart-fits}
+use Rattle.second.proofs.Signs.{bytes-fit, apart-fits}
+use Rattle.theory.proofs.Signed.{read-wide-fits}
 use Rattle.second.proofs.totals.apart.Statement.{statement}
 use Rattle.second.proofs.totals.apart.Tie as tie
 
@@ -14,7 +15,7 @@ sub-result : tie.Need-sub-result
 sub-result c = bytes-fit _ _ (c .fits .t) (c .fits .p)
 
 cast-result-3 : tie.Need-cast-result-3
-cast-result-3 c = shift-fits _ (c .fits .c)
+cast-result-3 c = read-wide-fits _ (c .fits .c)
 
 sub-result-2 : tie.Need-sub-result-2
 sub-result-2 c = apart-fits _ _ _ (c .fits .t) (c .fits .p) (c .fits .c)

@@ -1,12 +1,13 @@
 -- `telling::writing::size_of` meets its contract. Assumes nothing.
 use mathlib.Core.Path.{ap}
 use lib.IntN.{natAbs}
-use Rattle.telling.proofs.Sizes.{narrow-fits, turned-fits, turned-cast, turned-is, kept-cast, kept-is}
+use Rattle.theory.proofs.Signed.{read-wide-fits}
+use Rattle.telling.proofs.Sizes.{turned-fits, turned-cast, turned-is, kept-cast, kept-is}
 use Rattle.telling.proofs.writing.size_of.Statement.{statement}
 use Rattle.telling.proofs.writing.size_of.Tie as tie
 
 cast-wide : tie.Need-cast-wide
-cast-wide c = narrow-fits _ (c .fits .shift)
+cast-wide c = read-wide-fits _ (c .fits .shift)
 
 sub-result : tie.Need-sub-result
 sub-result c = turned-fits _ (c .before .fits .shift) (c .if1 .taken)

@@ -11,6 +11,7 @@ use Rattle.asking.specs.Way.{codeOf}
 use Rattle.asking.specs.Codes.{codeGiven}
 use Rattle.asking.proofs.Coding.{code-given}
 use Rattle.asking.proofs.Rows.{quick-clear}
+use Rattle.filter.specs.Table.{wordBits}
 use Rattle.filter.proofs.Words.{table-length, after-filled}
 use Rattle.walking.proofs.Answers.{accepted-ready, accepted-lent, finds-away, finds-done, plain-begins, quick-asks, table-kept, table-filled}
 use Rattle.walking.proofs.ring.Laws.{cached-none}
@@ -54,8 +55,8 @@ walk-requires c κs =
     let a = e .before .before .before .before .before .before .before .before .args in
     let q = quick-asks (a .cells .now) (a .tracks) (a .theme .now) (a .way) (a .bookmark) (a .sets .now) (a .table .now) (a .columns .now) (a .shifts .now) (e .before .before .check-quick .ensures) (e .enum-told .given .1) in
     let k : c .before .before .before .before .before .before .before .before .code-of .result ≡ codeOf (a .way) (a .bookmark .shift) = c .before .before .before .before .before .before .before .before .code-of .ensures ∙ ap (codeGiven (a .way)) (read (c .before .before .before .before .before .before .before .before .before)) ∙ code-given (a .way) (a .bookmark .shift) (q .plain .marked .not-below) (q .plain .marked .not-above) in
-    let f = c .before .before .before .before .before .before .fill-table .ensures ∙ after-filled (a .theme .now) (a .table .now) (λ z. omega (arith, q .plain .accepted .notes-some)) (q .table-long) in
-    (accepted-ready (q .plain .accepted), (accepted-lent (q .with-sets) (ap length f ∙ table-length (a .theme .now)), (plain-begins _ _ _ _ _ _ _ (q .plain) _ k, cached-none (a .way) (a .cells .now) (a .tracks))))
+    let f = c .before .before .before .before .before .before .fill-table .ensures ∙ after-filled wordBits (a .theme .now) (a .table .now) (λ z. omega (arith, q .plain .accepted .notes-some)) (q .table-long) in
+    (accepted-ready (q .plain .accepted), (accepted-lent (q .with-sets) (ap length f ∙ table-length wordBits (a .theme .now)), (plain-begins _ _ _ _ _ _ _ (q .plain) _ k, cached-none (a .way) (a .cells .now) (a .tracks))))
 
 same-length : tie.Need-same-length
 same-length c = search needs
@@ -72,7 +73,7 @@ returns-2 c =
     let a = e .before .before .before .before .before .before .before .before .args in
     let q = quick-asks (a .cells .now) (a .tracks) (a .theme .now) (a .way) (a .bookmark) (a .sets .now) (a .table .now) (a .columns .now) (a .shifts .now) (e .before .before .check-quick .ensures) (e .enum-told .given .1) in
     let k : c .before .before .before .before .before .before .before .before .before .before .before .before .before .code-of .result ≡ codeOf (a .way) (a .bookmark .shift) = c .before .before .before .before .before .before .before .before .before .before .before .before .before .code-of .ensures ∙ ap (codeGiven (a .way)) (read (c .before .before .before .before .before .before .before .before .before .before .before .before .before .before)) ∙ code-given (a .way) (a .bookmark .shift) (q .plain .marked .not-below) (q .plain .marked .not-above) in
-    let f = c .before .before .before .before .before .before .before .before .before .before .before .fill-table .ensures ∙ after-filled (a .theme .now) (a .table .now) (λ z. omega (arith, q .plain .accepted .notes-some)) (q .table-long) in
+    let f = c .before .before .before .before .before .before .before .before .before .before .before .fill-table .ensures ∙ after-filled wordBits (a .theme .now) (a .table .now) (λ z. omega (arith, q .plain .accepted .notes-some)) (q .table-long) in
     let z = quick-clear (a .cells .now) (a .tracks) (a .theme .now) (a .way) (a .bookmark) (a .sets .now) (a .table .now) (a .columns .now) (a .shifts .now) .0 q in
     record {
       finds = finds-done _ _ _ _ _ _ _ _ z (rw (k, f) at (c .before .before .before .before .walk .ensures));
