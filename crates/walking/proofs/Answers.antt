@@ -32,7 +32,8 @@ use Rattle.asking.proofs.Rows.{plain-clear, quick-clear}
 use Rattle.asking.specs.Codes.{codeGiven}
 use Rattle.asking.proofs.Shifts.{code-le}
 use Rattle.asking.proofs.Coding.{code-given}
-use Rattle.filter.specs.Table.{wordBits, themeTable}
+use Rattle.filter.specs.Limits.{wordBits}
+use Rattle.filter.specs.Table.{themeTable}
 use Rattle.walking.specs.declared.walked.Walked.{Walked}
 use Rattle.walking.specs.declared.calls.Walk.{Walk}
 use Rattle.walking.specs.declared.calls.Walk.the-variants.{Done, Refused}

@@ -15,6 +15,8 @@ use Rattle.theory.specs.Pages.{hits, pageLooks, from}
 use Rattle.theory.proofs.Counts.{hits-some, count-once}
 use Rattle.theory.proofs.Looks.{sum-le, sum-hits, page-from-le}
 use Rattle.score.specs.declared.quantities.Pitch.{Pitch}
+use Rattle.score.specs.Limits.{mostTracks, mostColumns}
+use Rattle.asking.specs.Limits.{mostNotes}
 use Rattle.score.specs.Score.{pitch, pitches, columnAt, onward}
 use Rattle.asking.specs.declared.way.Way.{Way}
 use Rattle.asking.specs.declared.way.Way.the-variants.{Exact, Octave}
@@ -87,16 +89,16 @@ pub starts-le : (way : Way) (score : List (List ℕ)) (theme : List ℕ) (h : �
 starts-le way score theme h w = startsIn-le way (note theme 1) (length theme) 1 h score w
 
 -- within the limits such a product is below 2 ^ 32
-pub most-lt : (n h m : ℕ) → n ≤ 2048 → h ≤ 16 → 2 ≤ m → m ≤ 32 → (n + 1 - m) * h * (m - 1) < 2 ^ 32
+pub most-lt : (n h m : ℕ) → n ≤ mostColumns → h ≤ mostTracks → 2 ≤ m → m ≤ mostNotes → (n + 1 - m) * h * (m - 1) < 2 ^ 32
 most-lt n h m n≤ h≤ m≥ m≤ =
     omega (
       arith,
       mul-le-mul
           {n₁ = (n + 1 - m) * h}
           {m₁ = m - 1}
-          {n₂ = 2047 * 16}
-          {m₂ = 31}
-          (mul-le-mul {n₁ = n + 1 - m} {m₁ = h} {n₂ = 2047} {m₂ = 16} (omega arith) h≤)
+          {n₂ = (mostColumns - 1) * mostTracks}
+          {m₂ = mostNotes - 1}
+          (mul-le-mul {n₁ = n + 1 - m} {m₁ = h} {n₂ = mostColumns - 1} {m₂ = mostTracks} (omega arith) h≤)
           (omega arith),
     )
 

@@ -14,7 +14,8 @@ use Rattle.asking.specs.declared.bookmark.Bookmark.{Bookmark}
 use Rattle.asking.specs.Way.{shiftOf}
 use Rattle.asking.specs.Bookmarks.{keyOf}
 use Rattle.asking.specs.Refusals.{plainRows, quickRows}
-use Rattle.filter.specs.Table.{wordBits, themeTable}
+use Rattle.filter.specs.Limits.{wordBits}
+use Rattle.filter.specs.Table.{themeTable}
 use Rattle.walking.specs.declared.calls.Walk.{Walk}
 use Rattle.walking.specs.declared.calls.Walk.the-variants.{Done, Refused}
 use Rattle.walking.specs.Starts.{Place, key, starts, hit, looks}

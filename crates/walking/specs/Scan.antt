@@ -7,7 +7,7 @@ use lib.ListN.{length, getD}
 use Rattle.theory.specs.Lists.{count, over}
 use Rattle.theory.specs.Pages.{hits}
 use Rattle.theory.specs.Register.{regFrom}
-use Rattle.filter.specs.Table.{wordBits}
+use Rattle.filter.specs.Limits.{wordBits}
 use Rattle.walking.specs.Candidates.{candidate}
 
 -- the table's word for entry k of the sets, from 0

@@ -17,7 +17,7 @@ use Rattle.asking.specs.declared.way.Way.the-variants.{Exact, Octave}
 use Rattle.asking.specs.declared.bookmark.Bookmark.{Bookmark}
 use Rattle.asking.specs.Way.{span, holds}
 use Rattle.asking.specs.Bookmarks.{keyOf}
-use Rattle.filter.specs.Table.{wordBits}
+use Rattle.filter.specs.Limits.{wordBits}
 use Rattle.score.specs.Score.{note}
 use Rattle.walking.specs.declared.walked.Spot.{Spot}
 use Rattle.walking.specs.declared.walked.Walked.{Walked}

@@ -13,13 +13,12 @@ use Rattle.theory.specs.Lists.{count, over}
 use Rattle.theory.specs.Pages.{hits}
 use Rattle.theory.specs.Bits.{bit}
 use Rattle.theory.specs.Register.{step, regFrom}
-use Rattle.theory.proofs.Lists.{count-length, over-more, over-length}
+use Rattle.theory.proofs.Lists.{count-length, count-append, over-more, over-length}
 use Rattle.theory.proofs.Pages.{hits-le, hits-append}
 use Rattle.theory.proofs.Register.{regFrom-register, regFrom-turn}
-use Rattle.filter.specs.Table.{wordBits}
+use Rattle.filter.specs.Limits.{wordBits}
 use Rattle.walking.specs.Candidates.{candidate}
 use Rattle.walking.specs.Scan.{entryWord, Runs, Filters, ListsCandidates}
-use Rattle.walking.proofs.walk.Along.{count-append}
 
 pub regFrom-candidate : (table sets : List ℕ) (m j₀ j : ℕ) → 2 ≤ m → m ≤ 32 → 1 ≤ j₀ → j₀ ≤ j
     → eqb (bit (regFrom 32 (entryWord table sets) (j₀ - 1) (j + m - 2)) (m - 2)) 0 ≡ candidate wordBits table sets m j

@@ -12,7 +12,7 @@ use lib.Seq.{drop-cons}
 use borrow.Author.Tests.{le-leb, lt-leb, ltb-false, ne-eqb, eq-eqb}
 use Rattle.theory.specs.Lists.{count, over}
 use Rattle.theory.specs.Pages.{hits, Rising, from}
-use Rattle.theory.proofs.Lists.{count-length, over-more, over-length}
+use Rattle.theory.proofs.Lists.{count-length, over-more, over-length, count-append}
 use Rattle.theory.proofs.Pages.{hits-append}
 use Rattle.theory.proofs.Bookmarks.{Below, none, one, below-up, from-past, from-all, rising-append}
 use Rattle.theory.proofs.Members.{in-count, in-hits, rising-count, rising-hits, rising-map, rising-add}
@@ -26,14 +26,6 @@ use Rattle.walking.specs.Walk.{Fits, columnStarts, listStarts}
 use Rattle.walking.proofs.Order.{span-lt, rising-startsIn}
 
 -- ---- lists
-
--- the numbers from a on, in two parts
-pub count-append : (a m n : ℕ) → count a (m + n) ≡ count a m ++ count (a + m) n
-count-append a zero n = let e : 0 + n ≡ n = omega arith in let g : a + 0 ≡ a = omega arith in rw (e, g)
-count-append a (suc m) n =
-    let e : suc m + n ≡ suc (m + n) = omega arith in
-    let g : a + suc m ≡ suc a + m = omega arith in
-    rw (e, g, count-append (suc a) m n)
 
 -- numbers written in front of a list, one more at a time
 pub record Counted (first : ℕ) (list₀ list : List ℕ) (i : ℕ) : Type 0 where

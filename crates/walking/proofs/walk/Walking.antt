@@ -22,7 +22,7 @@ use Rattle.score.proofs.Columns.{column-le, score-length}
 use Rattle.asking.specs.declared.way.Way.{Way}
 use Rattle.asking.specs.Way.{span}
 use Rattle.walking.specs.Starts.{Place, key, starts, hit, looks}
-use Rattle.filter.specs.Table.{wordBits}
+use Rattle.filter.specs.Limits.{wordBits}
 use Rattle.walking.specs.Candidates.{candidate, quickStarts}
 use Rattle.walking.specs.Scan.{ListsCandidates}
 use Rattle.walking.specs.Walk.{Ready, Fits, listStarts, ListsEvery, Tries, Along, Walks}

@@ -5,7 +5,7 @@ use borrow.Author.Tests.{eqb-true}
 use mathlib.Core.Path.{_≡_, sym, subst, _∙_}
 use mathlib.Core.Logic.{⊎-elim}
 use native.Mathlib.Omega.{arith}
-use Rattle.masks.proofs.Halves.{Halves, value-few-ones, value-ones}
+use Rattle.masks.proofs.Halves.{Halves, value-ones-le, value-ones}
 use Rattle.walking.specs.Alive.{Cached}
 use Rattle.walking.proofs.alive.Laws.{both-left}
 use Rattle.walking.proofs.alive.AtOnce.{at-once}
@@ -30,12 +30,12 @@ follow-requires c κs = let s = c .before .before .before .before .before .befor
 add-hits : tie.Need-add-hits
 add-hits c =
     let w = c .before .before .before .before .before .follow .result .word in
-    omega (arith, value-few-ones (w .low) (w .high) (record { lower = omega arith; upper = omega arith }))
+    omega (arith, value-ones-le (w .low) (w .high) (record { lower = omega arith; upper = omega arith }))
 
 cast-if2 : tie.Need-cast-if2
 cast-if2 c =
     let w = c .before .before .before .before .before .follow .result .word in
-    omega (arith, value-few-ones (w .low) (w .high) (record { lower = omega arith; upper = omega arith }))
+    omega (arith, value-ones-le (w .low) (w .high) (record { lower = omega arith; upper = omega arith }))
 
 sub-if2 : tie.Need-sub-if2
 sub-if2 c = search needs

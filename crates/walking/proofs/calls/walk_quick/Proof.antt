@@ -6,7 +6,8 @@ use native.Mathlib.Omega.{arith}
 use lib.ListN.{length}
 use Rattle.asking.specs.Asking.{QuickAsks}
 use Rattle.asking.proofs.Rows.{quick-clear}
-use Rattle.filter.specs.Table.{wordBits, themeTable, tableAfter}
+use Rattle.filter.specs.Limits.{wordBits}
+use Rattle.filter.specs.Table.{themeTable, tableAfter}
 use Rattle.filter.proofs.Words.{table-length, after-filled}
 use Rattle.walking.proofs.Answers.{finds-away, finds-done, quick-asks, table-kept, table-filled}
 use Rattle.walking.proofs.calls.walk_quick.Statement.{statement}

@@ -14,7 +14,7 @@ use Rattle.score.specs.Score.{columnsIn, scoreOf}
 use Rattle.asking.specs.Way.{span, codeOf}
 use Rattle.asking.specs.Codes.{codeGiven}
 use Rattle.walking.specs.Starts.{key, starts}
-use Rattle.filter.specs.Table.{wordBits}
+use Rattle.filter.specs.Limits.{wordBits}
 use Rattle.walking.specs.Candidates.{candidate, quickStarts}
 use Rattle.walking.specs.Scan.{Filters}
 use Rattle.walking.specs.Walk.{Ready}
