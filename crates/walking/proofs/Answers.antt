@@ -127,9 +127,15 @@ module _ (rows : List Row) (way : Way) (score : List (List ℕ)) (theme : List �
   pub finds-away : {v : Verdict} {e : Refusal} → v ≡ verdict rows → v ≡ Away e → Finds rows way score theme reached b columns shifts (Refused e) columns shifts
   finds-away {e = e} a v =
       let r : verdict rows ≡ Away e = sym a ∙ v in
-      record { answers = sym (judge-away Refused done rows r); writes-columns = sym (judge-away (λ r. columns) _ rows r); writes-shifts = sym (judge-away (λ r. shifts) _ rows r) }
+      record {
+        answers = sym (judge-away Refused done rows r);
+        writes-columns = sym (judge-away (λ r. columns)
+            _ rows r);
+        writes-shifts = sym (judge-away (λ r. shifts) _ rows r);
+      }
 
-  pub finds-done : Clear rows → {w : Walked} {columns′ : List ℕ} {shifts′ : List ℤ} → Went w columns′ shifts′ → Finds rows way score theme reached b columns shifts (Done w) columns′ shifts′
+  pub finds-done : Clear rows → {w : Walked} {columns′ : List ℕ} {shifts′ : List ℤ} → Went w columns′ shifts′
+      → Finds rows way score theme reached b columns shifts (Done w) columns′ shifts′
   finds-done c {w} l =
       let d : Done w ≡ done = ap₂ (λ (n k : ℕ). Done (record { found = n; looks = k })) (l .count) (l .costs) in
       record {
@@ -140,9 +146,12 @@ module _ (rows : List Row) (way : Way) (score : List (List ℕ)) (theme : List �
 
   module _ {columns′ : List ℕ} {shifts′ : List ℤ} where
     -- what an answer tells
-    pub finds-refused : {e : Refusal} → Finds rows way score theme reached b columns shifts (Refused e) columns′ shifts′ → (verdict rows ≡ Away e) × (columns′ ≡ columns) × (shifts′ ≡ shifts)
+    pub finds-refused : {e : Refusal} → Finds rows way score theme reached b columns shifts (Refused e) columns′ shifts′ → (verdict rows ≡ Away e)
+        × (columns′ ≡ columns) × (shifts′ ≡ shifts)
     finds-refused {e} l =
-        let r : verdict rows ≡ Away e = judge-both (λ x v. Refused e ≡ x → v ≡ Away e) Refused Away done Passed (λ r a. ap Away (sym (refused-same a))) (λ a. absurd (done-refused (sym a))) rows (l .answers) in
+        let r : verdict rows ≡ Away e =
+        judge-both (λ x v. Refused e ≡ x → v ≡ Away e) Refused Away done Passed (λ r a. ap Away (sym (refused-same a)))
+        (λ a. absurd (done-refused (sym a))) rows (l .answers) in
         (r, l .writes-columns ∙ judge-away (λ r. columns) _ rows r, l .writes-shifts ∙ judge-away (λ r. shifts) _ rows r)
 
     module _ {w : Walked} (l : Finds rows way score theme reached b columns shifts (Done w) columns′ shifts′) where
@@ -171,7 +180,8 @@ module _ (cells : List ℕ) (h : ℕ) (theme : List ℕ) (way : Way) (b : Bookma
   plain-asks a v = plain-clear cells h theme way b columns shifts .1 (accepted-clear (plainRows cells h theme way b columns shifts) (sym a ∙ v))
 
   -- the code at which a walk begins
-  pub plain-code : PlainAsks cells h theme way b columns shifts → (code : ℕ) → code ≡ codeGiven way (b .shift) → (code ≡ codeOf way (b .shift)) × (code ≤ span way)
+  pub plain-code : PlainAsks cells h theme way b columns shifts → (code : ℕ) → code ≡ codeGiven way (b .shift) → (code ≡ codeOf way (b .shift))
+      × (code ≤ span way)
   plain-code a code e =
       let k : code ≡ codeOf way (b .shift) = e ∙ code-given way (b .shift) (a .marked .not-below) (a .marked .not-above) in
       (k, rw k (code-le way (b .shift) (a .marked .not-below) (a .marked .not-above)))

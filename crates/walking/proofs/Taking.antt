@@ -71,7 +71,8 @@ module _ (way : Way) (score : List (List ℕ)) (theme : List ℕ) (whole : List 
                 (sets-append (columnsOf (t .out)) columns₀ found at (columnsOf tried) (t .counted ∙ ap (λ (i : ℕ). found + i) (sym (length-map (t .out) _))));
             in-shifts =
                 (rw (t .long) at (tries .in-shifts)) ∙ rw (t .in-shifts, map-append)
-                (sets-append (shiftsOf way (t .out)) shifts₀ found at (shiftsOf way tried) (t .counted ∙ ap (λ (i : ℕ). found + i) (sym (length-map (t .out) _))));
+                (sets-append (shiftsOf way (t .out)) shifts₀ found at (shiftsOf way tried)
+                (t .counted ∙ ap (λ (i : ℕ). found + i) (sym (length-map (t .out) _))));
             long = (simp length-sets at (ap length (tries .in-columns))) ∙ t .long;
             long-shifts = (simp length-sets at (ap length (tries .in-shifts))) ∙ t .long-shifts;
             room = omega (arith, count, few, t .room);
@@ -80,7 +81,8 @@ module _ (way : Way) (score : List (List ℕ)) (theme : List ℕ) (whole : List 
     module _ (rest : List Place) (t : Taking way score theme whole found columns₀ shifts₀ columns shifts rest at spent) where
       done : Made (hit way score theme) (looks way score theme) (length columns₀ - found) whole (t .out) spent
           → Tries way score theme whole found columns₀ shifts₀ at spent columns shifts
-      done g = record { count = rw (g .got) (t .counted); costs = sym (g .paid); in-columns = rw (g .got) (t .in-columns); in-shifts = rw (g .got) (t .in-shifts) }
+      done g =
+          record { count = rw (g .got) (t .counted); costs = sym (g .paid); in-columns = rw (g .got) (t .in-columns); in-shifts = rw (g .got) (t .in-shifts) }
 
       -- no start is left, or no room
       pub take-end : rest ≡ [] → Tries way score theme whole found columns₀ shifts₀ at spent columns shifts
@@ -97,8 +99,10 @@ module _ (way : Way) (score : List (List ℕ)) (theme : List ℕ) (whole : List 
       take-over true none stop = take-full (ltb-false at (length columns) stop)
 
 -- what is tried from the first place on is a walk
-pub tries-walks : (way : Way) (score : List (List ℕ)) (theme : List ℕ) (whole : List Place) (columns : List ℕ) (shifts : List ℤ) (found spent : ℕ) (columns′ : List ℕ) (shifts′ : List ℤ)
-    → length shifts ≡ length columns → Tries way score theme whole 0 columns shifts found spent columns′ shifts′ → Walks way score theme whole columns shifts found spent columns′ shifts′
+pub tries-walks : (way : Way) (score : List (List ℕ)) (theme : List ℕ) (whole : List Place) (columns : List ℕ) (shifts : List ℤ) (found spent : ℕ)
+    (columns′ : List ℕ) (shifts′ : List ℤ)
+    → length shifts ≡ length columns → Tries way score theme whole 0 columns shifts found spent columns′ shifts′
+    → Walks way score theme whole columns shifts found spent columns′ shifts′
 tries-walks way score theme whole columns shifts found spent columns′ shifts′ same t =
     let z : length columns - 0 ≡ length columns = omega arith in
     let tried : List Place = pageHits (hit way score theme) (length columns) whole in
@@ -107,5 +111,7 @@ tries-walks way score theme whole columns shifts found spent columns′ shifts�
       count = (rw z at (t .count)) ∙ omega arith;
       costs = rw z at (t .costs);
       in-columns = (rw z at (t .in-columns)) ∙ over-sets columns [] 0 (columnsOf tried) 0 refl (omega (arith, length-map tried (λ s. s .column), few));
-      in-shifts = (rw z at (t .in-shifts)) ∙ over-sets shifts [] (pos 0) (shiftsOf way tried) 0 refl (omega (arith, same, length-map tried (λ s. shiftOf way (s .code)), few));
+      in-shifts =
+          (rw z at (t .in-shifts)) ∙ over-sets shifts [] (pos 0) (shiftsOf way tried) 0 refl
+          (omega (arith, same, length-map tried (λ s. shiftOf way (s .code)), few));
     }

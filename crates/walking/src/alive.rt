@@ -41,7 +41,8 @@ fn follow(cells: &[u8], h: usize, theme: &[u8], way: Way, column: Column, ring: 
     requires { ⌜ Ready (now cells) h (now theme) ⌝ }
     requires { ⌜ Fits (columnsIn (now cells) h) (length (now theme)) (column .0) ⌝ }
     requires { ⌜ Cached way (now cells) h (now ring) ⌝ }
-    ensures { λ r. ⌜ Followed way (scoreOf (now (cells .entry)) h) (now (theme .entry)) (column .0) (value (r .word .low) (r .word .high)) (r .looks) × Cached way (now (cells .entry)) h (now (ring .exit)) ⌝ }
+    ensures { λ r. ⌜ Followed way (scoreOf (now (cells .entry)) h) (now (theme .entry)) (column .0) (value (r .word .low) (r .word .high)) (r .looks)
+        × Cached way (now (cells .entry)) h (now (ring .exit)) ⌝ }
 {
     let j = column.0 as usize;
     let first = Pitch(theme[0]);
@@ -83,7 +84,8 @@ pub fn try_all(
     requires { ⌜ Ready (now cells) h (now theme) ⌝ }
     requires { ⌜ Stands way (columnsIn (now cells) h) (length (now theme)) spot (now columns) (now shifts) ⌝ }
     requires { ⌜ Cached way (now cells) h (now ring) ⌝ }
-    ensures { λ r. ⌜ TriesColumn way (now (cells .entry)) h (now (theme .entry)) spot (now (columns .entry)) (now (shifts .entry)) r (now (columns .exit)) (now (shifts .exit)) × Cached way (now (cells .entry)) h (now (ring .exit)) ⌝ }
+    ensures { λ r. ⌜ TriesColumn way (now (cells .entry)) h (now (theme .entry)) spot
+        (now (columns .entry)) (now (shifts .entry)) r (now (columns .exit)) (now (shifts .exit)) × Cached way (now (cells .entry)) h (now (ring .exit)) ⌝ }
 {
     if (spot.code == 0) & (h != 1) {
         let column = spot.column;

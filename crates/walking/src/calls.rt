@@ -29,7 +29,8 @@ pub fn walk_plain(
     columns: &mut [u16],
     shifts: &mut [i16],
 ) -> Walk
-    ensures { λ r. ⌜ PlainWalks (now (cells .entry)) tracks (now (theme .entry)) way bookmark (now (columns .entry)) (now (shifts .entry)) r (now (columns .exit)) (now (shifts .exit)) ⌝ }
+    ensures { λ r. ⌜ PlainWalks (now (cells .entry)) tracks (now (theme .entry)) way bookmark
+        (now (columns .entry)) (now (shifts .entry)) r (now (columns .exit)) (now (shifts .exit)) ⌝ }
 {
     if let Verdict::Refused(e) = check_plain(
         cells,
@@ -58,7 +59,8 @@ pub fn walk_quick(
     columns: &mut [u16],
     shifts: &mut [i16],
 ) -> Walk
-    ensures { λ r. ⌜ QuickWalks (now (cells .entry)) tracks (now (theme .entry)) way bookmark (now (sets .entry)) (now (table .entry)) (now (columns .entry)) (now (shifts .entry)) r (now (table .exit)) (now (columns .exit)) (now (shifts .exit)) ⌝ }
+    ensures { λ r. ⌜ QuickWalks (now (cells .entry)) tracks (now (theme .entry)) way bookmark (now (sets .entry)) (now (table .entry))
+        (now (columns .entry)) (now (shifts .entry)) r (now (table .exit)) (now (columns .exit)) (now (shifts .exit)) ⌝ }
 {
     if let Verdict::Refused(e) = check_quick(
         cells,

@@ -24,7 +24,8 @@ pub fn try_column(
 ) -> Walked
     requires { ⌜ Ready (now cells) h (now theme) ⌝ }
     requires { ⌜ Stands way (columnsIn (now cells) h) (length (now theme)) spot (now columns) (now shifts) ⌝ }
-    ensures { λ r. ⌜ TriesColumn way (now (cells .entry)) h (now (theme .entry)) spot (now (columns .entry)) (now (shifts .entry)) r (now (columns .exit)) (now (shifts .exit)) ⌝ }
+    ensures { λ r. ⌜ TriesColumn way (now (cells .entry)) h (now (theme .entry)) spot
+        (now (columns .entry)) (now (shifts .entry)) r (now (columns .exit)) (now (shifts .exit)) ⌝ }
 {
     let column = spot.column;
     let j = column.0 as usize;

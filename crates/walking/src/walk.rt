@@ -33,7 +33,8 @@ fn walk_along(
     requires { ⌜ Ready (now cells) h (now theme) ⌝ }
     requires { ⌜ Along way (now cells) h (now theme) spot (now list) (now columns) (now shifts) ⌝ }
     requires { ⌜ Cached way (now cells) h (now ring) ⌝ }
-    ensures { λ r. ⌜ TriesList way (now (cells .entry)) h (now (theme .entry)) spot (now (list .entry)) (now (columns .entry)) (now (shifts .entry)) r (now (columns .exit)) (now (shifts .exit)) × Cached way (now (cells .entry)) h (now (ring .exit)) ⌝ }
+    ensures { λ r. ⌜ TriesList way (now (cells .entry)) h (now (theme .entry)) spot (now (list .entry))
+        (now (columns .entry)) (now (shifts .entry)) r (now (columns .exit)) (now (shifts .exit)) × Cached way (now (cells .entry)) h (now (ring .exit)) ⌝ }
 {
     let mut found = spot.found;
     let mut looks: u32 = 0;
@@ -82,7 +83,8 @@ pub fn walk_every(
     shifts: &mut [i16],
 ) -> Walked
     requires { ⌜ PlainAsks (now cells) h (now theme) way bookmark (now columns) (now shifts) ⌝ }
-    ensures { λ r. ⌜ WalksEvery way (now (cells .entry)) h (now (theme .entry)) bookmark (now (columns .entry)) (now (shifts .entry)) r (now (columns .exit)) (now (shifts .exit)) ⌝ }
+    ensures { λ r. ⌜ WalksEvery way (now (cells .entry)) h (now (theme .entry)) bookmark
+        (now (columns .entry)) (now (shifts .entry)) r (now (columns .exit)) (now (shifts .exit)) ⌝ }
 {
     let n = columns_in(cells, h);
     let m = theme.len();
@@ -132,7 +134,8 @@ pub fn walk_candidates(
     shifts: &mut [i16],
 ) -> Walked
     requires { ⌜ QuickAsks (now cells) h (now theme) way bookmark (now sets) (now table) (now columns) (now shifts) ⌝ }
-    ensures { λ r. ⌜ WalksCandidates way (now (cells .entry)) h (now (theme .entry)) bookmark (now (sets .entry)) (now (table .entry)) (now (columns .entry)) (now (shifts .entry)) r (now (columns .exit)) (now (shifts .exit)) ⌝ }
+    ensures { λ r. ⌜ WalksCandidates way (now (cells .entry)) h (now (theme .entry)) bookmark (now (sets .entry)) (now (table .entry))
+        (now (columns .entry)) (now (shifts .entry)) r (now (columns .exit)) (now (shifts .exit)) ⌝ }
 {
     let n = columns_in(cells, h);
     let m = theme.len();

@@ -41,13 +41,16 @@ module _ (way : Way) (cells : List ℕ) (h : ℕ) (theme : List ℕ) (j : ℕ) (
 
   pub starts-some : next < span way → columnStarts way (scoreOf cells h) theme j code ≡ place j next ∷ columnStarts way (scoreOf cells h) theme j (next + 1)
   starts-some q =
-      let k : first (λ c. holds way c (note theme 1) (column (scoreOf cells h) (columnAt j))) (count code (span way - code)) < span way - code = omega (arith, next-is) in
-      let e : span way - code - (first (λ c. holds way c (note theme 1) (column (scoreOf cells h) (columnAt j))) (count code (span way - code)) + 1) ≡ span way - (next + 1) = omega (arith, next-is) in
+      let k : first (λ c. holds way c (note theme 1) (column (scoreOf cells h) (columnAt j))) (count code (span way - code)) < span way - code =
+      omega (arith, next-is) in
+      let e : span way - code - (first (λ c. holds way c (note theme 1) (column (scoreOf cells h) (columnAt j))) (count code (span way - code)) + 1)
+      ≡ span way - (next + 1) = omega (arith, next-is) in
       rw (hits-first (λ c. holds way c (note theme 1) (column (scoreOf cells h) (columnAt j))) code (span way - code) k, e, ← next-is)
 
   pub starts-none : span way ≤ next → columnStarts way (scoreOf cells h) theme j code ≡ []
   starts-none q =
-      let k : span way - code ≤ first (λ c. holds way c (note theme 1) (column (scoreOf cells h) (columnAt j))) (count code (span way - code)) = omega (arith, next-is) in
+      let k : span way - code ≤ first (λ c. holds way c (note theme 1) (column (scoreOf cells h) (columnAt j))) (count code (span way - code)) =
+      omega (arith, next-is) in
       rw (hits-none (λ c. holds way c (note theme 1) (column (scoreOf cells h) (columnAt j))) code (span way - code) k)
 
 -- ---- one start is tried: a hit is written behind those found, and nothing else is
@@ -65,7 +68,8 @@ module _ (way : Way) (score : List (List ℕ)) (theme : List ℕ) (s : Place) wh
   looks-one r = step r (hit way score theme s)
     where
       step : (n : ℕ) (b : Bool) → looks way score theme s
-          + cond b (pageLooks (hit way score theme) (looks way score theme) n []) (pageLooks (hit way score theme) (looks way score theme) (suc n) []) ≡ looks way score theme s
+          + cond b (pageLooks (hit way score theme) (looks way score theme) n [])
+          (pageLooks (hit way score theme) (looks way score theme) (suc n) []) ≡ looks way score theme s
       step zero true = add-zero (looks way score theme s)
       step (suc n) true = add-zero (looks way score theme s)
       step n false = add-zero (looks way score theme s)
@@ -82,7 +86,8 @@ tries-one way score theme j code at columns shifts small room same found costs t
     spent : costs ≡ pageLooks (hit way score theme) (looks way score theme) (length columns - at) (place j code ∷ [])
     spent = rw left (tried .costs ∙ sym (looks-one way score theme (place j code) (length columns - at - 1)))
 
-    step : (b : Bool) → b ≡ hit way score theme (place j code) → Puts way j (fitting (startCodes b code) at columns shifts) at columns shifts at′ columns′ shifts′
+    step : (b : Bool) → b ≡ hit way score theme (place j code) → Puts way j
+        (fitting (startCodes b code) at columns shifts) at columns shifts at′ columns′ shifts′
         → Tries way score theme (place j code ∷ []) at columns shifts at′ costs columns′ shifts′
     step true e k =
         let p = puts-hit way j at columns shifts code at′ columns′ shifts′ small room (omega arith) k in
@@ -107,9 +112,11 @@ module _ (way : Way) (cells : List ℕ) (h : ℕ) (theme : List ℕ) (j x found 
       → Filling way cells h theme j x found columns₀ shifts₀ columns₀ shifts₀ x found 0
   fill-start a b c = record { taking = take-start _ _ _ _ _ _ _ b c; low = a; bounded = zero-le }
 
-  module _ (columns : List ℕ) (shifts : List ℤ) (code at spent : ℕ) (t : Filling way cells h theme j x found columns₀ shifts₀ columns shifts code at spent) where
+  module _ (columns : List ℕ) (shifts : List ℤ) (code at spent : ℕ)
+      (t : Filling way cells h theme j x found columns₀ shifts₀ columns shifts code at spent) where
     -- the column is done with: no room is left, or no start
-    pub fill-full : length columns ≤ at → Tries way (scoreOf cells h) theme (columnStarts way (scoreOf cells h) theme j x) found columns₀ shifts₀ at spent columns shifts
+    pub fill-full : length columns ≤ at → Tries way (scoreOf cells h) theme
+        (columnStarts way (scoreOf cells h) theme j x) found columns₀ shifts₀ at spent columns shifts
     fill-full q = take-full _ _ _ _ _ _ _ _ _ _ _ _ (t .taking) q
 
     module _ (r : Ready cells h theme) (f : Fits (columnsIn cells h) (length theme) j) (base : ℕ) (b : base ≡ (j - 1) * h) (next : ℕ)
@@ -117,18 +124,21 @@ module _ (way : Way) (cells : List ℕ) (h : ℕ) (theme : List ℕ) (j x found 
       some-notes : 1 ≤ length theme
       some-notes = omega (arith, r .notes)
 
-      pub fill-none : span way ≤ next → Tries way (scoreOf cells h) theme (columnStarts way (scoreOf cells h) theme j x) found columns₀ shifts₀ at spent columns shifts
+      pub fill-none : span way ≤ next → Tries way (scoreOf cells h) theme
+          (columnStarts way (scoreOf cells h) theme j x) found columns₀ shifts₀ at spent columns shifts
       fill-none q = take-end _ _ _ _ _ _ _ _ _ _ _ _ (t .taking) (starts-none way cells h theme j f some-notes code next base b n q)
 
       pub fill-further : code ≤ next
       fill-further = next-le way cells h theme j f some-notes code next base b n
 
-      module _ (q : next < span way) (some-room : at < length columns) (hits : Bool) (costs : ℕ) (tried : Trial way (scoreOf cells h) theme j next hits costs) where
+      module _ (q : next < span way) (some-room : at < length columns) (hits : Bool) (costs : ℕ)
+          (tried : Trial way (scoreOf cells h) theme j next hits costs) where
         -- it costs few looks
         pub fill-bound : spent + costs ≤ (next + 1) * 32
         fill-bound = omega (arith, t .bounded, tried .costs, looks-le way (scoreOf cells h) theme (place j next), r .notes-most, fill-further)
 
-        pub fill-turn : (columns′ : List ℕ) (shifts′ : List ℤ) (at′ : ℕ) → Puts way j (fitting (startCodes hits next) at columns shifts) at columns shifts at′ columns′ shifts′
+        pub fill-turn : (columns′ : List ℕ) (shifts′ : List ℤ) (at′ : ℕ) → Puts way j
+            (fitting (startCodes hits next) at columns shifts) at columns shifts at′ columns′ shifts′
             → Filling way cells h theme j x found columns₀ shifts₀ columns′ shifts′ (next + 1) at′ (spent + costs)
         fill-turn columns′ shifts′ at′ k =
             let one = place j next ∷ [] in
@@ -136,7 +146,9 @@ module _ (way : Way) (cells : List ℕ) (h : ℕ) (theme : List ℕ) (j x found 
             let same : length shifts ≡ length columns = t .taking .long-shifts ∙ sym (t .taking .long) in
             let tries = tries-one _ _ _ _ _ _ _ _ (omega (arith, span-lt way)) some-room same _ _ tried _ _ _ k in
             record {
-              taking = take-part _ _ _ _ _ _ _ _ _ _ _ one rest (rw (starts-some way cells h theme j f some-notes code next base b n q) at (t .taking)) _ _ _ _ tries;
+              taking =
+                  take-part _ _ _ _ _ _ _ _ _ _ _ one rest (rw (starts-some way cells h theme j f some-notes code next base b n q) at (t .taking))
+                  _ _ _ _ tries;
               low = omega arith;
               bounded = fill-bound;
             }

@@ -27,7 +27,8 @@ regFrom-candidate table sets m j₀ j low high first on =
     ap (λ (b : ℕ). eqb b 0) (regFrom-register 32 (entryWord table sets) (j₀ - 1) (m - 2) (j + m - 2) (omega arith) (omega arith))
 
 -- the register that is warmed up before column j decides that column next
-pub warmed-filters : (table sets : List ℕ) (m j register : ℕ) → 2 ≤ m → 1 ≤ j → register ≡ regFrom 32 (entryWord table sets) (j - 1) (j - 1 + (m - 2)) → Filters table sets m register j
+pub warmed-filters : (table sets : List ℕ) (m j register : ℕ) → 2 ≤ m → 1 ≤ j → register ≡ regFrom 32 (entryWord table sets) (j - 1)
+    (j - 1 + (m - 2)) → Filters table sets m register j
 warmed-filters table sets m j register notes first e =
     let k : j - 1 + (m - 2) ≡ j + m - 3 = omega arith in
     record { start = j - 1; before = omega arith; runs = record { begun = omega arith; taken = rw k at e } }
@@ -93,10 +94,13 @@ module _ (table sets : List ℕ) (m j : ℕ) (list₀ : List ℕ) where
               let h : hits (candidate wordBits table sets m) (count j (i + 1)) ≡ hits (candidate wordBits table sets m) (count j i) ++ ((j + i) ∷ []) =
               hits-more (candidate wordBits table sets m) j i ∙ rw k in
               record {
-                listed = rw h (l ∙ rw (t .listed) (over-more list₀ (hits (candidate wordBits table sets m) (count j i)) 0 at (j + i) (sym (t .counted)) (omega (arith, list-at))));
+                listed =
+                    rw h (l ∙ rw (t .listed) (over-more list₀ (hits (candidate wordBits table sets m) (count j i)) 0 at (j + i) (sym (t .counted))
+                    (omega (arith, list-at))));
                 counted = rw h (omega (arith, a, t .counted, length-append (hits (candidate wordBits table sets m) (count j i)) ((j + i) ∷ [])));
                 filters = f;
               }
           pick false k a l f =
-              let h : hits (candidate wordBits table sets m) (count j (i + 1)) ≡ hits (candidate wordBits table sets m) (count j i) = hits-more (candidate wordBits table sets m) j i ∙ rw k in
+              let h : hits (candidate wordBits table sets m) (count j (i + 1)) ≡ hits (candidate wordBits table sets m) (count j i) =
+              hits-more (candidate wordBits table sets m) j i ∙ rw k in
               record { listed = rw h (l ∙ t .listed); counted = rw h (a ∙ t .counted); filters = f }

@@ -40,7 +40,8 @@ module _ (first : ℕ) (list₀ list : List ℕ) (i : ℕ) (t : Counted first li
       record { listed = rw (t .listed, count-append first i 1) (over-more list₀ (count first i) 0 i (first + i) (count-length first i) h) }
 
 -- what is kept of what stands at or after a key, where keys rise
-pub from-hits : {A : Type 0} (key′ : A → ℕ) (keep : A → Bool) (a b : ℕ) (xs : List A) → Rising key′ a xs → from key′ b (hits keep xs) ≡ hits keep (from key′ b xs)
+pub from-hits : {A : Type 0} (key′ : A → ℕ) (keep : A → Bool) (a b : ℕ) (xs : List A) → Rising key′ a xs → from key′ b (hits keep xs) ≡ hits keep
+    (from key′ b xs)
 from-hits key′ keep a b [] r = refl
 from-hits key′ keep a b (x ∷ xs) r = step (ltb (key′ x) b) refl (keep x) refl (from-hits key′ keep (suc (key′ x)) b xs (r .1))
   where
@@ -73,14 +74,16 @@ module _ (way : Way) (p : Pitch) (m : ℕ) where
   column-below : (i x : ℕ) (c : List ℕ) → Below key (suc i * 256) (map (place i) (codes way p c x))
   column-below i x c =
       places-below i (suc i * 256) (codes way p c x)
-      (λ k q. let d = in-hits (λ code. holds way code p c) (count x (span way - x)) q in omega (arith, suc-mul i 256, span-lt way, in-count x (span way - x) (d .0) .1, in-count x (span way - x) (d .0) .0))
+      (λ k q. let d = in-hits (λ code. holds way code p c) (count x (span way - x)) q in omega
+      (arith, suc-mul i 256, span-lt way, in-count x (span way - x) (d .0) .1, in-count x (span way - x) (d .0) .0))
 
   room-below : (i : ℕ) (b : Bool) (c : List ℕ) → Below key (suc i * 256) (cond b (map (place i) (codes way p c 0)) [])
   room-below i true c = column-below i 0 c
   room-below i false c = none
 
   -- the columns before the place's are passed over
-  from-column : (d i x : ℕ) (cs : List (List ℕ)) → from key ((i + d) * 256 + x) (startsIn way p m i cs) ≡ from key ((i + d) * 256 + x) (startsIn way p m (i + d) (drop d cs))
+  from-column : (d i x : ℕ) (cs : List (List ℕ)) → from key ((i + d) * 256 + x) (startsIn way p m i cs) ≡ from key ((i + d) * 256 + x)
+      (startsIn way p m (i + d) (drop d cs))
   from-column zero i x cs = let e : i + 0 ≡ i = omega arith in rw e
   from-column (suc d) i x [] = refl
   from-column (suc d) i x (c ∷ cs) =
@@ -113,7 +116,9 @@ module _ (way : Way) (p : Pitch) (m : ℕ) where
       (from-past key low (map (place i) (codes way p c x) ++ D)
       ∙ from-all key (i * 256 + x) (map (place i) (codes way p c x) ++ D)
       (rising-append key (i * 256 + x) (suc i * 256) (map (place i) (codes way p c x)) D
-      (rising-map (place i) key (i * 256 + x) (codes way p c x) (rising-add (i * 256) x (codes way p c x) (rising-hits (λ code. holds way code p c) (λ (k : ℕ). k) x (count x (span way - x)) (rising-count x (span way - x)))))
+      (rising-map (place i) key (i * 256 + x) (codes way p c x)
+      (rising-add (i * 256) x (codes way p c x)
+      (rising-hits (λ code. holds way code p c) (λ (k : ℕ). k) x (count x (span way - x)) (rising-count x (span way - x)))))
       (column-below i x c) (omega (arith, suc-mul i 256, span-lt way)) up))
     where
       low : Below key (i * 256 + x) (map (place i) (hits (λ code. holds way code p c) (count 0 x)))
@@ -126,10 +131,12 @@ zero-both true = refl
 zero-both false = refl
 
 module _ (way : Way) (score : List (List ℕ)) (theme : List ℕ) where
-  at-column : (j x : ℕ) → 1 ≤ j → from key (j * 256 + x) (starts way score theme) ≡ from key (j * 256 + x) (startsIn way (note theme 1) (length theme) j (drop (j - 1) score))
+  at-column : (j x : ℕ) → 1 ≤ j → from key (j * 256 + x) (starts way score theme) ≡ from key (j * 256 + x)
+      (startsIn way (note theme 1) (length theme) j (drop (j - 1) score))
   at-column j x h =
       let e : j ≡ 1 + (j - 1) = omega arith in
-      let q : from key ((1 + (j - 1)) * 256 + x) (starts way score theme) ≡ from key ((1 + (j - 1)) * 256 + x) (startsIn way (note theme 1) (length theme) (1 + (j - 1)) (drop (j - 1) score)) =
+      let q : from key ((1 + (j - 1)) * 256 + x) (starts way score theme) ≡ from key ((1 + (j - 1)) * 256 + x)
+      (startsIn way (note theme 1) (length theme) (1 + (j - 1)) (drop (j - 1) score)) =
       from-column way (note theme 1) (length theme) (j - 1) 1 x score in
       rw (← e) at q
 
@@ -138,14 +145,19 @@ module _ (way : Way) (score : List (List ℕ)) (theme : List ℕ) where
   along-more j x f m h =
       let k : j - 1 < length score = omega (arith, f .from-first, f .to-last) in
       let e : suc (j - 1) ≡ j = omega (arith, f .from-first) in
-      let c : drop (j - 1) score ≡ getD score (j - 1) [] ∷ drop j score = drop-cons score (j - 1) [] k ∙ ap (λ (i : ℕ). getD score (j - 1) [] ∷ drop i score) e in
-      let room : leb (length theme) (suc (length (drop j score))) ≡ true = le-leb (length theme) (suc (length (drop j score))) (omega (arith, length-drop j score, f .to-last)) in
-      let up : Rising key (suc j * 256) (startsIn way (note theme 1) (length theme) (suc j) (drop j score)) = rising-startsIn way (note theme 1) (length theme) (suc j) (drop j score) in
+      let c : drop (j - 1) score ≡ getD score (j - 1) [] ∷ drop j score =
+      drop-cons score (j - 1) [] k ∙ ap (λ (i : ℕ). getD score (j - 1) [] ∷ drop i score) e in
+      let room : leb (length theme) (suc (length (drop j score))) ≡ true =
+      le-leb (length theme) (suc (length (drop j score))) (omega (arith, length-drop j score, f .to-last)) in
+      let up : Rising key (suc j * 256) (startsIn way (note theme 1) (length theme) (suc j) (drop j score)) =
+      rising-startsIn way (note theme 1) (length theme) (suc j) (drop j score) in
       let z : suc j * 256 + 0 ≡ suc j * 256 = omega arith in
       let back : suc j - 1 ≡ j = omega arith in
       let next : from key (suc j * 256) (starts way score theme) ≡ startsIn way (note theme 1) (length theme) (suc j) (drop j score) =
-      (rw (z, back) at (at-column (suc j) 0 (omega arith))) ∙ from-all key (suc j * 256) (startsIn way (note theme 1) (length theme) (suc j) (drop j score)) up in
-      at-column j x (f .from-first) ∙ rw (c, room, next) (from-codes way (note theme 1) (length theme) j x (getD score (j - 1) []) (startsIn way (note theme 1) (length theme) (suc j) (drop j score)) h up)
+      (rw (z, back) at (at-column (suc j) 0 (omega arith))) ∙ from-all key (suc j * 256)
+      (startsIn way (note theme 1) (length theme) (suc j) (drop j score)) up in
+      at-column j x (f .from-first) ∙ rw (c, room, next)
+      (from-codes way (note theme 1) (length theme) j x (getD score (j - 1) []) (startsIn way (note theme 1) (length theme) (suc j) (drop j score)) h up)
 
   pub along-end : (j x : ℕ) → 1 ≤ j → 1 ≤ length theme → length score + 1 < j + length theme → from key (j * 256 + x) (starts way score theme) ≡ []
   along-end j x h m q = at-column j x h ∙ rw (starts-short way (note theme 1) (length theme) j (drop (j - 1) score) (omega (arith, length-drop (j - 1) score)))

@@ -46,10 +46,17 @@ module _ (way : Way) (score : List (List ℕ)) (theme : List ℕ) (spot : Spot) 
     t = r .taking
 
     -- what trying the column asks for
-    pub along-stands : (n m : ℕ) → Fits n m (getD list i 0) → spot .code ≤ span way → (next : Spot) → next ≡ atColumn spot (getD list i 0) at → Stands way n m next columns shifts
+    pub along-stands : (n m : ℕ) → Fits n m (getD list i 0) → spot .code ≤ span way → (next : Spot) → next ≡ atColumn spot (getD list i 0) at
+        → Stands way n m next columns shifts
     along-stands n m fits low next e =
         rw e
-        record { fits = fits; low = below (eqb (spot .column .0) (getD list i 0)); room = omega (arith, t .room, t .long); same-room = t .long-shifts ∙ sym (t .long) }
+        record {
+          fits = fits;
+          low = below (eqb (spot .column .0) (getD list i 0));
+          room = omega (arith, t .room, t .long);
+          same-room = t .long-shifts
+              ∙ sym (t .long);
+        }
       where
         below : (b : Bool) → cond b (spot .code) 0 ≤ span way
         below true = low
@@ -57,26 +64,33 @@ module _ (way : Way) (score : List (List ℕ)) (theme : List ℕ) (spot : Spot) 
 
     -- no column is left, or no room
     pub along-over : (ltb i (length list) && ltb at (length columns)) ≡ false → Tries way score theme all (spot .found) columns₀ shifts₀ at spent columns shifts
-    along-over = take-over _ _ _ _ _ _ _ _ _ _ _ _ t (ltb i (length list)) (λ e. ap (listStarts way score theme (spot .column .0) (spot .code)) (drop-none i list (ltb-false i (length list) e)))
+    along-over =
+        take-over _ _ _ _ _ _ _ _ _ _ _ _ t (ltb i (length list))
+        (λ e. ap (listStarts way score theme (spot .column .0) (spot .code)) (drop-none i list (ltb-false i (length list) e)))
 
     module _ (q : i < length list) (next : Spot) (e : next ≡ atColumn spot (getD list i 0) at) where
       -- the column's starts and those of the columns behind it
       parts : left i ≡ columnStarts way score theme (next .column .0) (next .code) ++ left (i + 1)
       parts = let z : suc i ≡ i + 1 = omega arith in rw (e, ← z) (ap (listStarts way score theme (spot .column .0) (spot .code)) (drop-cons list i 0 q))
 
-      ready : Taking way score theme all (spot .found) columns₀ shifts₀ columns shifts (columnStarts way score theme (next .column .0) (next .code) ++ left (i + 1)) at spent
+      ready : Taking way score theme all (spot .found) columns₀ shifts₀ columns shifts
+          (columnStarts way score theme (next .column .0) (next .code) ++ left (i + 1)) at spent
       ready = rw parts at t
 
       module _ (at′ costs : ℕ) (columns′ : List ℕ) (shifts′ : List ℤ)
-          (tries : Tries way score theme (columnStarts way score theme (next .column .0) (next .code)) (next .found) columns shifts at′ costs columns′ shifts′) where
+          (tries : Tries way score theme (columnStarts way score theme (next .column .0) (next .code))
+          (next .found) columns shifts at′ costs columns′ shifts′) where
         here : Tries way score theme (columnStarts way score theme (next .column .0) (next .code)) at columns shifts at′ costs columns′ shifts′
         here = let z : next .found ≡ at = ap (λ (s : Spot). s .found) e in rw z at tries
 
         pub along-bound : (most : ℕ) → pageLooks (hit way score theme) (looks way score theme) (length columns₀ - spot .found) all < most → spent + costs < most
-        along-bound most few = omega (arith, take-few _ _ _ _ _ _ _ _ _ _ _ (columnStarts way score theme (next .column .0) (next .code)) (left (i + 1)) ready, here .costs)
+        along-bound most few =
+            omega (arith, take-few _ _ _ _ _ _ _ _ _ _ _ (columnStarts way score theme (next .column .0) (next .code)) (left (i + 1)) ready, here .costs)
 
         pub along-turn : Trying way score theme spot list columns₀ shifts₀ columns′ shifts′ at′ (spent + costs) (i + 1)
         along-turn =
             record {
-              taking = take-part _ _ _ _ _ _ _ _ _ _ _ (columnStarts way score theme (next .column .0) (next .code)) (left (i + 1)) ready at′ costs columns′ shifts′ here;
+              taking =
+                  take-part _ _ _ _ _ _ _ _ _ _ _ (columnStarts way score theme (next .column .0) (next .code))
+                  (left (i + 1)) ready at′ costs columns′ shifts′ here;
             }

@@ -32,12 +32,14 @@ use Rattle.walking.proofs.walk.Along.{from-hits, hits-all, keptFrom, ke
 use Rattle.walking.proofs.Taking.{Taking, take-start, take-few, take-part, take-over, tries-walks}
 
 -- the columns listed are among those counted
-hits-within : (keep : ℕ → Bool) (a n i : ℕ) → i < length (hits keep (count a n)) → (a ≤ getD (hits keep (count a n)) i 0) × (getD (hits keep (count a n)) i 0 < a + n)
+hits-within : (keep : ℕ → Bool) (a n i : ℕ) → i < length (hits keep (count a n)) → (a ≤ getD (hits keep (count a n)) i 0)
+    × (getD (hits keep (count a n)) i 0 < a + n)
 hits-within keep a zero i h = absurd (omega arith)
 hits-within keep a (suc n) i h = step (keep a) i h (hits-within keep (suc a) n)
   where
     step : (b : Bool) (k : ℕ) → k < length (cond b (a ∷ hits keep (count (suc a) n)) (hits keep (count (suc a) n)))
-        → ((j : ℕ) → j < length (hits keep (count (suc a) n)) → (suc a ≤ getD (hits keep (count (suc a) n)) j 0) × (getD (hits keep (count (suc a) n)) j 0 < suc a + n))
+        → ((j : ℕ) → j < length (hits keep (count (suc a) n)) → (suc a ≤ getD (hits keep (count (suc a) n)) j 0)
+        × (getD (hits keep (count (suc a) n)) j 0 < suc a + n))
         → (a ≤ getD (cond b (a ∷ hits keep (count (suc a) n)) (hits keep (count (suc a) n))) k 0)
         × (getD (cond b (a ∷ hits keep (count (suc a) n)) (hits keep (count (suc a) n))) k 0 < a + suc n)
     step true zero q ih = (le-refl a, omega arith)
@@ -52,7 +54,8 @@ pub record Walking (keep : ℕ → Bool) (way : Way) (cells : List ℕ) (h : ℕ
   pub first : 1 ≤ j
   pub low : x ≤ span way
 
-module _ (keep : ℕ → Bool) (way : Way) (cells : List ℕ) (h : ℕ) (theme : List ℕ) (whole : List Place) (columns₀ : List ℕ) (shifts₀ : List ℤ) (r : Ready cells h theme) where
+module _ (keep : ℕ → Bool) (way : Way) (cells : List ℕ) (h : ℕ) (theme : List ℕ) (whole : List Place) (columns₀ : List ℕ) (shifts₀ : List ℤ)
+    (r : Ready cells h theme) where
   -- all looks of a walk are few
   total : (b k : ℕ) → whole ≡ hits (λ s. keep (s .column)) (from key b (starts way (scoreOf cells h) theme))
       → pageLooks (hit way (scoreOf cells h) theme) (looks way (scoreOf cells h) theme) k whole < 2 ^ 32
@@ -80,19 +83,22 @@ module _ (keep : ℕ → Bool) (way : Way) (cells : List ℕ) (h : ℕ) (theme :
         low = low;
       }
 
-  module _ (columns : List ℕ) (shifts : List ℤ) (j x found spent : ℕ) (t : Walking keep way cells h theme whole columns₀ shifts₀ columns shifts j x found spent) where
+  module _ (columns : List ℕ) (shifts : List ℤ) (j x found spent : ℕ)
+      (t : Walking keep way cells h theme whole columns₀ shifts₀ columns shifts j x found spent) where
     -- no column is left, or no room
     pub walk-over : (n : ℕ) → n ≡ columnsIn cells h → (leb (j + length theme) (n + 1) && ltb found (length columns)) ≡ false
         → Walks way (scoreOf cells h) theme whole columns₀ shifts₀ found spent columns shifts
     walk-over n e stop =
         tries-walks _ _ _ _ _ _ _ _ _ _ (t .same-room)
         (take-over _ _ _ _ _ _ _ _ _ _ _ _ (t .taking) (leb (j + length theme) (n + 1))
-        (λ q. kept-end way (scoreOf cells h) theme keep j x (t .first) (omega (arith, r .notes)) (omega (arith, leb-false (j + length theme) (n + 1) q, e, score-length cells h)))
+        (λ q. kept-end way (scoreOf cells h) theme keep j x (t .first) (omega (arith, r .notes))
+        (omega (arith, leb-false (j + length theme) (n + 1) q, e, score-length cells h)))
         stop)
 
     -- the columns from j on are listed
     module _ (many : ℕ) (some : 1 ≤ many) (q : j + many + length theme ≤ columnsIn cells h + 2) (list : List ℕ) (l : list ≡ hits keep (count j many)) where
-      parts : keptFrom way (scoreOf cells h) theme keep j x ≡ listStarts way (scoreOf cells h) theme j x list ++ keptFrom way (scoreOf cells h) theme keep (j + many) 0
+      parts : keptFrom way (scoreOf cells h) theme keep j x ≡ listStarts way (scoreOf cells h) theme j x list ++ keptFrom way
+          (scoreOf cells h) theme keep (j + many) 0
       parts =
           kept-list way (scoreOf cells h) theme keep many j x (t .first) (omega (arith, r .notes)) (t .low) (omega (arith, score-length cells h))
           ∙ rw (ne-eqb many 0 (λ z. omega arith), l)
@@ -101,8 +107,15 @@ module _ (keep : ℕ → Bool) (way : Way) (cells : List ℕ) (h : ℕ) (theme :
           (listStarts way (scoreOf cells h) theme j x list ++ keptFrom way (scoreOf cells h) theme keep (j + many) 0) found spent
       ready = rw parts at (t .taking)
 
-      few-here : spent + pageLooks (hit way (scoreOf cells h) theme) (looks way (scoreOf cells h) theme) (length columns - found) (listStarts way (scoreOf cells h) theme j x list) < 2 ^ 32
-      few-here = omega (arith, t .few, take-few _ _ _ _ _ _ _ _ _ _ _ (listStarts way (scoreOf cells h) theme j x list) (keptFrom way (scoreOf cells h) theme keep (j + many) 0) ready)
+      few-here : spent + pageLooks (hit way (scoreOf cells h) theme) (looks way (scoreOf cells h) theme) (length columns - found)
+          (listStarts way (scoreOf cells h) theme j x list) < 2 ^ 32
+      few-here =
+          omega (
+            arith,
+            t .few,
+            take-few _ _ _ _ _ _ _ _ _ _ _ (listStarts way (scoreOf cells h) theme j x list)
+                (keptFrom way (scoreOf cells h) theme keep (j + many) 0) ready,
+          )
 
       pub walk-asks : Along way cells h theme (record { column = columnAt j; code = x; found = found }) list columns shifts
       walk-asks =
@@ -124,7 +137,9 @@ module _ (keep : ℕ → Bool) (way : Way) (cells : List ℕ) (h : ℕ) (theme :
         pub walk-turn : Walking keep way cells h theme whole columns₀ shifts₀ columns′ shifts′ (j + many) 0 found′ (spent + costs)
         walk-turn =
             record {
-              taking = take-part _ _ _ _ _ _ _ _ _ _ _ (listStarts way (scoreOf cells h) theme j x list) (keptFrom way (scoreOf cells h) theme keep (j + many) 0) ready _ _ _ _ tries;
+              taking =
+                  take-part _ _ _ _ _ _ _ _ _ _ _ (listStarts way (scoreOf cells h) theme j x list)
+                  (keptFrom way (scoreOf cells h) theme keep (j + many) 0) ready _ _ _ _ tries;
               few = t .few;
               same-room = t .same-room;
               first = omega (arith, t .first);
@@ -136,14 +151,18 @@ module _ (keep : ℕ → Bool) (way : Way) (cells : List ℕ) (h : ℕ) (theme :
 module _ (way : Way) (cells : List ℕ) (h : ℕ) (theme : List ℕ) (columns : List ℕ) (shifts : List ℤ) (r : Ready cells h theme)
     (j x : ℕ) (first : 1 ≤ j) (low : x ≤ span way) (same : length shifts ≡ length columns) where
   pub every-start : Walking (λ k. true) way cells h theme (from key (j * 256 + x) (starts way (scoreOf cells h) theme)) columns shifts columns shifts j x 0 0
-  every-start = walk-start (λ k. true) way cells h theme _ columns shifts r j x first low same (sym (hits-all (from key (j * 256 + x) (starts way (scoreOf cells h) theme))))
+  every-start =
+      walk-start (λ k. true) way cells h theme _ columns shifts r j x first low same
+      (sym (hits-all (from key (j * 256 + x) (starts way (scoreOf cells h) theme))))
 
   pub quick-start : (table sets : List ℕ)
-      → Walking (candidate wordBits table sets (length theme)) way cells h theme (from key (j * 256 + x) (quickStarts wordBits way (scoreOf cells h) theme table sets)) columns shifts columns shifts j x 0 0
+      → Walking (candidate wordBits table sets (length theme)) way cells h theme
+      (from key (j * 256 + x) (quickStarts wordBits way (scoreOf cells h) theme table sets)) columns shifts columns shifts j x 0 0
   unfolding quickStarts
   quick-start table sets =
       walk-start (candidate wordBits table sets (length theme)) way cells h theme _ columns shifts r j x first low same
-      (from-hits key (λ s. candidate wordBits table sets (length theme) (s .column)) 256 (j * 256 + x) (starts way (scoreOf cells h) theme) (starts-rising way (scoreOf cells h) theme))
+      (from-hits key (λ s. candidate wordBits table sets (length theme) (s .column)) 256 (j * 256 + x) (starts way (scoreOf cells h) theme)
+      (starts-rising way (scoreOf cells h) theme))
 
 -- ---- what is listed in front: the columns that are kept
 
@@ -157,7 +176,8 @@ module _ {j many : ℕ} {list₀ list : List ℕ} (t : ListsEvery j many list₀
   pub every-long : many ≤ length list₀ → length list ≡ length list₀
   every-long h = ap length (t .listed) ∙ over-length list₀ (count j many) (omega (arith, count-length j many))
 
-module _ {table sets : List ℕ} {m j many : ℕ} {list₀ : List ℕ} {register k : ℕ} {list : List ℕ} (t : ListsCandidates table sets m j many list₀ register k list) where
+module _ {table sets : List ℕ} {m j many : ℕ} {list₀ : List ℕ} {register k : ℕ} {list : List ℕ}
+    (t : ListsCandidates table sets m j many list₀ register k list) where
   pub candidates-front : take (k - 0) (drop 0 list) ≡ hits (candidate wordBits table sets m) (count j many)
   candidates-front = listed-front list₀ (hits (candidate wordBits table sets m) (count j many)) list k (t .listed) (t .counted)
 
@@ -165,4 +185,5 @@ module _ {table sets : List ℕ} {m j many : ℕ} {list₀ : List ℕ} {register
   candidates-few = omega (arith, t .counted, hits-le (candidate wordBits table sets m) (count j many), count-length j many)
 
   pub candidates-long : many ≤ length list₀ → length list ≡ length list₀
-  candidates-long h = ap length (t .listed) ∙ over-length list₀ (hits (candidate wordBits table sets m) (count j many)) (omega (arith, t .counted, candidates-few))
+  candidates-long h =
+      ap length (t .listed) ∙ over-length list₀ (hits (candidate wordBits table sets m) (count j many)) (omega (arith, t .counted, candidates-few))

@@ -17,7 +17,8 @@ abbrev start : tie.After-follow → tie.Start
 start c = c .before .before .before .before .before .before .before .before .before
 
 -- the words in the ring are right where none was followed, and where some were
-cached : (c : tie.Joined1) → let s = c .before .before .before .before .before .before in Cached (s .args .way) (s .args .cells .now) (s .args .h) (c .if1 .ring)
+cached : (c : tie.Joined1) → let s = c .before .before .before .before .before .before in Cached (s .args .way) (s .args .cells .now) (s .args .h)
+    (c .if1 .ring)
 cached c =
     let s = c .before .before .before .before .before .before in
     ⊎-elim (λ w. subst (Cached (s .args .way) (s .args .cells .now) (s .args .h)) (sym (w .11)) (w .3 .ensures .1))
@@ -63,8 +64,11 @@ returns c =
     let z : s .args .spot .code ≡ 0 = eqb-true _ _ (both-left _ _ (f .before .before .before .if1 .taken)) in
     let h : Halves (w .low) (w .high) = record { lower = omega arith; upper = omega arith } in
     let room = rw (value-ones _ _ h) at (e .if2 .taken) in
-    let put = c .before .before .before .put-hits .ensures in
-    (rw z (at-once _ _ _ _ _ _ (f .follow .ensures .0) (s .pre .0 .sung 0) _ _ _ (s .pre .1 .0 .same-room) (s .pre .1 .0 .room) room _ _ _ put), f .follow .ensures .1)
+    let put = c .before .before .before .put-hits .ensures in (
+      rw z (at-once _ _ _ _ _ _ (f .follow .ensures .0) (s .pre .0 .sung 0) _ _ _ (s .pre .1 .0 .same-room) (s .pre .1 .0 .room) room
+          _ _ _ put),
+      f .follow .ensures .1,
+    )
 
 try-column-requires : tie.Need-try-column-requires
 try-column-requires c κs = let s = c .before .before .before .before .before .before .before .before in (s .pre .0, s .pre .1 .0)
@@ -76,7 +80,9 @@ same-length-5 : tie.Need-same-length-5
 same-length-5 c = search needs
 
 same-length-6 : tie.Need-same-length-6
-same-length-6 c = cached (c .before .before .before .before .before .before) .long ∙ sym (c .before .before .before .before .before .before .before .before .before .before .before .before .pre .1 .1 .long)
+same-length-6 c =
+    cached (c .before .before .before .before .before .before) .long
+    ∙ sym (c .before .before .before .before .before .before .before .before .before .before .before .before .pre .1 .1 .long)
 
 returns-2 : tie.Need-returns-2
 returns-2 c = (c .before .before .before .try-column .ensures, cached (c .before .before .before .before .before .before))

@@ -20,8 +20,12 @@ enum-told : tie.Need-enum-told
 enum-told c = search needs
 
 -- what is asked is accepted
-asked : (c : tie.After-enum-told) → let a = c .before .before .before .before .before .before .args in PlainAsks (a .cells .now) (a .tracks) (a .theme .now) (a .way) (a .bookmark) (a .columns .now) (a .shifts .now)
-asked c = let a = c .before .before .before .before .before .before .args in plain-asks (a .cells .now) (a .tracks) (a .theme .now) (a .way) (a .bookmark) (a .columns .now) (a .shifts .now) (c .before .before .check-plain .ensures) (c .enum-told .given .1)
+asked : (c : tie.After-enum-told) → let a = c .before .before .before .before .before .before .args in PlainAsks (a .cells .now) (a .tracks)
+    (a .theme .now) (a .way) (a .bookmark) (a .columns .now) (a .shifts .now)
+asked c =
+    let a = c .before .before .before .before .before .before .args in
+    plain-asks (a .cells .now) (a .tracks) (a .theme .now) (a .way) (a .bookmark) (a .columns .now) (a .shifts .now)
+    (c .before .before .check-plain .ensures) (c .enum-told .given .1)
 
 walk-every-requires : tie.Need-walk-every-requires
 walk-every-requires c κs = asked (c .before .before)
@@ -33,7 +37,9 @@ same-length-2 : tie.Need-same-length-2
 same-length-2 c = search needs
 
 returns-2 : tie.Need-returns-2
-returns-2 c = finds-done _ _ _ _ _ _ _ _ (plain-clear _ _ _ _ _ _ _ .0 (asked (c .before .before .before .before .before .before))) (c .before .before .before .walk-every .ensures)
+returns-2 c =
+    finds-done _ _ _ _ _ _ _ _ (plain-clear _ _ _ _ _ _ _ .0 (asked (c .before .before .before .before .before .before)))
+    (c .before .before .before .walk-every .ensures)
 
 pub walk-plain-spec : {M : Type 1} → statement M
 walk-plain-spec =

@@ -25,21 +25,28 @@ returns c =
     let v = c .before .before .before .check-quick .ensures in
     record {
       finds = finds-away _ _ _ _ _ _ _ _ v (c .before .e .given .1);
-      fills-table = table-kept (a .cells .now) (a .tracks) (a .theme .now) (a .way) (a .bookmark) (a .sets .now) (a .table .now) (a .columns .now) (a .shifts .now) v (c .before .e .given .1);
+      fills-table =
+          table-kept (a .cells .now) (a .tracks) (a .theme .now) (a .way) (a .bookmark) (a .sets .now) (a .table .now) (a .columns .now)
+          (a .shifts .now) v (c .before .e .given .1);
     }
 
 enum-told : tie.Need-enum-told
 enum-told c = search needs
 
 -- what is asked is accepted
-asked : (c : tie.After-enum-told) → let a = c .before .before .before .before .before .before .before .before .args in QuickAsks (a .cells .now) (a .tracks) (a .theme .now) (a .way) (a .bookmark) (a .sets .now) (a .table .now) (a .columns .now) (a .shifts .now)
-asked c = let a = c .before .before .before .before .before .before .before .before .args in quick-asks (a .cells .now) (a .tracks) (a .theme .now) (a .way) (a .bookmark) (a .sets .now) (a .table .now) (a .columns .now) (a .shifts .now) (c .before .before .check-quick .ensures) (c .enum-told .given .1)
+asked : (c : tie.After-enum-told) → let a = c .before .before .before .before .before .before .before .before .args in QuickAsks (a .cells .now)
+    (a .tracks) (a .theme .now) (a .way) (a .bookmark) (a .sets .now) (a .table .now) (a .columns .now) (a .shifts .now)
+asked c =
+    let a = c .before .before .before .before .before .before .before .before .args in
+    quick-asks (a .cells .now) (a .tracks) (a .theme .now) (a .way) (a .bookmark) (a .sets .now) (a .table .now) (a .columns .now) (a .shifts .now)
+    (c .before .before .check-quick .ensures) (c .enum-told .given .1)
 
 fill-table-requires : tie.Need-fill-table-requires
 fill-table-requires c κs = tt
 
 -- the table that is filled is the theme's
-filled : (c : tie.After-enum-told) → let a = c .before .before .before .before .before .before .before .before .args in tableAfter wordBits (a .theme .now) (a .table .now) ≡ themeTable wordBits (a .theme .now)
+filled : (c : tie.After-enum-told) → let a = c .before .before .before .before .before .before .before .before .args in tableAfter wordBits
+    (a .theme .now) (a .table .now) ≡ themeTable wordBits (a .theme .now)
 filled c =
     let a = c .before .before .before .before .before .before .before .before .args in
     after-filled wordBits (a .theme .now) (a .table .now) (λ z. omega (arith, asked c .plain .accepted .notes-some)) (asked c .table-long)
@@ -47,7 +54,13 @@ filled c =
 walk-candidates-requires : tie.Need-walk-candidates-requires
 walk-candidates-requires c κs =
     let q = asked (c .before .before .before .before .before .before .before) in
-    record { plain = q .plain; with-sets = q .with-sets; table-long = ap length (c .before .before .before .before .before .fill-table .ensures ∙ filled (c .before .before .before .before .before .before .before)) ∙ table-length wordBits _ }
+    record {
+      plain = q .plain;
+      with-sets = q .with-sets;
+      table-long = ap length
+          (c .before .before .before .before .before .fill-table .ensures ∙ filled (c .before .before .before .before .before .before .before))
+          ∙ table-length wordBits _;
+    }
 
 same-length : tie.Need-same-length
 same-length c = search needs
@@ -60,12 +73,18 @@ same-length-3 c = search needs
 
 returns-2 : tie.Need-returns-2
 returns-2 c =
-    let a = c .before .before .before .before .before .before .before .before .before .before .before .before .before .before .before .before .before .before .before .args in
-    let f = c .before .before .before .before .before .before .before .before .before .fill-table .ensures ∙ filled (c .before .before .before .before .before .before .before .before .before .before .before) in
-    let z = quick-clear (a .cells .now) (a .tracks) (a .theme .now) (a .way) (a .bookmark) (a .sets .now) (a .table .now) (a .columns .now) (a .shifts .now) .0 (asked (c .before .before .before .before .before .before .before .before .before .before .before)) in
+    let e = c .before .before .before .before .before .before .before .before .before .before .before in
+    let a = e .before .before .before .before .before .before .before .before .args in
+    let f =
+    c .before .before .before .before .before .before .before .before .before .fill-table .ensures ∙ filled e in
+    let z =
+    quick-clear (a .cells .now) (a .tracks) (a .theme .now) (a .way) (a .bookmark) (a .sets .now) (a .table .now) (a .columns .now)
+    (a .shifts .now) .0 (asked e) in
     record {
       finds = finds-done _ _ _ _ _ _ _ _ z (rw f at (c .before .before .before .walk-candidates .ensures));
-      fills-table = f ∙ sym (table-filled (a .cells .now) (a .tracks) (a .theme .now) (a .way) (a .bookmark) (a .sets .now) (a .table .now) (a .columns .now) (a .shifts .now) z);
+      fills-table =
+          f ∙ sym (table-filled (a .cells .now) (a .tracks) (a .theme .now) (a .way) (a .bookmark) (a .sets .now) (a .table .now) (a .columns .now)
+          (a .shifts .now) z);
     }
 
 pub walk-quick-spec : {M : Type 1} → statement M

@@ -41,7 +41,9 @@ span-of-requires : tie.Need-span-of-requires Inv-loop μ-loop
 span-of-requires c κs = tt
 
 loop-holds : tie.Need-loop-holds Inv-loop μ-loop
-loop-holds c = let s = c .before .before .before .before .before .before .before in fill-start _ _ _ _ _ _ _ _ _ (s .pre .1 .low) (s .pre .1 .room) (s .pre .1 .same-room)
+loop-holds c =
+    let s = c .before .before .before .before .before .before .before in
+    fill-start _ _ _ _ _ _ _ _ _ (s .pre .1 .low) (s .pre .1 .room) (s .pre .1 .same-room)
 
 next-code-requires : tie.Need-next-code-requires Inv-loop μ-loop
 next-code-requires c κs =
@@ -58,7 +60,8 @@ returns : tie.Need-returns Inv-loop μ-loop
 returns c =
     let l = c .before .before .before in
     let s = start l in
-    fill-none _ _ _ _ _ _ _ _ _ _ _ _ _ _ (l .loop .inv) (s .pre .0) (s .pre .1 .fits) _ refl _ (c .before .next-code .ensures) (omega (arith, l .before .span-of .ensures, c .if1 .taken))
+    fill-none _ _ _ _ _ _ _ _ _ _ _ _ _ _ (l .loop .inv) (s .pre .0) (s .pre .1 .fits) _ refl _ (c .before .next-code .ensures)
+    (omega (arith, l .before .span-of .ensures, c .if1 .taken))
 
 try-start-requires : tie.Need-try-start-requires Inv-loop μ-loop
 try-start-requires c κs =
@@ -72,7 +75,12 @@ add-looks c =
     let l = e .before .before .before in
     let s = start l in
     let q : e .before .next-code .result < span (s .args .way) = omega (arith, l .before .span-of .ensures, e .if1 .left) in
-    omega (arith, span-lt (s .args .way), fill-bound _ _ _ _ _ _ _ _ _ _ _ _ _ _ (l .loop .inv) (s .pre .0) (s .pre .1 .fits) _ refl _ (e .before .next-code .ensures) q (e .before .before .loop-test .taken) _ _ (c .before .try-start .ensures))
+    omega (
+      arith,
+      span-lt (s .args .way),
+      fill-bound _ _ _ _ _ _ _ _ _ _ _ _ _ _ (l .loop .inv) (s .pre .0) (s .pre .1 .fits) _ refl
+          _ (e .before .next-code .ensures) q (e .before .before .loop-test .taken) _ _ (c .before .try-start .ensures),
+    )
 
 keep-requires : tie.Need-keep-requires Inv-loop μ-loop
 keep-requires c κs = tt
@@ -85,7 +93,13 @@ loop-less c =
     let e = turn c in
     let l = e .before .before .before in
     let s = start l in
-    omega (arith, l .before .span-of .ensures, e .if1 .left, fill-further _ _ _ _ _ _ _ _ _ _ _ _ _ _ (l .loop .inv) (s .pre .0) (s .pre .1 .fits) _ refl _ (e .before .next-code .ensures))
+    omega (
+      arith,
+      l .before .span-of .ensures,
+      e .if1 .left,
+      fill-further _ _ _ _ _ _ _ _ _ _ _ _ _ _ (l .loop .inv) (s .pre .0) (s .pre .1 .fits)
+          _ refl _ (e .before .next-code .ensures),
+    )
 
 loop-again : tie.Need-loop-again Inv-loop μ-loop
 loop-again c =
@@ -94,7 +108,8 @@ loop-again c =
     let l = e .before .before .before in
     let s = start l in
     let q : e .before .next-code .result < span (s .args .way) = omega (arith, l .before .span-of .ensures, e .if1 .left) in
-    fill-turn _ _ _ _ _ _ _ _ _ _ _ _ _ _ (l .loop .inv) (s .pre .0) (s .pre .1 .fits) _ refl _ (e .before .next-code .ensures) q (e .before .before .loop-test .taken) _ _ (a .before .before .before .before .try-start .ensures) _ _ _ (a .keep .ensures)
+    fill-turn _ _ _ _ _ _ _ _ _ _ _ _ _ _ (l .loop .inv) (s .pre .0) (s .pre .1 .fits) _ refl _ (e .before .next-code .ensures) q
+    (e .before .before .loop-test .taken) _ _ (a .before .before .before .before .try-start .ensures) _ _ _ (a .keep .ensures)
 
 same-length-3 : tie.Need-same-length-3 Inv-loop μ-loop
 same-length-3 c = c .before .loop .inv .taking .long

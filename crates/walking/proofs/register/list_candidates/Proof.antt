@@ -37,7 +37,9 @@ sub-taken : tie.Need-sub-taken Inv-loop μ-loop
 sub-taken c = let s = start (c .before) in omega (arith, s .pre .0 .notes, s .pre .0 .from-first)
 
 taken-requires : tie.Need-taken-requires Inv-loop μ-loop
-taken-requires c κs = let s = start (c .before) in (omega (arith, c .loop-test .taken, s .pre .0 .to-last, s .pre .0 .notes, s .pre .0 .from-first), (s .pre .0 .table-long, s .pre .0 .sets-small))
+taken-requires c κs =
+    let s = start (c .before) in
+    (omega (arith, c .loop-test .taken, s .pre .0 .to-last, s .pre .0 .notes, s .pre .0 .from-first), (s .pre .0 .table-long, s .pre .0 .sets-small))
 
 marks-requires : tie.Need-marks-requires Inv-loop μ-loop
 marks-requires c κs = tt
@@ -59,7 +61,14 @@ noted-requires c κs =
     let l = c .before .before .before in
     let s = start (l .before) in
     let t = l .before .loop .inv in
-    omega (arith, list-at _ _ _ _ _ _ _ _ _ (t .0), list-long _ _ _ _ _ _ _ _ _ (t .0) (omega (arith, l .loop-test .taken, s .pre .1 .1)), l .loop-test .taken, s .pre .1 .1)
+    omega (
+      arith,
+      list-at _ _ _ _ _ _ _ _ _ (t .0),
+      list-long _ _ _ _ _ _ _ _ _ (t .0)
+          (omega (arith, l .loop-test .taken, s .pre .1 .1)),
+      l .loop-test .taken,
+      s .pre .1 .1,
+    )
 
 add-i : tie.Need-add-i Inv-loop μ-loop
 add-i c = omega (arith, c .before .before .before .before .before .before .loop-test .taken)
@@ -72,8 +81,12 @@ loop-again c =
     let l = c .before .before .before .before .before .before in
     let s = start (l .before) in
     let n = c .before .before .noted .ensures in
-    let q = s .pre .0 in
-    (list-turn _ _ _ _ _ _ _ _ _ (l .before .loop .inv .0) (q .from-first) (q .notes) (q .notes-most) (omega (arith, l .loop-test .taken, s .pre .1 .1)) _ (c .before .before .before .before .before .taken .ensures) _ (c .before .before .before .before .marks .ensures) _ _ (n .0) (n .1), omega (arith, l .loop-test .taken))
+    let q = s .pre .0 in (
+      list-turn _ _ _ _ _ _ _ _ _ (l .before .loop .inv .0) (q .from-first) (q .notes) (q .notes-most)
+          (omega (arith, l .loop-test .taken, s .pre .1 .1)) _ (c .before .before .before .before .before .taken .ensures)
+          _ (c .before .before .before .before .marks .ensures) _ _ (n .0) (n .1),
+      omega (arith, l .loop-test .taken),
+    )
 
 same-length : tie.Need-same-length Inv-loop μ-loop
 same-length c = let s = start (c .before) in list-long _ _ _ _ _ _ _ _ _ (c .before .loop .inv .0) (omega (arith, c .before .loop .inv .1, s .pre .1 .1))

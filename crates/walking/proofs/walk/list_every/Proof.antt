@@ -42,7 +42,8 @@ loop-less : tie.Need-loop-less Inv-loop μ-loop
 loop-less c = omega (arith, c .loop-test .taken)
 
 loop-again : tie.Need-loop-again Inv-loop μ-loop
-loop-again c = (count-turn _ _ _ _ (c .before .loop .inv .0) (omega (arith, c .loop-test .taken, c .before .before .pre .1)), omega (arith, c .loop-test .taken))
+loop-again c =
+    (count-turn _ _ _ _ (c .before .loop .inv .0) (omega (arith, c .loop-test .taken, c .before .before .pre .1)), omega (arith, c .loop-test .taken))
 
 same-length : tie.Need-same-length Inv-loop μ-loop
 same-length c = count-long _ _ _ _ (c .before .loop .inv .0) (omega (arith, c .before .loop .inv .1, c .before .before .pre .1))

@@ -47,14 +47,25 @@ try-all-requires : tie.Need-try-all-requires Inv-loop μ-loop
 try-all-requires c κs =
     let l = c .before .before .before .before .before in
     let s = start (l .before) in
-    let t = l .before .loop .inv in
-    (s .pre .0, (along-stands _ _ _ _ _ _ _ _ _ _ _ _ (t .0) _ _ (s .pre .1 .0 .fits _ (more l)) (s .pre .1 .0 .low) _ (c .before .before .before .at-column .ensures), t .1))
+    let t = l .before .loop .inv in (
+      s .pre .0,
+      (
+        along-stands _ _ _ _ _ _ _ _ _ _ _ _ (t .0) _ _ (s .pre .1 .0 .fits _ (more l)) (s .pre .1 .0 .low)
+            _ (c .before .before .before .at-column .ensures),
+        t .1,
+      ),
+    )
 
 add-looks : tie.Need-add-looks Inv-loop μ-loop
 add-looks c =
     let l = c .before .before .before .before .before .before .before .before .before .before .before .before in
     let s = start (l .before) in
-    omega (arith, along-bound _ _ _ _ _ _ _ _ _ _ _ _ (l .before .loop .inv .0) (more l) _ (c .before .before .before .before .before .before .before .before .before .before .at-column .ensures) _ _ _ _ (c .before .before .before .before .before .before .try-all .ensures .0) _ (s .pre .1 .0 .few))
+    omega (
+      arith,
+      along-bound _ _ _ _ _ _ _ _ _ _ _ _ (l .before .loop .inv .0) (more l)
+          _ (c .before .before .before .before .before .before .before .before .before .before .at-column .ensures)
+          _ _ _ _ (c .before .before .before .before .before .before .try-all .ensures .0) _ (s .pre .1 .0 .few),
+    )
 
 loop-less : tie.Need-loop-less Inv-loop μ-loop
 loop-less c = let l = c .before .before .before .before .before .before .before .before .before .before .before .before in omega (arith, more l)
@@ -62,8 +73,11 @@ loop-less c = let l = c .before .before .before .before .before .before .before 
 loop-again : tie.Need-loop-again Inv-loop μ-loop
 loop-again c =
     let l = c .before .before .before .before .before .before .before .before .before .before .before .before in
-    let t = c .before .before .before .before .before .before .try-all .ensures in
-    (along-turn _ _ _ _ _ _ _ _ _ _ _ _ (l .before .loop .inv .0) (more l) _ (c .before .before .before .before .before .before .before .before .before .before .at-column .ensures) _ _ _ _ (t .0), t .1)
+    let t = c .before .before .before .before .before .before .try-all .ensures in (
+      along-turn _ _ _ _ _ _ _ _ _ _ _ _ (l .before .loop .inv .0) (more l)
+          _ (c .before .before .before .before .before .before .before .before .before .before .at-column .ensures) _ _ _ _ (t .0),
+      t .1,
+    )
 
 same-length : tie.Need-same-length Inv-loop μ-loop
 same-length c = c .before .loop .inv .0 .taking .long

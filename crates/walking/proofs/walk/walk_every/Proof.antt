@@ -40,20 +40,30 @@ start c = c .before .before .before .before .before .before .before .before
 abbrev ready : (c : tie.At-loop Inv-loop μ-loop) → Ready (start c .args .cells .now) (start c .args .h) (start c .args .theme .now)
 ready c = accepted-ready (start c .pre .accepted)
 
+n-is : (c : tie.At-loop Inv-loop μ-loop) → c .before .before .before .before .columns-in .result ≡ columnsIn (start c .args .cells .now) (start c .args .h)
+n-is c = c .before .before .before .before .columns-in .ensures
+
+abbrev turn : tie.After-struct-known2 Inv-loop μ-loop → tie.After-some-of Inv-loop μ-loop
+turn c = c .before .before .before .before .before .before .before .before .before .before .before .before .before .before
+
 -- the bookmark's code
-coded : (c : tie.After-code-of Inv-loop μ-loop) → let s = c .before .before .before .before .before .before .before .args in (c .code-of .result ≡ codeOf (s .way) (s .bookmark .shift)) × (c .code-of .result ≤ span (s .way))
+coded : (c : tie.After-code-of Inv-loop μ-loop)
+    → let s = c .before .before .before .before .before .before .before .args in (c .code-of .result ≡ codeOf (s .way) (s .bookmark .shift))
+    × (c .code-of .result ≤ span (s .way))
 coded c =
     let s = c .before .before .before .before .before .before .before in
-    let z : toZ w16 (ofZ w16 (s .args .bookmark .shift)) ≡ s .args .bookmark .shift = toZ-ofZ {w = w16} (record { sfits = c .before .struct-told .given .1 .0 .1 }) in
+    let z : toZ w16 (ofZ w16 (s .args .bookmark .shift)) ≡ s .args .bookmark .shift =
+    toZ-ofZ {w = w16} (record { sfits = c .before .struct-told .given .1 .0 .1 }) in
     plain-code _ _ _ _ _ _ _ (s .pre) _ (c .code-of .ensures ∙ ap (codeGiven (s .args .way)) z)
 
 -- a column is left, and how many are listed
-fits : (c : tie.In-loop Inv-loop μ-loop) → c .before .loop .j + length (start (c .before) .args .theme .now) ≤ c .before .before .before .before .before .columns-in .result + 1
+fits : (c : tie.In-loop Inv-loop μ-loop) → c .before .loop .j + length
+    (start (c .before) .args .theme .now) ≤ c .before .before .before .before .before .columns-in .result + 1
 fits c = leb-true _ _ (both-left _ _ (c .loop-test .taken))
 
 some : (c : tie.After-some-of Inv-loop μ-loop) → let l = c .before .before in
     l .loop .j + c .some-of .result + length (start l .args .theme .now) ≤ columnsIn (start l .args .cells .now) (start l .args .h) + 2
-some c = omega (arith, c .some-of .ensures .1, fits (c .before), c .before .before .before .before .before .before .columns-in .ensures)
+some c = omega (arith, c .some-of .ensures .1, fits (c .before), n-is (c .before .before))
 
 columns-in-requires : tie.Need-columns-in-requires Inv-loop μ-loop
 columns-in-requires c κs = tt
@@ -67,17 +77,22 @@ code-of-requires c κs = tt
 loop-holds : tie.Need-loop-holds Inv-loop μ-loop
 loop-holds c =
     let s = c .before .before .before .before .before .before .before in
-    let k = coded c in
-    (every-start _ _ _ _ _ _ (accepted-ready (s .pre .accepted)) _ _ (s .pre .marked .from-first) (k .1) (s .pre .same-room), cached-none _ _ _, refl, omega (arith, s .pre .marked .to-end, c .before .before .before .columns-in .ensures))
+    let k = coded c in (
+      every-start _ _ _ _ _ _ (accepted-ready (s .pre .accepted)) _ _ (s .pre .marked .from-first) (k .1) (s .pre .same-room),
+      cached-none
+          _ _ _,
+      refl,
+      omega (arith, s .pre .marked .to-end, c .before .before .before .columns-in .ensures),
+    )
 
 add-loop : tie.Need-add-loop Inv-loop μ-loop
-add-loop c = omega (arith, c .loop .inv .3, c .before .before .before .before .columns-in .ensures, ready c .columns-most, ready c .notes-most)
+add-loop c = omega (arith, c .loop .inv .3, n-is c, ready c .columns-most, ready c .notes-most)
 
 add-loop-2 : tie.Need-add-loop-2 Inv-loop μ-loop
-add-loop-2 c = omega (arith, c .before .before .before .before .columns-in .ensures, ready c .columns-most)
+add-loop-2 c = omega (arith, n-is c, ready c .columns-most)
 
 add-some-of : tie.Need-add-some-of Inv-loop μ-loop
-add-some-of c = omega (arith, c .before .before .before .before .before .columns-in .ensures, ready (c .before) .columns-most)
+add-some-of c = omega (arith, n-is (c .before), ready (c .before) .columns-most)
 
 sub-some-of : tie.Need-sub-some-of Inv-loop μ-loop
 sub-some-of c = omega (arith, fits c)
@@ -124,29 +139,38 @@ walk-along-requires c κs =
 
 add-looks : tie.Need-add-looks Inv-loop μ-loop
 add-looks c =
-    let a = c .before .before .before .before .before .before .before .before .before .before .before .before .before .before in
+    let a = turn c in
     let l = a .before .before in
     let e = every-front (c .before .before .before .before .before .before .before .before .before .before .before .before .list-every .ensures) in
-    record { fits = walk-bound _ _ _ _ _ _ _ _ (ready l) _ _ _ _ _ _ (l .loop .inv .0) _ (a .some-of .ensures .0) (some a) _ e _ _ _ _ (c .before .before .before .before .before .walk-along .ensures .0) }
+    record {
+      fits = walk-bound _ _ _ _ _ _ _ _ (ready l) _ _ _ _ _ _ (l .loop .inv .0) _ (a .some-of .ensures .0) (some a) _ e
+          _ _ _ _ (c .before .before .before .before .before .walk-along .ensures .0);
+    }
 
 add-j : tie.Need-add-j Inv-loop μ-loop
 add-j c =
-    let a = c .before .before .before .before .before .before .before .before .before .before .before .before .before .before in
+    let a = turn c in
     omega (arith, some a, ready (a .before .before) .columns-most)
 
 loop-less : tie.Need-loop-less Inv-loop μ-loop
 loop-less c =
-    let a = c .before .before .before .before .before .before .before .before .before .before .before .before .before .before in
+    let a = turn c in
     omega (arith, a .some-of .ensures .0, fits (a .before), ready (a .before .before) .notes)
 
 loop-again : tie.Need-loop-again Inv-loop μ-loop
 loop-again c =
-    let a = c .before .before .before .before .before .before .before .before .before .before .before .before .before .before in
+    let a = turn c in
     let l = a .before .before in
     let w = c .before .before .before .before .before .before .before .before .before .before .before .before .list-every .ensures in
     let e = every-front w in
-    let t = c .before .before .before .before .before .walk-along .ensures in
-    (walk-turn _ _ _ _ _ _ _ _ (ready l) _ _ _ _ _ _ (l .loop .inv .0) _ (a .some-of .ensures .0) (some a) _ e _ _ _ _ (t .0), t .1, every-long w (omega (arith, a .some-of .ensures .2, l .loop .inv .2)) ∙ l .loop .inv .2, omega (arith, some a, ready l .notes, c .before .before .before .before .before .before .before .before .before .before .before .before .before .before .before .before .before .before .before .before .columns-in .ensures))
+    let t = c .before .before .before .before .before .walk-along .ensures in (
+      walk-turn _ _ _ _ _ _ _ _ (ready l) _ _ _ _ _ _ (l .loop .inv .0) _ (a .some-of .ensures .0) (some a) _ e _ _ _ _ (t .0),
+      t .1,
+      every-long w
+          (omega (arith, a .some-of .ensures .2, l .loop .inv .2)) ∙ l .loop .inv .2,
+      omega
+          (arith, some a, ready l .notes, n-is l),
+    )
 
 same-length : tie.Need-same-length Inv-loop μ-loop
 same-length c = c .before .loop .inv .0 .taking .long
@@ -157,7 +181,8 @@ same-length-2 c = c .before .loop .inv .0 .taking .long-shifts ∙ sym (start (c
 returns : tie.Need-returns Inv-loop μ-loop
 returns c =
     let l = c .before in
-    rw (← (coded (l .before) .0)) (walk-over _ _ _ _ _ _ _ _ (ready l) _ _ _ _ _ _ (l .loop .inv .0) _ (c .before .before .before .before .before .columns-in .ensures) (c .loop-test .left))
+    rw (← (coded (l .before) .0)) (walk-over _ _ _ _ _ _ _ _ (ready l) _ _ _ _ _ _ (l .loop .inv .0)
+    _ (n-is l) (c .loop-test .left))
 
 pub walk-every-spec : {M : Type 1} → statement M
 walk-every-spec =
