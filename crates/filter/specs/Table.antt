@@ -12,10 +12,6 @@ use Rattle.score.specs.declared.quantities.Interval.{Interval}
 use Rattle.score.specs.Score.{note}
 use Rattle.score.specs.Sets.{interval}
 
--- how many bits a word of the table has: the width of the calls
-abbrev pub wordBits : ℕ
-wordBits = 32
-
 -- the interval from note i + 1 to note i + 2 of the theme, mod 12; there are m - 1 of them, from i = 0
 abbrev pub themeInterval : (theme : List ℕ) → ℕ → Interval
 themeInterval theme i = interval (note theme (i + 1)) (note theme (i + 2))

@@ -5,10 +5,7 @@ ghost use Prim.Native.Nat.{_%_};
 ghost use lib.Dec.{eqb};
 ghost use Rattle.theory.specs.Bits.{bit};
 ghost use Rattle.theory.specs.Register as Register;
-ghost use Rattle.filter.specs.Table.{wordBits};
-
-// How many bits the register and the table's words have.
-pub const WORD_BITS: usize = 32;
+ghost use Rattle.filter.specs.Limits.{wordBits};
 
 // One word more: the register is doubled with its top bit lost, then or-ed with the word.
 pub fn step(register: u32, word: u32) -> u32

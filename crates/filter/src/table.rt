@@ -3,7 +3,7 @@
 // A word is the or of a row for each bit of its set, and of the ones past the theme's intervals. So the theme is gone
 // through once, for the twelve rows, and the words come by doubling what stands before them.
 
-use crate::register::WORD_BITS;
+use crate::limits::WORD_BITS;
 use score::Pitch;
 use score::TABLE_WORDS;
 use score::interval_of;
@@ -11,7 +11,8 @@ ghost use mathlib.Core.Path.{_≡_};
 ghost use Prim.Native.Nat.{ℕ, _+_, _^_, _≤_, _<_};
 ghost use lib.Bits.{bitOr};
 ghost use lib.ListN.{length, getD};
-ghost use Rattle.filter.specs.Table.{wordBits, word, tableAfter};
+ghost use Rattle.filter.specs.Limits.{wordBits};
+ghost use Rattle.filter.specs.Table.{word, tableAfter};
 ghost use Rattle.filter.specs.Doubling.{Doubled};
 
 // The row of each interval: a bit for each place where it stands in the theme. The row of d leads from the word of a set

@@ -24,7 +24,8 @@ use Rattle.asking.specs.declared.bookmark.Bookmark.{Bookmark}
 use Rattle.walking.specs.Starts.{Place, looks}
 use Rattle.asking.specs.Way.{rangeOf}
 use Rattle.asking.specs.Refusals.{row4, row5, row8, badNote, pageRows}
-use Rattle.filter.specs.Table.{wordBits, themeTable}
+use Rattle.filter.specs.Limits.{wordBits}
+use Rattle.filter.specs.Table.{themeTable}
 use Rattle.paging.specs.Lent.{Lent}
 use Rattle.paging.specs.Search.{Search, left}
 use Rattle.paging.specs.Page.{Leaf, leaf, away}

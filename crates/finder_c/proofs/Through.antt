@@ -15,7 +15,8 @@ use Rattle.paging.specs.declared.page.Page.{Page}
 use Rattle.paging.specs.Lent.{Lent}
 use Rattle.paging.specs.Page.{Leaf, Pages}
 use Rattle.search.specs.Page.{PlainPages, QuickPages}
-use Rattle.finder_c.specs.Numbers.{wayOf, noCall, preparationNumber, pageNumber, pageNumbers, answerNumbers, notCalled}
+use Rattle.finder_c.specs.Limits.{answerNumbers, notCalled}
+use Rattle.finder_c.specs.Numbers.{wayOf, noCall, preparationNumber, pageNumber, pageNumbers}
 use Rattle.finder_c.specs.Small.{SmallPreparation, SmallPage}
 use Rattle.finder_c.specs.Calls.{CPrepares, CPages, CPlainPages, CQuickPages, CLeaf, bookmark, leafNumbers, noLeaf}
 use Rattle.finder_c.proofs.SmallAnswers.{prepared-small, plain-small, quick-small}

@@ -12,7 +12,8 @@ use Rattle.asking.specs.declared.bookmark.Bookmark.{Bookmark}
 use Rattle.paging.specs.Lent.{Lent}
 use Rattle.paging.specs.Page.{Leaf}
 use Rattle.search.specs.Page.{plainPage, quickPage, quickTable}
-use Rattle.finder_c.specs.Numbers.{notCalled, wayOf, noCall, preparationNumber, pageNumber, pageNumbers}
+use Rattle.finder_c.specs.Limits.{notCalled}
+use Rattle.finder_c.specs.Numbers.{wayOf, noCall, preparationNumber, pageNumber, pageNumbers}
 
 -- finder_prepare
 pub record CPrepares (cells : List ℕ) (h : ℕ) (sets : List ℕ) (result : ℤ) (sets′ : List ℕ) : Type 0 where

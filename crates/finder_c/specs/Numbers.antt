@@ -13,14 +13,7 @@ use Rattle.asking.specs.declared.way.Way.the-variants.{Exact, Octave}
 use Rattle.paging.specs.declared.page.Turn.{Turn}
 use Rattle.paging.specs.declared.page.Page.{Page}
 use Rattle.paging.specs.declared.page.Page.the-variants.{Turned, Refused}
-
--- how many numbers the answer of a page has
-abbrev pub answerNumbers : ℕ
-answerNumbers = 5
-
--- the result where there was no call
-abbrev pub notCalled : ℕ
-notCalled = 255
+use Rattle.finder_c.specs.Limits.{answerNumbers}
 
 -- 0 exact, 1 octave
 abbrev pub wayOf : ℕ → Way

@@ -1,7 +1,7 @@
 // The exported calls. A slice is a pointer and a length in C, and a number is itself. No call asks anything of its caller
 // but that the memory lent is there: what cannot be answered is refused, and a refused call writes nothing.
 
-use crate::told::NOT_CALLED;
+use crate::limits::NOT_CALLED;
 use crate::told::no_call;
 use crate::told::told_page;
 use crate::told::told_preparation;

@@ -1,5 +1,6 @@
 // An answer in numbers: 0 where the call was accepted, and otherwise the refusal.
 
+use crate::limits::ANSWER_NUMBERS;
 use preparing::Preparation;
 use score::Refusal;
 use search::Page;
@@ -8,14 +9,9 @@ use search::Way;
 ghost use mathlib.Core.Path.{_≡_};
 ghost use mathlib.Core.List.{[], _∷_};
 ghost use lib.ListN.{length};
-ghost use Rattle.finder_c.specs.Numbers.{answerNumbers, wayOf, noCall, refusalNumber, preparationNumber, pageNumber, turnNumbers, pageNumbers};
+ghost use Rattle.finder_c.specs.Limits.{answerNumbers};
+ghost use Rattle.finder_c.specs.Numbers.{wayOf, noCall, refusalNumber, preparationNumber, pageNumber, turnNumbers, pageNumbers};
 ghost use Rattle.finder_c.specs.Small.{SmallPlace, SmallPreparation, SmallPage, SmallTurn};
-
-// How many numbers the answer of a page has.
-pub const ANSWER_NUMBERS: usize = 5;
-
-// The result where there was no call.
-pub const NOT_CALLED: i64 = 255;
 
 // The way of a number that is one: 0 exact, 1 octave.
 pub fn way_of(way: u8) -> Way

@@ -9,7 +9,7 @@ use Prim.Native.Nat.{ℕ, zero, suc, _+_, _-_, _*_, _≤_, _<_}
 use native.Mathlib.Omega.{arith}
 use lib.Dec.{eqb}
 use lib.ListN.{length, take, drop, length-append, take-append-drop}
-use Rattle.listing.specs.Listing.{inputRoom}
+use Rattle.listing.specs.Limits.{inputRoom}
 use Rattle.score.specs.Limits.{mostTracks, mostColumns, highestPitch, restCell}
 use Rattle.asking.specs.declared.way.Way.{Way}
 use Rattle.asking.specs.declared.way.Way.the-variants.{Exact, Octave}

@@ -12,7 +12,8 @@ use Rattle.score.specs.declared.refusals.Refusal.{Refusal}
 use Rattle.telling.specs.declared.calls.Telling.{Telling}
 use Rattle.telling.specs.declared.calls.Telling.the-variants as Telling
 use Rattle.telling.specs.declared.calls.Telling.the-variants.{Told, Refused}
-use Rattle.telling.specs.Telling.{room, told, Tells}
+use Rattle.telling.specs.Limits.{room}
+use Rattle.telling.specs.Telling.{told, Tells}
 use Rattle.listing.specs.declared.output.Listing.{Listing}
 use Rattle.listing.specs.declared.output.Listing.the-variants.{Written, Short}
 use Rattle.listing.specs.Answer.{output}

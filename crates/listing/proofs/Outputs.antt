@@ -19,7 +19,7 @@ use Rattle.words.specs.Words.{Read, got, bad}
 use Rattle.reading.specs.Reading.{Theme, chordLine, themeLine}
 use Rattle.reading.specs.Request.{Request, Chords, all, fault, above, onChord, chords, Meaning, right, faulty, withChords, withTheme, meaning}
 use Rattle.listing.specs.Texts.{textOf, themeText, Each, IsChord, Right}
-use Rattle.telling.specs.Telling.{room}
+use Rattle.telling.specs.Limits.{room}
 use Rattle.telling.specs.Lines.{linesOf}
 use Rattle.listing.specs.Answer.{answer, output}
 use Rattle.listing.proofs.RightLines.{theme-is, chords-whole}

@@ -7,14 +7,10 @@ use Prim.Native.Nat.{ℕ}
 use lib.Dec.{ltb}
 use lib.ListN.{length}
 use Rattle.theory.specs.Lists.{over}
-use Rattle.telling.specs.Telling.{room}
+use Rattle.telling.specs.Limits.{room}
 use Rattle.listing.specs.declared.output.Listing.{Listing}
 use Rattle.listing.specs.declared.output.Listing.the-variants.{Written, Short}
 use Rattle.listing.specs.Answer.{output}
-
--- room for an input: one byte more than any right input has. What lies behind it changes nothing (`output-behind`)
-abbrev pub inputRoom : ℕ
-inputRoom = 143502
 
 pub record Lists (input out : List ℕ) (answer : Listing) (out′ : List ℕ) : Type 0 where
   pub answers : answer ≡ cond (ltb (length out) room) Short (Written (length (output input)))

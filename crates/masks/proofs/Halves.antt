@@ -1,5 +1,6 @@
 -- Two halves of 64 bits as one number, `value`: its bits, its bounds and its ones, an `and` and an `or` of two such numbers, a bit put, and
--- what it marks. No other file goes by halves, but for `Shifting`. `value-unique`: the number settles both halves. Assumes nothing.
+-- what it marks. Where code has halves, these laws say what they make, and all else is said of the number. `value-unique`: the number
+-- settles both halves. Assumes nothing.
 use mathlib.Core.Path.{_≡_, sym, ap, _∙_}
 use mathlib.Core.List.{_++_}
 use Prim.Native.Nat.{ℕ, _+_, _-_, _/_, _%_, _^_, _≤_, _<_}
@@ -76,8 +77,8 @@ module _ (low high : ℕ) (h : Halves low high) where
   unfolding value
   value-ones = add-comm (ones low) (ones high) ∙ sym (ones-cat 64 high low (h .lower))
 
-  pub value-few-ones : ones low + ones high ≤ 128
-  value-few-ones = omega (arith, ones-le 64 low (h .lower), ones-le 64 high (h .upper))
+  pub value-ones-le : ones low + ones high ≤ 128
+  value-ones-le = omega (arith, ones-le 64 low (h .lower), ones-le 64 high (h .upper))
 
   -- no bit, where neither half has one
   pub value-none : bitOr low high ≡ 0 → value low high ≡ 0
@@ -122,7 +123,8 @@ module _ (low high n : ℕ) (h : Halves low high) where
   put-lower l =
       let e : n % 64 ≡ n = omega arith in
       rw e
-      (ap (value (bitOr low (2 ^ n))) (sym (or-zero-r high)) ∙ value-or low high (2 ^ n) 0 h (power-lower n l) ∙ ap (bitOr (value low high)) (value-few (2 ^ n)))
+      (ap (value (bitOr low (2 ^ n))) (sym (or-zero-r high)) ∙ value-or low high (2 ^ n) 0 h (power-lower n l)
+      ∙ ap (bitOr (value low high)) (value-few (2 ^ n)))
 
   pub put-upper : 64 ≤ n → n < 128 → value low (bitOr high (2 ^ (n % 64))) ≡ bitOr (value low high) (2 ^ n)
   put-upper l u =

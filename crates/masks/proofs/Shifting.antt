@@ -27,6 +27,10 @@ module _ (low high d : ℕ) (h : Halves low high) where
   x-lt : x < 2 ^ 128
   x-lt = value-lt low high h
 
+  -- a bit of the number, in its upper half
+  upper-at : (q t : ℕ) → 64 + q ≡ t → bit high q ≡ bit x t
+  upper-at q t e = sym (bit-upper low high h q) ∙ ap (bit x) e
+
   -- ---- down
 
   shr-lt : x / 2 ^ d < 2 ^ 128
@@ -52,9 +56,7 @@ module _ (low high d : ℕ) (h : Halves low high) where
           let b : bit (high * 2 ^ 1 % 2 ^ 64 * 2 ^ (63 - d) % 2 ^ 64) i ≡ bit high (d + i - 64) =
           ap (bit (high * 2 ^ 1 % 2 ^ 64 * 2 ^ (63 - d) % 2 ^ 64)) a
           ∙ shl-high (high * 2 ^ 1 % 2 ^ 64) (63 - d) (1 + (d + i - 64)) 64 (omega arith) ∙ shl-high high 1 (d + i - 64) 64 (omega arith) in
-          let e : 64 + (d + i - 64) ≡ d + i = omega arith in
-          let f : bit x (d + i) ≡ bit high (d + i - 64) = ap (bit x) (sym e) ∙ bit-upper low high h (d + i - 64) in
-          omega (arith, bit-shr low d i, bit-high low (d + i) 64 (h .lower) (omega arith), b, f)
+          omega (arith, bit-shr low d i, bit-high low (d + i) 64 (h .lower) (omega arith), b, upper-at (d + i - 64) (d + i) (omega arith))
 
   pub down-near : d < 64 → value downLow (high / 2 ^ d) ≡ x / 2 ^ d
   down-near n =
@@ -64,12 +66,12 @@ module _ (low high d : ℕ) (h : Halves low high) where
         upper = lt-of-le-of-lt (shr-le high d) (h .upper);
       })
       (x / 2 ^ d) shr-lt (λ i k. down-bit n i k ∙ sym (bit-shr x d i))
-      (λ i k. let e : 64 + (d + i) ≡ d + (64 + i) = omega arith in bit-shr high d i ∙ sym (bit-upper low high h (d + i)) ∙ ap (bit x) e ∙ sym (bit-shr x d (64 + i)))
+      (λ i k. bit-shr high d i ∙ upper-at (d + i) (d + (64 + i)) (omega arith) ∙ sym (bit-shr x d (64 + i)))
 
   pub down-far : 64 ≤ d → value (high / 2 ^ (d - 64)) 0 ≡ x / 2 ^ d
   down-far n =
       value-is (high / 2 ^ (d - 64)) 0 (record { lower = lt-of-le-of-lt (shr-le high (d - 64)) (h .upper); upper = pow-pos 64 }) (x / 2 ^ d) shr-lt
-      (λ i k. let e : 64 + (d - 64 + i) ≡ d + i = omega arith in bit-shr high (d - 64) i ∙ sym (bit-upper low high h (d - 64 + i)) ∙ ap (bit x) e ∙ sym (bit-shr x d i))
+      (λ i k. bit-shr high (d - 64) i ∙ upper-at (d - 64 + i) (d + i) (omega arith) ∙ sym (bit-shr x d i))
       (λ i k. no-bit i ∙ sym (bit-shr x d (64 + i) ∙ bit-high x (d + (64 + i)) 128 x-lt (omega arith)))
 
   pub down-out : 128 ≤ d → value 0 0 ≡ x / 2 ^ d
@@ -110,16 +112,16 @@ module _ (low high d : ℕ) (h : Halves low high) where
       pick (no m) =
           let a : d + (i - d) ≡ i = omega arith in
           let b : bit (high * 2 ^ d % 2 ^ 64) i ≡ bit high (i - d) = ap (bit (high * 2 ^ d % 2 ^ 64)) (sym a) ∙ shl-high high d (i - d) 64 (omega arith) in
-          let e : 64 + (i - d) ≡ 64 + i - d = omega arith in
-          let f : bit x (64 + i - d) ≡ bit high (i - d) = ap (bit x) (sym e) ∙ bit-upper low high h (i - d) in
-          omega (arith, b, f, bit-high low (64 + i - d) 64 (h .lower) (omega arith))
+          omega (arith, b, upper-at (i - d) (64 + i - d) (omega arith), bit-high low (64 + i - d) 64 (h .lower) (omega arith))
 
   pub up-near : d < 64 → value (low * 2 ^ d % 2 ^ 64) upHigh ≡ shl
   up-near n =
       value-is (low * 2 ^ d % 2 ^ 64) upHigh
       (record {
         lower = mod-lt _ (pow-pos 64);
-        upper = or-lt 64 (high * 2 ^ d % 2 ^ 64) (low / 2 ^ 1 / 2 ^ (63 - d)) (mod-lt _ (pow-pos 64)) (lt-of-le-of-lt (shr-le (low / 2 ^ 1) (63 - d)) (lt-of-le-of-lt (shr-le low 1) (h .lower)));
+        upper =
+            or-lt 64 (high * 2 ^ d % 2 ^ 64) (low / 2 ^ 1 / 2 ^ (63 - d)) (mod-lt _ (pow-pos 64))
+            (lt-of-le-of-lt (shr-le (low / 2 ^ 1) (63 - d)) (lt-of-le-of-lt (shr-le low 1) (h .lower)));
       })
       shl shl-lt (λ i k. shl-bit i (bit (low * 2 ^ d % 2 ^ 64) i) (omega arith) (λ m. lower-bit i k m) (λ m. shl-low low d i 64 m k))
       (λ i k. shl-bit (64 + i) (bit upHigh i) (omega arith) (λ m. up-bit n i k) (λ m. absurd (omega arith)))

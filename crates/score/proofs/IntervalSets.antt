@@ -14,6 +14,7 @@ use Rattle.theory.specs.Bits.{bit}
 use Rattle.theory.specs.Lists.{some}
 use Rattle.theory.proofs.Bits.{bit-number, number-lt, bit-high, bit-ext, bit-ones}
 use Rattle.theory.proofs.Lists.{some-in, in-some}
+use Rattle.score.specs.Limits.{highestSet, tableWords}
 use Rattle.score.specs.declared.quantities.Pitch.{Pitch}
 use Rattle.score.specs.declared.quantities.Interval.{Interval}
 use Rattle.score.specs.Score.{pitches}
@@ -59,7 +60,7 @@ pub set-number : (a b : List ℕ) (q : ℕ) → q < 12 → bit (intervalSet a b)
 unfolding intervalSet
 set-number a b q h = bit-number 12 (λ k. absent (apart a b k)) (λ k. absent-lt (apart a b k)) q h
 
-pub set-lt : (a b : List ℕ) → intervalSet a b < 4096
+pub set-lt : (a b : List ℕ) → intervalSet a b < tableWords
 unfolding intervalSet
 set-lt a b = number-lt 12 (λ k. absent (apart a b k)) (λ k. absent-lt (apart a b k))
 
@@ -72,9 +73,9 @@ set-bit a b d h =
     (λ z. apart-true a b d (absent-zero (apart a b (d .0)) (sym e ∙ z)), λ p. e ∙ ap absent (true-apart a b d p))
 
 -- no interval at all
-pub set-none : (a b : List ℕ) → ((d : Interval) → Apart a b d → ⊥) → intervalSet a b ≡ 4095
+pub set-none : (a b : List ℕ) → ((d : Interval) → Apart a b d → ⊥) → intervalSet a b ≡ highestSet
 set-none a b f =
-    bit-ext 12 (intervalSet a b) 4095 (set-lt a b) (omega arith)
+    bit-ext 12 (intervalSet a b) highestSet (set-lt a b) (omega arith)
     (λ q h. set-number a b q h ∙ step q (apart a b q) refl ∙ sym (bit-ones q 12 h))
   where
     step : (q : ℕ) (t : Bool) → apart a b q ≡ t → absent t ≡ 1
@@ -95,7 +96,7 @@ sets-at (a ∷ []) k h = absurd (omega arith)
 sets-at (a ∷ b ∷ score) zero h = refl
 sets-at (a ∷ b ∷ score) (suc k) h = rw suc-add (sets-at (b ∷ score) k (omega arith))
 
-pub sets-lt : (score : List (List ℕ)) (k : ℕ) → getD (sets score) k 0 < 4096
+pub sets-lt : (score : List (List ℕ)) (k : ℕ) → getD (sets score) k 0 < tableWords
 sets-lt [] k = omega arith
 sets-lt (a ∷ []) k = omega arith
 sets-lt (a ∷ b ∷ score) zero = set-lt a b

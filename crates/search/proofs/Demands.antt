@@ -22,6 +22,7 @@ use Prim.Native.Nat.{ℕ, _+_, _-_, _*_, _^_, _≤_, _<_}
 use native.Mathlib.Nat.{le-trans}
 use native.Mathlib.Omega.{arith}
 use lib.ListN.{length}
+use Rattle.score.specs.Limits.{tableWords}
 use Rattle.score.specs.Score.{columnsIn, scoreOf}
 use Rattle.score.specs.Sets.{sets}
 use Rattle.score.proofs.Columns.{score-length, column-le}
@@ -32,7 +33,8 @@ use Rattle.asking.specs.declared.bookmark.Bookmark.{Bookmark}
 use Rattle.asking.specs.Way.{rangeOf}
 use Rattle.asking.specs.Bookmarks.{firstBookmark}
 use Rattle.asking.specs.Asking.{Accepted, AcceptedSets, InRange, PlainAsks}
-use Rattle.filter.specs.Table.{wordBits, themeTable}
+use Rattle.filter.specs.Limits.{wordBits}
+use Rattle.filter.specs.Table.{themeTable}
 use Rattle.paging.specs.Lent.{Lent, Room}
 use Rattle.paging.specs.Search.{allLooks, spent}
 use Rattle.paging.specs.OnePage.{PageOf}
@@ -87,7 +89,7 @@ module _ (cells : List ℕ) (h : ℕ) (theme : List ℕ) (way : Way) (a : Accept
   plain-lists = search-lists (plain-calls cells h theme way a r room)
 
   -- quick, with sets of any score, and at each call any table of 4,096 places: the pairs at candidates
-  module _ (lent : List ℕ) (s : AcceptedSets cells h lent) (table : Bookmark → Lent → List ℕ) (long : (b : Bookmark) (buffers : Lent) → length (table b buffers) ≡ 4096) where
+  module _ (lent : List ℕ) (s : AcceptedSets cells h lent) (table : Bookmark → Lent → List ℕ) (long : (b : Bookmark) (buffers : Lent) → length (table b buffers) ≡ tableWords) where
     pub quick-lists : Lists (λ b buffers. quickPage cells h theme way b lent (table b buffers) buffers) r (firstBookmark (rangeOf way))
         (candidatePairs way (scoreOf cells h) theme lent) (candidateLooks way (scoreOf cells h) theme lent)
     quick-lists =
@@ -97,7 +99,7 @@ module _ (cells : List ℕ) (h : ℕ) (theme : List ℕ) (way : Way) (a : Accept
         (quick-pairs way (scoreOf cells h) theme lent) (search-lists (quick-calls cells h theme way a r room lent s table long))
 
   -- with the score's own sets: all pairs
-  pub own-lists : (table : Bookmark → Lent → List ℕ) → ((b : Bookmark) (buffers : Lent) → length (table b buffers) ≡ 4096)
+  pub own-lists : (table : Bookmark → Lent → List ℕ) → ((b : Bookmark) (buffers : Lent) → length (table b buffers) ≡ tableWords)
       → Lists (λ b buffers. quickPage cells h theme way b (sets (scoreOf cells h)) (table b buffers) buffers) r (firstBookmark (rangeOf way))
       (pairs way (scoreOf cells h) theme) (candidateLooks way (scoreOf cells h) theme (sets (scoreOf cells h)))
   own-lists table long = rw (← own-pairs cells h theme way a) (quick-lists (sets (scoreOf cells h)) own-sets table long)
@@ -116,7 +118,7 @@ module _ (cells : List ℕ) (h : ℕ) (theme : List ℕ) (way : Way) (b : Bookma
       subst (λ (n : ℕ). PageOf (pairs way (scoreOf cells h) theme) (rangeOf way) n b buffers (plainPage cells h theme way b buffers)) (score-length cells h)
       (call-page (plain-calls cells h theme way (a .accepted) (length (buffers .columns)) (a .room)) b in-score buffers of-room)
 
-  pub quick-page : (lent table : List ℕ) → AcceptedSets cells h lent → length table ≡ 4096
+  pub quick-page : (lent table : List ℕ) → AcceptedSets cells h lent → length table ≡ tableWords
       → PageOf (candidatePairs way (scoreOf cells h) theme lent) (rangeOf way) (columnsIn cells h) b buffers (quickPage cells h theme way b lent table buffers)
   quick-page lent table s e =
       subst (λ (n : ℕ). PageOf (candidatePairs way (scoreOf cells h) theme lent) (rangeOf way) n b buffers (quickPage cells h theme way b lent table buffers)) (score-length cells h)

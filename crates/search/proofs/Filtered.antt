@@ -16,6 +16,7 @@ use Rattle.theory.specs.Bits.{bit}
 use Rattle.theory.specs.Register.{register}
 use Rattle.theory.proofs.Register.{register-sound, register-complete}
 use Rattle.theory.proofs.Lists.{some-in}
+use Rattle.score.specs.Limits.{tableWords}
 use Rattle.score.specs.declared.quantities.Pitch.{Pitch}
 use Rattle.score.specs.Score.{pitch, pitches, columnAt, onward}
 use Rattle.score.specs.Sets.{interval, sets, Apart}
@@ -62,7 +63,7 @@ candidate-diagonal w table lent m j low high h = (there, back)
 -- ---- the theme's table, and any lent sets
 
 module _ (w : ℕ) (theme : List ℕ) (low : 2 ≤ length theme) (high : length theme ≤ w) where
-  pub candidate-iff : (lent : List ℕ) → ((k : ℕ) → getD lent k 0 < 4096) → (j : ℕ) → 1 ≤ j
+  pub candidate-iff : (lent : List ℕ) → ((k : ℕ) → getD lent k 0 < tableWords) → (j : ℕ) → 1 ≤ j
       → (candidate w (themeTable w theme) lent (length theme) j ≡ true)
       ↔ ((i : ℕ) → i + 2 ≤ length theme → bit (getD lent (j - 1 + i) 0) (themeInterval theme i .0) ≡ 0)
   candidate-iff lent small j h = (λ e i k. sym (same i k) ∙ all .0 e i k, λ f. all .1 (λ i k. same i k ∙ f i k))

@@ -11,6 +11,7 @@ use borrow.Author.Tests.{ltb-false, le-ltb}
 use Rattle.theory.specs.Pages.{hits}
 use Rattle.theory.proofs.Lists.{some-none, none-some}
 use Rattle.theory.proofs.Hits.{hits-map}
+use Rattle.score.specs.Limits.{highestPitch, highestSet, tableWords}
 use Rattle.score.specs.Score.{columnsIn, scoreOf}
 use Rattle.score.specs.Sets.{sets}
 use Rattle.score.specs.Refusals.{Row, badSet}
@@ -25,7 +26,8 @@ use Rattle.asking.specs.Way.{rangeOf}
 use Rattle.asking.specs.Refusals.{badNote, requestRows, setsRows, pageRows}
 use Rattle.asking.specs.Asking.{Accepted, AcceptedSets}
 use Rattle.asking.proofs.Rows.{accepted-clear, sets-clear}
-use Rattle.filter.specs.Table.{wordBits, themeTable}
+use Rattle.filter.specs.Limits.{wordBits}
+use Rattle.filter.specs.Table.{themeTable}
 use Rattle.paging.specs.Lent.{Lent}
 use Rattle.paging.specs.Search.{listed}
 use Rattle.paging.specs.Page.{leaf, away, paged}
@@ -52,14 +54,14 @@ pub own-sets : {cells : List ℕ} {h : ℕ} → AcceptedSets cells h (sets (scor
 own-sets {cells} {h} =
     record {
       one-less = sets-length (scoreOf cells h) ∙ ap (λ (n : ℕ). n - 1) (score-length cells h);
-      sets-good = none-some badSet (sets (scoreOf cells h)) 0 (λ i l. le-ltb 4095 (getD (sets (scoreOf cells h)) i 0) (omega (arith, sets-lt (scoreOf cells h) i)));
+      sets-good = none-some badSet (sets (scoreOf cells h)) 0 (λ i l. le-ltb highestSet (getD (sets (scoreOf cells h)) i 0) (omega (arith, sets-lt (scoreOf cells h) i)));
     }
 
-note-le : {cells : List ℕ} {h : ℕ} {theme : List ℕ} → Accepted mostNotes cells h theme → (i : ℕ) → getD theme i 0 ≤ 127
+note-le : {cells : List ℕ} {h : ℕ} {theme : List ℕ} → Accepted mostNotes cells h theme → (i : ℕ) → getD theme i 0 ≤ highestPitch
 note-le {theme = theme} a i = pick (decLt i (length theme))
   where
-    pick : Dec (i < length theme) → getD theme i 0 ≤ 127
-    pick (yes l) = ltb-false 127 (getD theme i 0) (some-none badNote theme 0 (a .notes-good) i l)
+    pick : Dec (i < length theme) → getD theme i 0 ≤ highestPitch
+    pick (yes l) = ltb-false highestPitch (getD theme i 0) (some-none badNote theme 0 (a .notes-good) i l)
     pick (no l) = let g : length theme ≤ i = omega arith in omega (arith, List·getD-eq-default theme 0 g)
 
 -- ---- what the candidates leave out is no hit
@@ -92,7 +94,7 @@ module _ (cells : List ℕ) (h : ℕ) (theme : List ℕ) (way : Way) (a : Accept
     plain-skip =
         judge-skip (away buffers) (leaf (plainSearch way score theme) b buffers) (requestRows mostNotes cells h theme) lastRows (accepted-clear mostNotes cells h theme .0 a)
 
-    quick-skip : (table : List ℕ) → length table ≡ 4096
+    quick-skip : (table : List ℕ) → length table ≡ tableWords
         → quickPage cells h theme way b (sets score) table buffers ≡ paged lastRows (quickSearch wordBits way score theme (themeTable wordBits theme) (sets score)) b buffers
     unfolding quickPage
     quick-skip table e =
@@ -101,6 +103,6 @@ module _ (cells : List ℕ) (h : ℕ) (theme : List ℕ) (way : Way) (a : Accept
         (clear-append (requestRows mostNotes cells h theme) (setsRows cells h (sets score) (length table)) (accepted-clear mostNotes cells h theme .0 a)
         (sets-clear cells h (sets score) table .0 (own-sets, e)))
 
-    pub quick-same : (table : List ℕ) → length table ≡ 4096
+    pub quick-same : (table : List ℕ) → length table ≡ tableWords
         → SamePage (quickPage cells h theme way b (sets score) table buffers) (plainPage cells h theme way b buffers)
     quick-same table e = rw (quick-skip table e, plain-skip) (same-paged keep (plainSearch way score theme) kept lastRows b buffers)

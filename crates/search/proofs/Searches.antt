@@ -7,6 +7,7 @@ use Prim.Native.Nat.{ℕ, _≤_, _<_}
 use native.Mathlib.Omega.{arith}
 use lib.ListN.{length}
 use lib.Signed.{leZ-yes}
+use Rattle.score.specs.Limits.{tableWords}
 use Rattle.score.specs.Score.{scoreOf}
 use Rattle.score.proofs.Columns.{score-length}
 use Rattle.asking.specs.Limits.{mostNotes}
@@ -17,7 +18,8 @@ use Rattle.asking.specs.Way.{rangeOf}
 use Rattle.asking.specs.Asking.{Accepted, AcceptedSets, InRange, PlainAsks, QuickAsks}
 use Rattle.asking.proofs.Rows.{plain-clear, quick-clear}
 use Rattle.asking.proofs.Shifts.{shift-above, shift-below}
-use Rattle.filter.specs.Table.{wordBits, themeTable}
+use Rattle.filter.specs.Limits.{wordBits}
+use Rattle.filter.specs.Table.{themeTable}
 use Rattle.paging.specs.Lent.{Lent, Room}
 use Rattle.paging.specs.Search.{Narrow, Right}
 use Rattle.paging.specs.Page.{leaf}
@@ -84,7 +86,7 @@ module _ (cells : List ℕ) (h : ℕ) (theme : List ℕ) (way : Way) (a : Accept
 
   -- with sets that are accepted, and at each call any table of 4,096 places
   module _ (sets : List ℕ) (s : AcceptedSets cells h sets) (table : Bookmark → Lent → List ℕ)
-      (long : (b : Bookmark) (buffers : Lent) → length (table b buffers) ≡ 4096) where
+      (long : (b : Bookmark) (buffers : Lent) → length (table b buffers) ≡ tableWords) where
     pub quick-calls : Calls (quickSearch wordBits way (scoreOf cells h) theme (themeTable wordBits theme) sets) r (λ b buffers. quickPage cells h theme way b sets (table b buffers) buffers)
     unfolding quickPage
     quick-calls =

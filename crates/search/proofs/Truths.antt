@@ -10,6 +10,7 @@ use lib.IntN.{ℤ}
 use lib.ListN.{length, getD, take}
 use Rattle.theory.specs.Pages.{hits}
 use Rattle.theory.proofs.Members.{in-hits}
+use Rattle.score.specs.Limits.{tableWords}
 use Rattle.score.specs.declared.quantities.Pitch.{Pitch}
 use Rattle.score.specs.Score.{scoreOf, onward, pitches, note}
 use Rattle.asking.specs.declared.way.Way.{Way}
@@ -18,7 +19,8 @@ use Rattle.asking.specs.declared.bookmark.Pair.{Pair}
 use Rattle.asking.specs.declared.bookmark.Bookmark.{Bookmark}
 use Rattle.asking.specs.Way.{Holds}
 use Rattle.asking.specs.Asking.{AcceptedSets, PlainAsks}
-use Rattle.filter.specs.Table.{wordBits, themeTable}
+use Rattle.filter.specs.Limits.{wordBits}
+use Rattle.filter.specs.Table.{themeTable}
 use Rattle.paging.specs.declared.page.Turn.{Turn}
 use Rattle.paging.specs.declared.page.Page.{Page}
 use Rattle.paging.specs.declared.page.Page.the-variants.{Turned, Refused}
@@ -56,7 +58,7 @@ module _ (cells : List ℕ) (h : ℕ) (theme : List ℕ) (way : Way) (b : Bookma
       listed-stands way (scoreOf cells h) theme (in-first (length (buffers .columns)) b (pairs way (scoreOf cells h) theme) (subst (In pair) (p .front) m))
 
   -- with sets of any score: nothing false is listed
-  pub quick-true : (lent table : List ℕ) (s : AcceptedSets cells h lent) (e : length table ≡ 4096) {pair : Pair}
+  pub quick-true : (lent table : List ℕ) (s : AcceptedSets cells h lent) (e : length table ≡ tableWords) {pair : Pair}
       → In pair (readPairs (quick-page cells h theme way b buffers a lent table s e .turn .written) (quickPage cells h theme way b lent table buffers .buffers))
       → Stands way (scoreOf cells h) theme pair
   quick-true lent table s e {pair} m =

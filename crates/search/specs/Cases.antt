@@ -18,7 +18,8 @@ use Rattle.paging.specs.declared.page.Page.{Page}
 use Rattle.paging.specs.declared.page.Page.the-variants.{Turned, Refused}
 use Rattle.paging.specs.Lent.{Lent, lent, readPairs}
 use Rattle.paging.specs.Page.{Leaf}
-use Rattle.filter.specs.Table.{wordBits, themeTable}
+use Rattle.filter.specs.Limits.{wordBits}
+use Rattle.filter.specs.Table.{themeTable}
 use Rattle.walking.specs.Candidates.{candidate}
 use Rattle.asking.specs.Bookmarks.{firstBookmark}
 use Rattle.search.specs.Page.{plainPage, quickPage}

@@ -7,7 +7,8 @@ use Rattle.theory.specs.Pages.{hits}
 use Rattle.score.specs.Score.{columnsIn}
 use Rattle.asking.specs.declared.way.Way.{Way}
 use Rattle.asking.specs.declared.bookmark.Pair.{Pair}
-use Rattle.filter.specs.Table.{wordBits, themeTable}
+use Rattle.filter.specs.Limits.{wordBits}
+use Rattle.filter.specs.Table.{themeTable}
 use Rattle.paging.specs.Search.{allLooks}
 use Rattle.walking.specs.Candidates.{candidate}
 use Rattle.search.specs.Pairs.{plainSearch, quickSearch, pairs}

@@ -8,7 +8,8 @@ use Rattle.score.specs.Refusals.{Row, judge}
 use Rattle.asking.specs.declared.way.Way.{Way}
 use Rattle.asking.specs.declared.bookmark.Bookmark.{Bookmark}
 use Rattle.asking.specs.Refusals.{plainRows, quickRows}
-use Rattle.filter.specs.Table.{wordBits, themeTable}
+use Rattle.filter.specs.Limits.{wordBits}
+use Rattle.filter.specs.Table.{themeTable}
 use Rattle.paging.specs.declared.page.Page.{Page}
 use Rattle.paging.specs.Lent.{Lent}
 use Rattle.paging.specs.Page.{Leaf, paged, Pages}

@@ -26,8 +26,8 @@ use Rattle.search.specs.Pairs.{pairs}
 use Rattle.search.specs.Page.{QuickPages}
 use Rattle.search.specs.Demands.{candidateLooks}
 use Rattle.telling.specs.Lines.{hitLines, endLine, linesOf}
-use Rattle.telling.specs.Steps.{Wrote, pagePairs}
-use Rattle.telling.specs.Telling.{room}
+use Rattle.telling.specs.Limits.{room, pagePairs}
+use Rattle.telling.specs.Steps.{Wrote}
 use Rattle.telling.proofs.Puts.{wrote-then, wrote-room}
 use Rattle.telling.proofs.Searching.{searchOf, lines-append, pairs-few, looks-few, lines-few, Paging, own-list, callOf, calls}
 

@@ -12,8 +12,7 @@ use Rattle.theory.specs.Lists.{join}
 use Rattle.theory.specs.Pages.{hits}
 use Rattle.theory.proofs.Pages.{hits-le}
 use Rattle.theory.proofs.Members.{in-hits}
-use Rattle.telling.specs.Telling.{room}
-use Rattle.score.specs.Limits.{mostTracks, tableWords}
+use Rattle.score.specs.Limits.{mostTracks, mostColumns, tableWords}
 use Rattle.preparing.specs.declared.sets.Preparation.{Preparation}
 use Rattle.preparing.specs.declared.sets.Preparation.the-variants as Preparations
 use Rattle.score.specs.Score.{columnsIn, scoreOf}
@@ -30,7 +29,8 @@ use Rattle.asking.specs.Way.{span, rangeOf}
 use Rattle.walking.specs.Starts.{Place, starts, hit}
 use Rattle.search.specs.Pairs.{pairAt, quickSearch, pairs}
 use Rattle.search.specs.Page.{quickPage}
-use Rattle.filter.specs.Table.{wordBits, themeTable}
+use Rattle.filter.specs.Limits.{wordBits}
+use Rattle.filter.specs.Table.{themeTable}
 use Rattle.asking.specs.Bookmarks.{firstBookmark}
 use Rattle.asking.specs.Asking.{Accepted, AcceptedSets}
 use Rattle.paging.specs.Lent.{Lent}
@@ -45,7 +45,8 @@ use Rattle.search.proofs.Searches.{quick-calls}
 use Rattle.search.proofs.Quicker.{own-sets, own-listed}
 use Rattle.search.proofs.Demands.{all-looks-le, candidate-looks-le}
 use Rattle.telling.specs.Lines.{hitLine, hitLines, endLine, linesOf}
-use Rattle.telling.specs.Steps.{Wrote, Room, pagePairs}
+use Rattle.telling.specs.Limits.{room, pagePairs}
+use Rattle.telling.specs.Steps.{Wrote, Room}
 use Rattle.telling.proofs.Puts.{wrote-nil}
 use Rattle.telling.proofs.Widths.{lines-le, end-le}
 
@@ -83,7 +84,7 @@ module _ (cells : List ℕ) (h : ℕ) (theme : List ℕ) (way : Way) (a : Accept
         length-map (hits (hit way (scoreOf cells h) theme) (starts way (scoreOf cells h) theme)) (pairAt way),
         hits-le (hit way (scoreOf cells h) theme) (starts way (scoreOf cells h) theme),
         starts-le way (scoreOf cells h) theme h (column-le (columnsIn cells h) h cells),
-        mul-le-mul {n₁ = length (scoreOf cells h) + 1 - length theme} {m₁ = h} {n₂ = 2047} {m₂ = mostTracks}
+        mul-le-mul {n₁ = length (scoreOf cells h) + 1 - length theme} {m₁ = h} {n₂ = mostColumns - 1} {m₂ = mostTracks}
             (omega (arith, score-length cells h, a .columns-few, a .notes-some)) (a .tracks-few),
       )
 
@@ -93,8 +94,8 @@ module _ (cells : List ℕ) (h : ℕ) (theme : List ℕ) (way : Way) (a : Accept
         arith,
         candidate-looks-le cells h theme way lent,
         all-looks-le cells h theme way,
-        mul-le-mul {n₁ = (columnsIn cells h + 1 - length theme) * h} {m₁ = length theme - 1} {n₂ = 2047 * mostTracks} {m₂ = 31}
-            (mul-le-mul {n₁ = columnsIn cells h + 1 - length theme} {m₁ = h} {n₂ = 2047} {m₂ = mostTracks} (omega (arith, a .columns-few, a .notes-some)) (a .tracks-few))
+        mul-le-mul {n₁ = (columnsIn cells h + 1 - length theme) * h} {m₁ = length theme - 1} {n₂ = (mostColumns - 1) * mostTracks} {m₂ = mostNotes - 1}
+            (mul-le-mul {n₁ = columnsIn cells h + 1 - length theme} {m₁ = h} {n₂ = mostColumns - 1} {m₂ = mostTracks} (omega (arith, a .columns-few, a .notes-some)) (a .tracks-few))
             (omega (arith, a .notes-few)),
       )
 

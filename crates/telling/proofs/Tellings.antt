@@ -28,7 +28,8 @@ use Rattle.asking.proofs.Rows.{accepted-clear}
 use Rattle.telling.specs.declared.calls.Telling.{Telling}
 use Rattle.telling.specs.declared.calls.Telling.the-variants.{Told, Refused, Short}
 use Rattle.telling.specs.Lines.{linesOf}
-use Rattle.telling.specs.Telling.{room, Tale, told, searchTold, Tells}
+use Rattle.telling.specs.Limits.{room}
+use Rattle.telling.specs.Telling.{Tale, told, searchTold, Tells}
 use Rattle.telling.specs.Steps.{Wrote}
 
 pub tells-unique : {tale : Tale} {a b : Telling} {s t : List ℕ} → Tells tale a s → Tells tale b t → (a ≡ b) × (s ≡ t)

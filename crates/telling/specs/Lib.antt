@@ -1,4 +1,5 @@
 -- A search told as text, in reading order: how things are written, the lines, what the calls promise.
+pub mod Limits
 pub mod Text
 pub mod Lines
 pub mod Telling

@@ -11,16 +11,12 @@ use Rattle.score.specs.Sets.{sets as setsOf}
 use Rattle.asking.specs.Limits.{mostNotes}
 use Rattle.asking.specs.Asking.{Accepted}
 use Rattle.paging.specs.Lent.{Lent, Room as PairsRoom}
-use Rattle.telling.specs.Telling.{room as textRoom}
+use Rattle.telling.specs.Limits.{room as textRoom, pagePairs}
 
 -- these bytes from the place on, and the place behind them
 pub record Wrote (bytes : List ℕ) (at : ℕ) (out : List ℕ) (r : ℕ) (out′ : List ℕ) : Type 0 where
   pub place : r ≡ at + length bytes
   pub is : out′ ≡ stored out at bytes
-
--- how many pairs are searched for before they are written out
-abbrev pub pagePairs : ℕ
-pagePairs = 256
 
 -- room for a table, for a page and for every text
 pub record Room (table : List ℕ) (buffers : Lent) (out : List ℕ) : Type 0 where

@@ -14,11 +14,8 @@ use Rattle.asking.specs.declared.way.Way.{Way}
 use Rattle.asking.specs.Refusals.{requestRows}
 use Rattle.telling.specs.declared.calls.Telling.{Telling}
 use Rattle.telling.specs.declared.calls.Telling.the-variants.{Told, Refused, Short}
+use Rattle.telling.specs.Limits.{room}
 use Rattle.telling.specs.Lines.{linesOf}
-
--- room for every text: 32,752 lines of 14 bytes, and one of 18
-abbrev pub room : ℕ
-room = 458546
 
 -- what a call answers, and the lent buffer after it
 pub record Tale : Type 0 where

@@ -18,7 +18,7 @@ ghost use Rattle.asking.specs.Limits.{mostNotes};
 ghost use Rattle.asking.specs.Asking.{Accepted};
 ghost use Rattle.paging.specs.Lent.{lent};
 ghost use Rattle.telling.specs.Lines.{linesOf};
-ghost use Rattle.telling.specs.Telling.{room};
+ghost use Rattle.telling.specs.Limits.{room};
 ghost use Rattle.telling.specs.Steps.{Wrote, Sought, Asked};
 
 // All pages by the score's own sets, with room for some pairs in the two buffers, into the output from its front.

@@ -82,11 +82,6 @@ pub last-map : {A B : Type 0} (f : A → B) (d : A) (xs : List A) → last (f d)
 last-map f d [] = refl
 last-map f d (x ∷ xs) = last-map f x xs
 
--- the last of some entries is the same, whatever stands for the last of none
-pub last-some : {A : Type 0} (d e : A) (xs : List A) → 0 < length xs → last d xs ≡ last e xs
-last-some d e [] h = absurd (not-suc-le-zero h)
-last-some d e (x ∷ xs) h = refl
-
 -- a test in two parts: what passes the first is tried by the second
 pub hits-part : {A : Type 0} (a b : A → Bool) (xs : List A) → hits (λ x. cond (a x) (b x) false) xs ≡ hits b (hits a xs)
 hits-part a b [] = refl

@@ -170,3 +170,15 @@ module _ {A : Type 0} (P : ℕ → A → Type 0) (l : List A) (i : ℕ) (v d : A
       (λ e. subst (λ (n : ℕ). P n (getD (set l i v) n d)) (sym e) (subst (P i) (sym (getD-set-same l i v d h)) here))
       (λ n. subst (P k) (sym (getD-set-other l i k v d (λ e. lt-irrefl i (subst (λ (x : ℕ). x < i) e n)))) (all k n))
       (eq-or-lt-of-le m)
+
+-- ---- the numbers from a on, in two parts
+
+pub count-append : (a m n : ℕ) → count a (m + n) ≡ count a m ++ count (a + m) n
+count-append a zero n =
+    let e : 0 + n ≡ n = omega arith in
+    let f : a + 0 ≡ a = omega arith in
+    rw (e, f)
+count-append a (suc m) n =
+    let e : suc m + n ≡ suc (m + n) = omega arith in
+    let f : a + suc m ≡ suc a + m = omega arith in
+    rw (e, f) (ap (λ (l : List ℕ). a ∷ l) (count-append (suc a) m n))

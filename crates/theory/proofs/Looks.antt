@@ -56,10 +56,6 @@ sum-from looks key b (x ∷ xs) = step (ltb (key x) b) (sum-from looks key b xs)
     step true h = omega arith
     step false h = omega arith
 
-pub page-from-le : {A : Type 0} (hit : A → Bool) (looks : A → ℕ) (key : A → ℕ) (r b : ℕ) (xs : List A)
-    → pageLooks hit looks r (from key b xs) ≤ sum (map looks xs)
-page-from-le hit looks key r b xs = le-trans (page-looks-le hit looks r (from key b xs)) (sum-from looks key b xs)
-
 -- a look for each, and more for those that pass a test
 pub sum-part : {A : Type 0} (test : A → Bool) (more : A → ℕ) (xs : List A) → sum (map (λ x. suc (cond (test x) (more x) 0)) xs) ≡ length xs + sum (map more (hits test xs))
 sum-part test more [] = refl

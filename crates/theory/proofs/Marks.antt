@@ -126,16 +126,6 @@ marks-lowest (suc w) z x p h = step (x % 2) refl (λ q. marks-lowest w (suc z) (
         record { within = omega (arith, t); there = rw t p; splits = rw (t, e, m, n, a) }
     step (suc (suc d)) e ih = absurd (omega (arith, e, mod-lt x (zero-lt-suc 1)))
 
-pub count-append : (a m n : ℕ) → count a (m + n) ≡ count a m ++ count (a + m) n
-count-append a zero n =
-    let e : 0 + n ≡ n = omega arith in
-    let f : a + 0 ≡ a = omega arith in
-    rw (e, f)
-count-append a (suc m) n =
-    let e : suc m + n ≡ suc (m + n) = omega arith in
-    let f : a + suc m ≡ suc a + m = omega arith in
-    rw (e, f) (ap (λ (l : List ℕ). a ∷ l) (count-append (suc a) m n))
-
 -- the lower bits, and then the upper ones
 pub marks-append : (v w z x : ℕ) → marks (v + w) z x ≡ marks v z x ++ marks w (z + v) (x / 2 ^ v)
 unfolding marks

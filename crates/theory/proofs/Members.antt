@@ -11,7 +11,7 @@ use native.Mathlib.Omega.{arith}
 use lib.Dec.{ltb}
 use lib.ListN.{length}
 use Rattle.theory.specs.Lists.{count, last}
-use Rattle.theory.specs.Pages.{hits, pageHits, Rising, from}
+use Rattle.theory.specs.Pages.{hits, pageHits, Rising}
 use Rattle.theory.proofs.Bookmarks.{rising-down, Below, none, one}
 
 -- ---- count
@@ -77,16 +77,7 @@ pub below-in : {A : Type 0} (key : A → ℕ) (b : ℕ) (xs : List A) → ((x : 
 below-in key b [] f = none
 below-in key b (x ∷ xs) f = one (f x (here refl)) (below-in key b xs (λ y m. f y (later m)))
 
--- ---- what stands after a bookmark, a page, and the last of a list
-
-module _ {A : Type 0} (key : A → ℕ) (b : ℕ) where
-  pub in-from : (xs : List A) {x : A} → In x (from key b xs) → In x xs
-  in-from [] m = m
-  in-from (y ∷ ys) {x} m = step (ltb (key y) b) m (in-from ys)
-    where
-      step : (t : Bool) → In x (cond t (from key b ys) (y ∷ ys)) → (In x (from key b ys) → In x ys) → In x (y ∷ ys)
-      step true k ih = later (ih k)
-      step false k ih = k
+-- ---- a page, and the last of a list
 
 module _ {A : Type 0} (hit : A → Bool) where
   pub in-page : (r : ℕ) (xs : List A) {x : A} → In x (pageHits hit r xs) → In x xs

@@ -56,10 +56,6 @@ module _ {A : Type 0} (hit : A → Bool) where
   pub length-last : (r : ℕ) (xs : List A) → full hit r xs ≡ false → length (hits hit xs) < r
   length-last r xs e = omega (arith, leb-false r (length (pageHits hit r xs)) e, ap length (page-take r xs), length-take r (hits hit xs))
 
-  -- a page is full exactly where there are hits enough
-  pub full-of : (r : ℕ) (xs : List A) → r ≤ length (hits hit xs) → full hit r xs ≡ true
-  full-of r xs h = le-leb r (length (pageHits hit r xs)) (omega (arith, ap length (page-take r xs), length-take r (hits hit xs)))
-
   pub page-full : (r : ℕ) (xs : List A) → full hit r xs ≡ true → length (pageHits hit r xs) ≡ r
   page-full r xs e = ap length (page-take r xs) ∙ length-take-le r (hits hit xs) (length-page r xs e)
 

@@ -85,9 +85,6 @@ pub sub-fits : (w : Width) (n b : ℕ) → n < 2 ^ hbits w → b < 2 ^ hbits w �
 sub-fits w n b h k =
     subst (λ (y : ℤ). SFits w (y -ℤ pos (suc b))) (sym (toZ-pos w h)) (record { sfits = mag-sub n (suc b) (2 ^ hbits w) h k })
 
-pub sub-read : (w : Width) (n b : ℕ) → n < 2 ^ hbits w → b < 2 ^ hbits w → toZ w (ofZ w (toZ w n -ℤ pos (suc b))) ≡ pos n -ℤ pos (suc b)
-sub-read w n b h k = toZ-ofZ (sub-fits w n b h k) ∙ ap (λ (y : ℤ). y -ℤ pos (suc b)) (toZ-pos w h)
-
 -- ---- a number raised by one
 
 -- below the highest number of a width it stays within the width

@@ -29,14 +29,18 @@ use Rattle.asking.specs.Bookmarks.{keyOf}
 use Rattle.asking.specs.Asking.{Accepted, AcceptedSets, PlainAsks, QuickAsks}
 use Rattle.asking.specs.Refusals.{plainRows, quickRows}
 use Rattle.asking.proofs.Rows.{plain-clear, quick-clear}
+use Rattle.asking.specs.Codes.{codeGiven}
 use Rattle.asking.proofs.Shifts.{code-le}
-use Rattle.filter.specs.Table.{wordBits, themeTable}
+use Rattle.asking.proofs.Coding.{code-given}
+use Rattle.filter.specs.Limits.{wordBits}
+use Rattle.filter.specs.Table.{themeTable}
 use Rattle.walking.specs.declared.walked.Walked.{Walked}
 use Rattle.walking.specs.declared.calls.Walk.{Walk}
 use Rattle.walking.specs.declared.calls.Walk.the-variants.{Done, Refused}
 use Rattle.walking.specs.Starts.{Place, key}
 use Rattle.walking.specs.Found.{walked, Finds, QuickWalks}
-use Rattle.walking.specs.Walk.{Ready, Lent, Walks}
+use Rattle.walking.specs.Scan.{Lent}
+use Rattle.walking.specs.Walk.{Ready, Walks}
 
 -- ---- what is accepted is what a walk asks for
 
@@ -60,9 +64,25 @@ accepted-ready {cells} {h} {theme} a =
       sung = small 127 theme (a .notes-good);
     }
 
-pub accepted-lent : {cells : List ℕ} {h : ℕ} {sets table : List ℕ} → AcceptedSets cells h sets → length table ≡ 4096 → Lent (columnsIn cells h) sets table
-accepted-lent {cells} {h} {sets} {table} a l =
-    record { sets-long = a .one-less; sets-small = λ k. let q : getD sets k 0 ≤ 4095 = small 4095 sets (a .sets-good) k in omega arith; table-long = l }
+module _ {cells : List ℕ} {h : ℕ} {theme : List ℕ} {way : Way} {b : Bookmark} {sets table columns : List ℕ} {shifts : List ℤ}
+    (a : QuickAsks cells h theme way b sets table columns shifts) where
+  pub asked-sets : length sets + 1 ≡ columnsIn cells h
+  asked-sets = omega (arith, a .with-sets .one-less, a .plain .accepted .columns-some)
+
+  pub asked-small : (k : ℕ) → getD sets k 0 < 4096
+  asked-small k = let q : getD sets k 0 ≤ 4095 = small 4095 sets (a .with-sets .sets-good) k in omega arith
+
+  pub asked-lent : (j many : ℕ) → 1 ≤ j → j + many + length theme ≤ columnsIn cells h + 2 → Lent sets table (length theme) j many
+  asked-lent j many first last =
+      record {
+        notes = a .plain .accepted .notes-some;
+        notes-most = a .plain .accepted .notes-few;
+        from-first = first;
+        to-last = omega (arith, asked-sets);
+        sets-few = omega (arith, asked-sets, a .plain .accepted .columns-few);
+        sets-small = asked-small;
+        table-long = a .table-long;
+      }
 
 -- ---- a walk that is done is no refusal, and a refusal tells itself
 
@@ -107,9 +127,15 @@ module _ (rows : List Row) (way : Way) (score : List (List ℕ)) (theme : List �
   pub finds-away : {v : Verdict} {e : Refusal} → v ≡ verdict rows → v ≡ Away e → Finds rows way score theme reached b columns shifts (Refused e) columns shifts
   finds-away {e = e} a v =
       let r : verdict rows ≡ Away e = sym a ∙ v in
-      record { answers = sym (judge-away Refused done rows r); writes-columns = sym (judge-away (λ r. columns) _ rows r); writes-shifts = sym (judge-away (λ r. shifts) _ rows r) }
+      record {
+        answers = sym (judge-away Refused done rows r);
+        writes-columns = sym (judge-away (λ r. columns)
+            _ rows r);
+        writes-shifts = sym (judge-away (λ r. shifts) _ rows r);
+      }
 
-  pub finds-done : Clear rows → {w : Walked} {columns′ : List ℕ} {shifts′ : List ℤ} → Went w columns′ shifts′ → Finds rows way score theme reached b columns shifts (Done w) columns′ shifts′
+  pub finds-done : Clear rows → {w : Walked} {columns′ : List ℕ} {shifts′ : List ℤ} → Went w columns′ shifts′
+      → Finds rows way score theme reached b columns shifts (Done w) columns′ shifts′
   finds-done c {w} l =
       let d : Done w ≡ done = ap₂ (λ (n k : ℕ). Done (record { found = n; looks = k })) (l .count) (l .costs) in
       record {
@@ -120,9 +146,12 @@ module _ (rows : List Row) (way : Way) (score : List (List ℕ)) (theme : List �
 
   module _ {columns′ : List ℕ} {shifts′ : List ℤ} where
     -- what an answer tells
-    pub finds-refused : {e : Refusal} → Finds rows way score theme reached b columns shifts (Refused e) columns′ shifts′ → (verdict rows ≡ Away e) × (columns′ ≡ columns) × (shifts′ ≡ shifts)
+    pub finds-refused : {e : Refusal} → Finds rows way score theme reached b columns shifts (Refused e) columns′ shifts′ → (verdict rows ≡ Away e)
+        × (columns′ ≡ columns) × (shifts′ ≡ shifts)
     finds-refused {e} l =
-        let r : verdict rows ≡ Away e = judge-both (λ x v. Refused e ≡ x → v ≡ Away e) Refused Away done Passed (λ r a. ap Away (sym (refused-same a))) (λ a. absurd (done-refused (sym a))) rows (l .answers) in
+        let r : verdict rows ≡ Away e =
+        judge-both (λ x v. Refused e ≡ x → v ≡ Away e) Refused Away done Passed (λ r a. ap Away (sym (refused-same a)))
+        (λ a. absurd (done-refused (sym a))) rows (l .answers) in
         (r, l .writes-columns ∙ judge-away (λ r. columns) _ rows r, l .writes-shifts ∙ judge-away (λ r. shifts) _ rows r)
 
     module _ {w : Walked} (l : Finds rows way score theme reached b columns shifts (Done w) columns′ shifts′) where
@@ -150,11 +179,12 @@ module _ (cells : List ℕ) (h : ℕ) (theme : List ℕ) (way : Way) (b : Bookma
   pub plain-asks : {v : Verdict} → v ≡ verdict (plainRows cells h theme way b columns shifts) → v ≡ Passed → PlainAsks cells h theme way b columns shifts
   plain-asks a v = plain-clear cells h theme way b columns shifts .1 (accepted-clear (plainRows cells h theme way b columns shifts) (sym a ∙ v))
 
-  -- where a walk begins
-  pub plain-begins : PlainAsks cells h theme way b columns shifts → (code : ℕ) → code ≡ codeOf way (b .shift)
-      → (1 ≤ b .column .0) × (b .column .0 ≤ columnsIn cells h + 1) × (code ≤ span way) × (length shifts ≡ length columns)
-  plain-begins a code e =
-      (a .marked .from-first, a .marked .to-end, rw e (code-le way (b .shift) (a .marked .not-below) (a .marked .not-above)), a .same-room)
+  -- the code at which a walk begins
+  pub plain-code : PlainAsks cells h theme way b columns shifts → (code : ℕ) → code ≡ codeGiven way (b .shift) → (code ≡ codeOf way (b .shift))
+      × (code ≤ span way)
+  plain-code a code e =
+      let k : code ≡ codeOf way (b .shift) = e ∙ code-given way (b .shift) (a .marked .not-below) (a .marked .not-above) in
+      (k, rw k (code-le way (b .shift) (a .marked .not-below) (a .marked .not-above)))
 
 module _ (cells : List ℕ) (h : ℕ) (theme : List ℕ) (way : Way) (b : Bookmark) (sets table columns : List ℕ) (shifts : List ℤ) where
   abbrev rows : List Row

@@ -3,3 +3,5 @@
 pub mod Order
 pub mod LookBound
 pub mod Answers
+-- what the loops of a walk keep
+mod Taking

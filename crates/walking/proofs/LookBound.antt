@@ -11,16 +11,18 @@ use lib.Dec.{leb, eqb}
 use lib.ListN.{length, getD, drop, length-append, length-map, length-drop}
 use borrow.Author.Tests.{leb-true, eqb-true, ne-eqb}
 use Rattle.theory.specs.Lists.{count, sum}
-use Rattle.theory.specs.Pages.{hits, pageLooks, from}
+use Rattle.theory.specs.Pages.{hits}
 use Rattle.theory.proofs.Counts.{hits-some, count-once}
-use Rattle.theory.proofs.Looks.{sum-le, sum-hits, page-from-le}
+use Rattle.theory.proofs.Looks.{sum-le}
 use Rattle.score.specs.declared.quantities.Pitch.{Pitch}
+use Rattle.score.specs.Limits.{mostTracks, mostColumns}
+use Rattle.asking.specs.Limits.{mostNotes}
 use Rattle.score.specs.Score.{pitch, pitches, columnAt, onward}
 use Rattle.asking.specs.declared.way.Way.{Way}
 use Rattle.asking.specs.declared.way.Way.the-variants.{Exact, Octave}
 use Rattle.asking.specs.Way.{holds}
 use Rattle.score.specs.Score.{note}
-use Rattle.walking.specs.Starts.{Place, place, key, codes, startsIn, starts, looked, hit, looks}
+use Rattle.walking.specs.Starts.{Place, place, codes, startsIn, starts, looked, looks}
 
 -- ---- a start
 
@@ -87,16 +89,16 @@ pub starts-le : (way : Way) (score : List (List ℕ)) (theme : List ℕ) (h : �
 starts-le way score theme h w = startsIn-le way (note theme 1) (length theme) 1 h score w
 
 -- within the limits such a product is below 2 ^ 32
-pub most-lt : (n h m : ℕ) → n ≤ 2048 → h ≤ 16 → 2 ≤ m → m ≤ 32 → (n + 1 - m) * h * (m - 1) < 2 ^ 32
+pub most-lt : (n h m : ℕ) → n ≤ mostColumns → h ≤ mostTracks → 2 ≤ m → m ≤ mostNotes → (n + 1 - m) * h * (m - 1) < 2 ^ 32
 most-lt n h m n≤ h≤ m≥ m≤ =
     omega (
       arith,
       mul-le-mul
           {n₁ = (n + 1 - m) * h}
           {m₁ = m - 1}
-          {n₂ = 2047 * 16}
-          {m₂ = 31}
-          (mul-le-mul {n₁ = n + 1 - m} {m₁ = h} {n₂ = 2047} {m₂ = 16} (omega arith) h≤)
+          {n₂ = (mostColumns - 1) * mostTracks}
+          {m₂ = mostNotes - 1}
+          (mul-le-mul {n₁ = n + 1 - m} {m₁ = h} {n₂ = mostColumns - 1} {m₂ = mostTracks} (omega arith) h≤)
           (omega arith),
     )
 
@@ -115,17 +117,3 @@ module _ (way : Way) (score : List (List ℕ)) (theme : List ℕ) (h : ℕ) (wid
       let e : length score + 1 - length theme ≡ 0 = omega arith in
       let z : sum (map (looks way score theme) (starts way score theme)) ≤ 0 * h * (length theme - 1) = rw e at sum-looks-le in
       omega (arith, z)
-
--- a page from any bookmark takes no more than all starts: plain, and of the starts that pass a test
-module _ (way : Way) (score : List (List ℕ)) (theme : List ℕ) (r b : ℕ) where
-  pub page-looks-within : pageLooks (hit way score theme) (looks way score theme) r (from key b (starts way score theme))
-      ≤ sum (map (looks way score theme) (starts way score theme))
-  page-looks-within = page-from-le (hit way score theme) (looks way score theme) key r b (starts way score theme)
-
-  pub reached-page-within : (keep : Place → Bool)
-      → pageLooks (hit way score theme) (looks way score theme) r (from key b (hits keep (starts way score theme)))
-      ≤ sum (map (looks way score theme) (starts way score theme))
-  reached-page-within keep =
-      le-trans
-      (page-from-le (hit way score theme) (looks way score theme) key r b (hits keep (starts way score theme)))
-      (sum-hits (looks way score theme) keep (starts way score theme))

@@ -1,4 +1,4 @@
--- Laws of the walk: the starts at or after a place, one column after another, and candidates.
+-- Laws of the walk: the starts at or after a place, by columns; and what its loops keep.
 pub mod Along
+pub mod Trying
 pub mod Walking
-pub mod Scanning

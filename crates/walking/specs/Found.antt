@@ -14,7 +14,8 @@ use Rattle.asking.specs.declared.bookmark.Bookmark.{Bookmark}
 use Rattle.asking.specs.Way.{shiftOf}
 use Rattle.asking.specs.Bookmarks.{keyOf}
 use Rattle.asking.specs.Refusals.{plainRows, quickRows}
-use Rattle.filter.specs.Table.{wordBits, themeTable}
+use Rattle.filter.specs.Limits.{wordBits}
+use Rattle.filter.specs.Table.{themeTable}
 use Rattle.walking.specs.declared.calls.Walk.{Walk}
 use Rattle.walking.specs.declared.calls.Walk.the-variants.{Done, Refused}
 use Rattle.walking.specs.Starts.{Place, key, starts, hit, looks}
@@ -49,7 +50,8 @@ module _ (rows : List Row) (way : Way) (score : List (List ℕ)) (theme : List �
     pub writes-shifts : shifts′ ≡ judge rows (λ r. shifts) (over shifts (shiftsOf way (found way score theme reached b columns shifts)))
 
 -- the plain way reaches every start: refusals 1 to 5, 9, 10
-abbrev pub PlainWalks : (cells : List ℕ) (h : ℕ) (theme : List ℕ) → Way → Bookmark → (columns : List ℕ) (shifts : List ℤ) → (answer : Walk) (columns′ : List ℕ) (shifts′ : List ℤ) → Type 0
+abbrev pub PlainWalks : (cells : List ℕ) (h : ℕ) (theme : List ℕ) → Way → Bookmark → (columns : List ℕ) (shifts : List ℤ)
+    → (answer : Walk) (columns′ : List ℕ) (shifts′ : List ℤ) → Type 0
 PlainWalks cells h theme way b columns shifts =
     Finds (plainRows cells h theme way b columns shifts) way (scoreOf cells h) theme (starts way (scoreOf cells h) theme) b columns shifts
 

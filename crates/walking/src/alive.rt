@@ -3,6 +3,7 @@
 
 use crate::column::try_column;
 use crate::ring::held_at;
+use crate::walked::Spot;
 use crate::walked::Walked;
 use asking::Way;
 use hits::put_hits;
@@ -14,9 +15,8 @@ ghost use mathlib.Core.Path.{_≡_};
 ghost use Prim.Native.Nat.{_+_, _≤_, _<_};
 ghost use lib.ListN.{length};
 ghost use Rattle.score.specs.Score.{columnsIn, scoreOf};
-ghost use Rattle.asking.specs.Way.{span};
 ghost use Rattle.masks.specs.Masks.{value, width};
-ghost use Rattle.walking.specs.Walk.{Ready, Fits, columnStarts, Tries};
+ghost use Rattle.walking.specs.Walk.{Ready, Fits, Stands, TriesColumn};
 ghost use Rattle.walking.specs.Alive.{Cached, Followed};
 
 // The starts of a column that are hits, and the looks of all its starts.
@@ -41,7 +41,8 @@ fn follow(cells: &[u8], h: usize, theme: &[u8], way: Way, column: Column, ring: 
     requires { ⌜ Ready (now cells) h (now theme) ⌝ }
     requires { ⌜ Fits (columnsIn (now cells) h) (length (now theme)) (column .0) ⌝ }
     requires { ⌜ Cached way (now cells) h (now ring) ⌝ }
-    ensures { λ r. ⌜ Followed way (scoreOf (now (cells .entry)) h) (now (theme .entry)) (column .0) (value (r .word .low) (r .word .high)) (r .looks) × Cached way (now (cells .entry)) h (now (ring .exit)) ⌝ }
+    ensures { λ r. ⌜ Followed way (scoreOf (now (cells .entry)) h) (now (theme .entry)) (column .0) (value (r .word .low) (r .word .high)) (r .looks)
+        × Cached way (now (cells .entry)) h (now (ring .exit)) ⌝ }
 {
     let j = column.0 as usize;
     let first = Pitch(theme[0]);
@@ -68,58 +69,43 @@ fn follow(cells: &[u8], h: usize, theme: &[u8], way: Way, column: Column, ring: 
     Alive { word, looks }
 }
 
-// Tries all starts of a column: at once where there is room for every hit, otherwise one by one until the page is full.
-fn try_alive(
-    cells: &[u8],
-    h: usize,
-    theme: &[u8],
-    way: Way,
-    column: Column,
-    found: usize,
-    columns: &mut [u16],
-    shifts: &mut [i16],
-    ring: &mut [u64],
-) -> Walked
-    requires { ⌜ Ready (now cells) h (now theme) ⌝ }
-    requires { ⌜ Fits (columnsIn (now cells) h) (length (now theme)) (column .0) ⌝ }
-    requires { ⌜ (found ≤ length (now columns)) × (length (now shifts) ≡ length (now columns)) ⌝ }
-    requires { ⌜ Cached way (now cells) h (now ring) ⌝ }
-    ensures { λ r. ⌜ Tries way (scoreOf (now (cells .entry)) h) (now (theme .entry)) (columnStarts way (scoreOf (now (cells .entry)) h) (now (theme .entry)) (column .0) 0) found (now (columns .entry)) (now (shifts .entry)) (r .found) (r .looks) (now (columns .exit)) (now (shifts .exit)) × Cached way (now (cells .entry)) h (now (ring .exit)) ⌝ }
-{
-    let a = follow(cells, h, theme, way, column, ring);
-    let word = a.word;
-    let hits = u64::count_ones(word.low) + u64::count_ones(word.high);
-    if columns.len() - found <= hits as usize {
-        return try_column(cells, h, theme, way, column, 0, found, columns, shifts);
-    }
-    Walked {
-        found: put_hits(columns, shifts, found, word, Pitch(theme[0]), column, way),
-        looks: a.looks,
-    }
-}
-
-// Tries the starts of a column from the code x on, until none is left or no room: all together where x leaves none out and
-// there are tracks to share them.
+// Tries the starts of the spot's column from its code on, until none is left or no room: all at once where the code leaves none out,
+// there are tracks to share them and room for every hit; otherwise one by one.
 pub fn try_all(
     cells: &[u8],
     h: usize,
     theme: &[u8],
     way: Way,
-    column: Column,
-    x: u16,
-    found: usize,
+    spot: Spot,
     columns: &mut [u16],
     shifts: &mut [i16],
     ring: &mut [u64],
 ) -> Walked
     requires { ⌜ Ready (now cells) h (now theme) ⌝ }
-    requires { ⌜ Fits (columnsIn (now cells) h) (length (now theme)) (column .0) ⌝ }
-    requires { ⌜ (x ≤ span way) × (found ≤ length (now columns)) × (length (now shifts) ≡ length (now columns)) ⌝ }
+    requires { ⌜ Stands way (columnsIn (now cells) h) (length (now theme)) spot (now columns) (now shifts) ⌝ }
     requires { ⌜ Cached way (now cells) h (now ring) ⌝ }
-    ensures { λ r. ⌜ Tries way (scoreOf (now (cells .entry)) h) (now (theme .entry)) (columnStarts way (scoreOf (now (cells .entry)) h) (now (theme .entry)) (column .0) x) found (now (columns .entry)) (now (shifts .entry)) (r .found) (r .looks) (now (columns .exit)) (now (shifts .exit)) × Cached way (now (cells .entry)) h (now (ring .exit)) ⌝ }
+    ensures { λ r. ⌜ TriesColumn way (now (cells .entry)) h (now (theme .entry)) spot
+        (now (columns .entry)) (now (shifts .entry)) r (now (columns .exit)) (now (shifts .exit)) × Cached way (now (cells .entry)) h (now (ring .exit)) ⌝ }
 {
-    if (x == 0) & (h != 1) {
-        return try_alive(cells, h, theme, way, column, found, columns, shifts, ring);
+    if (spot.code == 0) & (h != 1) {
+        let column = spot.column;
+        let a = follow(cells, h, theme, way, column, ring);
+        let word = a.word;
+        let hits = u64::count_ones(word.low) + u64::count_ones(word.high);
+        if (hits as usize) < columns.len() - spot.found {
+            return Walked {
+                found: put_hits(
+                    columns,
+                    shifts,
+                    spot.found,
+                    word,
+                    Pitch(theme[0]),
+                    column,
+                    way,
+                ),
+                looks: a.looks,
+            };
+        }
     }
-    try_column(cells, h, theme, way, column, x, found, columns, shifts)
+    try_column(cells, h, theme, way, spot, columns, shifts)
 }

@@ -1,13 +1,12 @@
 // The two walks of a page: plain, along every start, and quick, along the starts at candidates.
 
-use crate::ring::RING;
-use crate::walk::walk;
+use crate::walk::walk_candidates;
+use crate::walk::walk_every;
 use crate::walked::Walked;
 use asking::Bookmark;
 use asking::Way;
 use asking::check_plain;
 use asking::check_quick;
-use asking::code_of;
 use filter::fill_table;
 use score::Refusal;
 use score::Verdict;
@@ -30,7 +29,8 @@ pub fn walk_plain(
     columns: &mut [u16],
     shifts: &mut [i16],
 ) -> Walk
-    ensures { λ r. ⌜ PlainWalks (now (cells .entry)) tracks (now (theme .entry)) way bookmark (now (columns .entry)) (now (shifts .entry)) r (now (columns .exit)) (now (shifts .exit)) ⌝ }
+    ensures { λ r. ⌜ PlainWalks (now (cells .entry)) tracks (now (theme .entry)) way bookmark
+        (now (columns .entry)) (now (shifts .entry)) r (now (columns .exit)) (now (shifts .exit)) ⌝ }
 {
     if let Verdict::Refused(e) = check_plain(
         cells,
@@ -43,24 +43,7 @@ pub fn walk_plain(
     ) {
         return Walk::Refused(e);
     }
-    let code = code_of(way, bookmark.shift);
-    let none = [0u16; 1];
-    let blank = [0u32; 1];
-    let mut ring = [0u64; RING];
-    Walk::Done(walk(
-        true,
-        cells,
-        tracks,
-        theme,
-        way,
-        bookmark.column,
-        code,
-        &none,
-        &blank,
-        columns,
-        shifts,
-        &mut ring,
-    ))
+    Walk::Done(walk_every(cells, tracks, theme, way, bookmark, columns, shifts))
 }
 
 // The same along the starts whose column the sets make a candidate. Fills the theme's table first, whatever it held. Refuses
@@ -76,7 +59,8 @@ pub fn walk_quick(
     columns: &mut [u16],
     shifts: &mut [i16],
 ) -> Walk
-    ensures { λ r. ⌜ QuickWalks (now (cells .entry)) tracks (now (theme .entry)) way bookmark (now (sets .entry)) (now (table .entry)) (now (columns .entry)) (now (shifts .entry)) r (now (table .exit)) (now (columns .exit)) (now (shifts .exit)) ⌝ }
+    ensures { λ r. ⌜ QuickWalks (now (cells .entry)) tracks (now (theme .entry)) way bookmark (now (sets .entry)) (now (table .entry))
+        (now (columns .entry)) (now (shifts .entry)) r (now (table .exit)) (now (columns .exit)) (now (shifts .exit)) ⌝ }
 {
     if let Verdict::Refused(e) = check_quick(
         cells,
@@ -91,21 +75,16 @@ pub fn walk_quick(
     ) {
         return Walk::Refused(e);
     }
-    let code = code_of(way, bookmark.shift);
-    let mut ring = [0u64; RING];
     fill_table(theme, table);
-    Walk::Done(walk(
-        false,
+    Walk::Done(walk_candidates(
         cells,
         tracks,
         theme,
         way,
-        bookmark.column,
-        code,
+        bookmark,
         sets,
         table,
         columns,
         shifts,
-        &mut ring,
     ))
 }

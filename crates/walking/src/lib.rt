@@ -1,9 +1,8 @@
 // From a bookmark to the hits that fill a page.
 //
-// `walked` is how far a walk has come. `starts` are the places whose first note is present, and what is looked at from there.
-// The starts of a `column` are tried one by one; the `ring` keeps columns as words of bits, by which `alive` tries all of them
-// at once. The `register` finds the next candidate, a `walk` goes from column to column, and the `calls` check what is asked
-// and walk.
+// `walked` says where a walk stands and how far it has come. `starts` are the places whose first note is present, and what is looked
+// at from there. The starts of a `column` are tried one by one; the `ring` keeps columns as words of bits, by which `alive` tries
+// all of them at once. The `register` lists candidates, a `walk` goes along listed columns, and the `calls` check what is asked and walk.
 
 mod alive;
 pub mod calls;
@@ -12,7 +11,7 @@ mod register;
 mod ring;
 mod starts;
 mod walk;
-pub mod walked;
+mod walked;
 
 pub use calls::Walk;
 pub use calls::walk_plain;

@@ -1,17 +1,18 @@
-// The register along the sets: one entry more at each column, and the way to the next candidate.
+// The register along the sets: one entry more at each column, and the candidates that it marks.
 
 use filter::marks;
 use filter::step;
 ghost use mathlib.Core.Path.{_≡_};
 ghost use Prim.Native.Nat.{ℕ, _+_, _≤_, _<_};
-ghost use lib.ListN.{length, getD};
+ghost use mathlib.Core.Bool.{cond};
+ghost use lib.ListN.{length, getD, set};
 ghost use Rattle.theory.specs.Register as Register;
-ghost use Rattle.walking.specs.Scan.{entryWord, Seeks};
+ghost use Rattle.walking.specs.Scan.{entryWord, Filters, Lent, ListsCandidates};
 
-// Where a register that was run along the sets stopped, and what it was then.
-pub struct Sought {
+// How many candidates were listed, and what the register was then.
+pub struct Listed {
     pub register: u32,
-    pub at: usize,
+    pub count: usize,
 }
 
 // One entry of the sets more: the table's word for it.
@@ -43,22 +44,45 @@ pub fn warmed(sets: &[u16], table: &[u32], from: usize, count: usize) -> u32
     register
 }
 
-// Takes entries, from one on, until one marks a candidate. `at` is that entry, or the number of entries where none does.
-pub fn seek(register: u32, sets: &[u16], table: &[u32], from: usize, top: u32) -> Sought
-    requires { ⌜ from ≤ length (now sets) ⌝ }
-    requires { ⌜ length (now table) ≡ 4096 ⌝ }
-    requires { ⌜ ((k : ℕ) → getD (now sets) k 0 < 4096) ⌝ }
-    requires { ⌜ top < 32 ⌝ }
-    ensures { λ r. ⌜ Seeks (now (table .entry)) (now (sets .entry)) top register from (r .register) (r .at) ⌝ }
+// Writes the column at its place of the list where it is marked, and gives the next place; otherwise the place is given back.
+fn noted(list: &mut [u16], at: usize, column: u16, marked: bool) -> usize
+    requires { ⌜ at < length (now list) ⌝ }
+    ensures { λ r. ⌜ (r ≡ cond marked (at + 1) at) × (now (list .exit) ≡ cond marked (set (now (list .entry)) at column) (now (list .entry))) ⌝ }
 {
-    let mut word = register;
-    let mut at = from;
-    while at < sets.len() {
-        word = taken(word, sets, table, at);
-        if marks(word, top) {
-            return Sought { register: word, at };
-        }
-        at += 1;
+    if !marked {
+        return at;
     }
-    Sought { register: word, at }
+    list[at] = column;
+    at + 1
+}
+
+// Lists, from the front, the candidates among as many columns as are counted, from the first on.
+pub fn list_candidates(
+    register: u32,
+    sets: &[u16],
+    table: &[u32],
+    m: usize,
+    first: usize,
+    many: usize,
+    list: &mut [u16],
+) -> Listed
+    requires { ⌜ Lent (now sets) (now table) m first many ⌝ }
+    requires { ⌜ Filters (now table) (now sets) m register first ⌝ }
+    requires { ⌜ many ≤ length (now list) ⌝ }
+    ensures { λ r. ⌜ ListsCandidates (now (table .entry)) (now (sets .entry)) m first many (now (list .entry)) (r .register) (r .count) (now (list .exit)) ⌝ }
+{
+    let top = (m - 2) as u32;
+    let mut word = register;
+    let mut count: usize = 0;
+    let mut i: usize = 0;
+    while i < many {
+        word = taken(word, sets, table, first + i + m - 3);
+        let marked = marks(word, top);
+        count = noted(list, count, (first + i) as u16, marked);
+        i += 1;
+    }
+    Listed {
+        register: word,
+        count,
+    }
 }

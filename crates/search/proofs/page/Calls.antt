@@ -19,7 +19,8 @@ use Rattle.asking.specs.Way.{rangeOf}
 use Rattle.asking.specs.Bookmarks.{keyOf, finishedBookmark}
 use Rattle.asking.specs.Asking.{InRange, PlainAsks, QuickAsks}
 use Rattle.asking.proofs.Rows.{plain-clear, quick-clear}
-use Rattle.filter.specs.Table.{wordBits, themeTable}
+use Rattle.filter.specs.Limits.{wordBits}
+use Rattle.filter.specs.Table.{themeTable}
 use Rattle.paging.specs.declared.page.Page.{Page}
 use Rattle.paging.specs.declared.page.Page.the-variants.{Turned, Refused}
 use Rattle.paging.specs.Lent.{Lent, lent, Room, written}

@@ -19,7 +19,8 @@ use Rattle.theory.specs.Pages.{hits}
 use Rattle.theory.specs.Bits.{bit}
 use Rattle.theory.specs.Marks.{marks}
 use Rattle.theory.proofs.Bits.{bit-high, bit-ones}
-use Rattle.theory.proofs.Marks.{marks-is, marks-both, marks-few, count-append}
+use Rattle.theory.proofs.Lists.{count-append}
+use Rattle.theory.proofs.Marks.{marks-is, marks-both, marks-few}
 use Rattle.theory.proofs.Counts.{count-none}
 use Rattle.theory.proofs.Pages.{hits-append}
 use Rattle.theory.proofs.Hits.{hits-part, hits-all}
@@ -96,22 +97,32 @@ pub all-length : (way : Way) (p : Pitch) → length (codesOf way p (allStarts wa
 unfolding allStarts
 all-length way p = word-length way p (allStarts way) (all-lt way) ∙ ones-ones (width way)
 
-pub all-starts : (way : Way) (p : Pitch) (column : List ℕ) → p .0 ≤ 127 → hits (λ c. holds way c p column) (codesOf way p (allStarts way)) ≡ codes way p column 0
+pub all-starts : (way : Way) (p : Pitch) (column : List ℕ) → p .0 ≤ 127
+    → hits (λ c. holds way c p column) (codesOf way p (allStarts way)) ≡ codes way p column 0
 unfolding allStarts
 all-starts Exact p column l =
     ap (hits (λ c. holds Exact c p column)) (marks-all 128 (127 - p .0))
-    ∙ sym (part (λ c. holds Exact c p column) 128 (127 - p .0) (p .0) 255 (omega arith) (λ c k. sym (holds-below c p column (omega arith))) (λ c k. sym (holds-above c p column (omega arith))))
+    ∙ sym
+    (part (λ c. holds Exact c p column) 128 (127 - p .0) (p .0) 255 (omega arith)
+    (λ c k. sym (holds-below c p column (omega arith))) (λ c k. sym (holds-above c p column (omega arith))))
 all-starts Octave p column l = ap (hits (λ c. holds Octave c p column)) (marks-few 12 116 0 (2 ^ 12 - 1) (ones-lt 12) ∙ marks-all 12 0)
 
 -- ---- the notes that follow
 
+-- of a word's starts, those at which the notes from k on follow; and what all of them cost from there on
+abbrev hitsFrom : (way : Way) (cells : List ℕ) (h : ℕ) (theme : List ℕ) (j k word : ℕ) → List ℕ
+hitsFrom way cells h theme j k word = hits (λ c. follows way c (drop k theme) (drop (j + k - 1) (scoreOf cells h))) (codesOf way (note theme 1) word)
+
+abbrev looksFrom : (way : Way) (cells : List ℕ) (h : ℕ) (theme : List ℕ) (j k word : ℕ) → ℕ
+looksFrom way cells h theme j k word =
+    sum (map (λ c. looked way c (drop k theme) (drop (j + k - 1) (scoreOf cells h))) (codesOf way (note theme 1) word))
+
+-- k notes were followed: of every start there may be, the word has those that are alive
 pub record Following (way : Way) (cells : List ℕ) (h : ℕ) (theme : List ℕ) (j word spent k : ℕ) : Type 0 where
   pub upTo : k ≤ length theme
   pub small : word < 2 ^ width way
-  pub hits : hits (λ c. follows way c (drop 0 theme) (drop (j - 1) (scoreOf cells h))) (codesOf way (note theme 1) (allStarts way))
-      ≡ hits (λ c. follows way c (drop k theme) (drop (j + k - 1) (scoreOf cells h))) (codesOf way (note theme 1) word)
-  pub costs : sum (map (λ c. looked way c (drop 0 theme) (drop (j - 1) (scoreOf cells h))) (codesOf way (note theme 1) (allStarts way)))
-      ≡ spent + sum (map (λ c. looked way c (drop k theme) (drop (j + k - 1) (scoreOf cells h))) (codesOf way (note theme 1) word))
+  pub hits : hitsFrom way cells h theme j 0 (allStarts way) ≡ hitsFrom way cells h theme j k word
+  pub costs : looksFrom way cells h theme j 0 (allStarts way) ≡ spent + looksFrom way cells h theme j k word
   pub bounded : spent ≤ k * 128
 
 -- at most 128 are alive
@@ -119,113 +130,129 @@ alive-few : (way : Way) (word : ℕ) → word < 2 ^ width way → ones word ≤ 
 alive-few way word s = ones-le 128 word (word-small way word s)
 
 module _ (way : Way) (cells : List ℕ) (h : ℕ) (theme : List ℕ) (j : ℕ) (r : Ready cells h theme) (f : Fits (columnsIn cells h) (length theme) j) where
+  abbrev first : Pitch
+  first = note theme 1
+
+  abbrev score : List (List ℕ)
+  score = scoreOf cells h
+
+  abbrev starts : List ℕ
+  starts = codes way first (column score (columnAt j)) 0
+
+  abbrev all-hits : List ℕ
+  all-hits = hitsFrom way cells h theme j 0 (allStarts way)
+
+  abbrev all-looks : ℕ
+  all-looks = looksFrom way cells h theme j 0 (allStarts way)
+
   pub follow-first : Following way cells h theme j (allStarts way) 0 0
-  follow-first =
-      let e : j + 0 - 1 ≡ j - 1 = omega arith in
-      record { upTo = zero-le; small = all-lt way; hits = rw e; costs = rw e (omega arith); bounded = zero-le }
+  follow-first = record { upTo = zero-le; small = all-lt way; hits = refl; costs = omega arith; bounded = zero-le }
 
   -- the first note: those that have it are the starts
-  here : getD (drop (j - 1) (scoreOf cells h)) 0 [] ≡ column (scoreOf cells h) (columnAt j)
-  here = let e : j - 1 + 0 ≡ j - 1 = omega arith in getD-drop (j - 1) (scoreOf cells h) 0 [] ∙ ap (λ (i : ℕ). getD (scoreOf cells h) i []) e
+  at-first : j + 0 - 1 ≡ j - 1
+  at-first = omega arith
 
-  next : drop 1 (drop (j - 1) (scoreOf cells h)) ≡ drop j (scoreOf cells h)
-  next = let e : j - 1 + 1 ≡ j = omega (arith, f .from-first) in drop-drop 1 (j - 1) (scoreOf cells h) ∙ ap (λ (i : ℕ). drop i (scoreOf cells h)) e
+  here : getD (drop (j - 1) score) 0 [] ≡ column score (columnAt j)
+  here = let e : j - 1 + 0 ≡ j - 1 = omega arith in getD-drop (j - 1) score 0 [] ∙ ap (λ (i : ℕ). getD score i []) e
 
-  first-hits : hits (λ c. follows way c (drop 0 theme) (drop (j - 1) (scoreOf cells h))) (codesOf way (note theme 1) (allStarts way))
-      ≡ hits (λ c. follows way c (drop 1 theme) (drop j (scoreOf cells h))) (codes way (note theme 1) (column (scoreOf cells h) (columnAt j)) 0)
+  next : drop 1 (drop (j - 1) score) ≡ drop j score
+  next = let e : j - 1 + 1 ≡ j = omega (arith, f .from-first) in drop-drop 1 (j - 1) score ∙ ap (λ (i : ℕ). drop i score) e
+
+  have-first : hits (λ c. holds way c first (column score (columnAt j))) (codesOf way first (allStarts way)) ≡ starts
+  have-first = all-starts way first (column score (columnAt j)) (r .sung 0)
+
+  first-hits : all-hits ≡ hits (λ c. follows way c (drop 1 theme) (drop j score)) starts
   first-hits =
-      rw (drop-cons theme 0 0 (omega (arith, r .notes)), here, next, ← all-starts way (note theme 1) (column (scoreOf cells h) (columnAt j)) (r .sung 0))
-      (hits-part (λ c. holds way c (note theme 1) (column (scoreOf cells h) (columnAt j))) (λ c. follows way c (drop 1 theme) (drop j (scoreOf cells h))) (codesOf way (note theme 1) (allStarts way)))
+      rw (at-first, drop-cons theme 0 0 (omega (arith, r .notes)), here, next, ← have-first)
+      (hits-part (λ c. holds way c first (column score (columnAt j))) (λ c. follows way c (drop 1 theme) (drop j score)) (codesOf way first (allStarts way)))
 
-  first-costs : sum (map (λ c. looked way c (drop 0 theme) (drop (j - 1) (scoreOf cells h))) (codesOf way (note theme 1) (allStarts way)))
-      ≡ width way + sum (map (λ c. looked way c (drop 1 theme) (drop j (scoreOf cells h))) (codes way (note theme 1) (column (scoreOf cells h) (columnAt j)) 0))
+  first-costs : all-looks ≡ width way + sum (map (λ c. looked way c (drop 1 theme) (drop j score)) starts)
   first-costs =
-      rw (drop-cons theme 0 0 (omega (arith, r .notes)), here, next, ← all-starts way (note theme 1) (column (scoreOf cells h) (columnAt j)) (r .sung 0), ← all-length way (note theme 1))
-      (sum-part (λ c. holds way c (note theme 1) (column (scoreOf cells h) (columnAt j))) (λ c. looked way c (drop 1 theme) (drop j (scoreOf cells h))) (codesOf way (note theme 1) (allStarts way)))
+      rw (at-first, drop-cons theme 0 0 (omega (arith, r .notes)), here, next, ← have-first, ← all-length way first)
+      (sum-part (λ c. holds way c first (column score (columnAt j))) (λ c. looked way c (drop 1 theme) (drop j score)) (codesOf way first (allStarts way)))
 
-  followed : (word spent : ℕ) → word < 2 ^ width way
-      → hits (λ c. follows way c (drop 0 theme) (drop (j - 1) (scoreOf cells h))) (codesOf way (note theme 1) (allStarts way)) ≡ codesOf way (note theme 1) word
-      → sum (map (λ c. looked way c (drop 0 theme) (drop (j - 1) (scoreOf cells h))) (codesOf way (note theme 1) (allStarts way))) ≡ spent
-      → Followed way (scoreOf cells h) theme j word (spent - width way)
+  followed : (word spent : ℕ) → word < 2 ^ width way → all-hits ≡ codesOf way first word → all-looks ≡ spent → Followed way score theme j word (spent - width way)
   unfolding hit looks
   followed word spent s a b = record { small = s; left = rw next (sym first-hits ∙ a); costs = rw next (omega (arith, first-costs, b)) }
 
   module _ (word spent k : ℕ) (t : Following way cells h theme j word spent k) where
     -- what the first note costs was counted, whether none is alive or the theme ends
-    no-less : sum (map (λ c. looked way c (drop 0 theme) (drop (j - 1) (scoreOf cells h))) (codesOf way (note theme 1) (allStarts way))) ≡ spent → width way ≤ spent
+    no-less : all-looks ≡ spent → width way ≤ spent
     no-less b = omega (arith, first-costs, b)
 
-    none-hits : word ≡ 0 → hits (λ c. follows way c (drop 0 theme) (drop (j - 1) (scoreOf cells h))) (codesOf way (note theme 1) (allStarts way)) ≡ codesOf way (note theme 1) word
-    none-hits a = let z : codesOf way (note theme 1) word ≡ [] = rw a (codes-none way (note theme 1)) in t .hits ∙ rw z
-
-    none-costs : word ≡ 0 → sum (map (λ c. looked way c (drop 0 theme) (drop (j - 1) (scoreOf cells h))) (codesOf way (note theme 1) (allStarts way))) ≡ spent
-    none-costs a = let z : codesOf way (note theme 1) word ≡ [] = rw a (codes-none way (note theme 1)) in t .costs ∙ rw z (omega arith)
-
-    end-costs : length theme ≤ k → sum (map (λ c. looked way c (drop 0 theme) (drop (j - 1) (scoreOf cells h))) (codesOf way (note theme 1) (allStarts way))) ≡ spent
-    end-costs q = let none : drop k theme ≡ [] = drop-of-length-le theme {i = k} q in t .costs ∙ rw (none, sum-none (codesOf way (note theme 1) word)) (omega arith)
-
-    end-hits : length theme ≤ k → hits (λ c. follows way c (drop 0 theme) (drop (j - 1) (scoreOf cells h))) (codesOf way (note theme 1) (allStarts way)) ≡ codesOf way (note theme 1) word
-    end-hits q = let none : drop k theme ≡ [] = drop-of-length-le theme {i = k} q in t .hits ∙ rw none (hits-all (λ c. true) (codesOf way (note theme 1) word) (λ c m. refl))
-
     -- none is alive
-    pub none-spare : word ≡ 0 → width way ≤ spent
-    none-spare a = no-less (none-costs a)
+    module _ (z : word ≡ 0) where
+      none : codesOf way first word ≡ []
+      none = rw z (codes-none way first)
 
-    pub follow-none : word ≡ 0 → Followed way (scoreOf cells h) theme j word (spent - width way)
-    follow-none a = followed word spent (t .small) (none-hits a) (none-costs a)
+      none-costs : all-looks ≡ spent
+      none-costs = t .costs ∙ rw none (omega arith)
+
+      pub none-spare : width way ≤ spent
+      none-spare = no-less none-costs
+
+      pub follow-none : Followed way score theme j word (spent - width way)
+      follow-none = followed word spent (t .small) (t .hits ∙ rw none) none-costs
 
     -- the theme ends
-    pub end-spare : length theme ≤ k → width way ≤ spent
-    end-spare q = no-less (end-costs q)
+    module _ (q : length theme ≤ k) where
+      ended : drop k theme ≡ []
+      ended = drop-of-length-le theme {i = k} q
 
-    pub follow-end : length theme ≤ k → Followed way (scoreOf cells h) theme j word (spent - width way)
-    follow-end q = followed word spent (t .small) (end-hits q) (end-costs q)
+      end-costs : all-looks ≡ spent
+      end-costs = t .costs ∙ rw (ended, sum-none (codesOf way first word)) (omega arith)
 
+      pub end-spare : width way ≤ spent
+      end-spare = no-less end-costs
+
+      pub follow-end : Followed way score theme j word (spent - width way)
+      follow-end = followed word spent (t .small) (t .hits ∙ rw ended (hits-all (λ c. true) (codesOf way first word) (λ c m. refl))) end-costs
+
+    -- one note more: those at which the next column holds it stay alive
     module _ (q : k < length theme) where
-      abbrev here-column : List ℕ
-      here-column = take h (drop ((j + k - 1) * h) cells)
+      abbrev p : Pitch
+      p = pitch (getD theme k 0)
+
+      abbrev cells-here : List ℕ
+      cells-here = take h (drop ((j + k - 1) * h) cells)
 
       abbrev after : ℕ
-      after = bitAnd word (heldWord way (note theme 1) (pitch (getD theme k 0)) here-column)
+      after = bitAnd word (heldWord way first p cells-here)
 
-      at-column : getD (drop (j + k - 1) (scoreOf cells h)) 0 [] ≡ here-column
+      at-column : getD (drop (j + k - 1) score) 0 [] ≡ cells-here
       at-column = column-cells cells h (j + k - 1) (omega (arith, f .to-last))
 
-      further : drop 1 (drop (j + k - 1) (scoreOf cells h)) ≡ drop (j + (k + 1) - 1) (scoreOf cells h)
-      further = drop-drop 1 (j + k - 1) (scoreOf cells h) ∙ ap (λ (i : ℕ). drop i (scoreOf cells h)) on
+      further : drop 1 (drop (j + k - 1) score) ≡ drop (j + (k + 1) - 1) score
+      further = drop-drop 1 (j + k - 1) score ∙ ap (λ (i : ℕ). drop i score) on
         where
           on : j + k - 1 + 1 ≡ j + (k + 1) - 1
           on = omega (arith, f .from-first)
 
-      held : hits (λ c. holds way c (pitch (getD theme k 0)) here-column) (codesOf way (note theme 1) word) ≡ codesOf way (note theme 1) after
-      held = codes-both way (note theme 1) (pitch (getD theme k 0)) here-column word (t .small)
+      held : hits (λ c. holds way c p cells-here) (codesOf way first word) ≡ codesOf way first after
+      held = codes-both way first p cells-here word (t .small)
 
-      step-hits : hits (λ c. follows way c (drop k theme) (drop (j + k - 1) (scoreOf cells h))) (codesOf way (note theme 1) word)
-          ≡ hits (λ c. follows way c (drop (k + 1) theme) (drop (j + (k + 1) - 1) (scoreOf cells h))) (codesOf way (note theme 1) after)
+      step-hits : hitsFrom way cells h theme j k word ≡ hitsFrom way cells h theme j (k + 1) after
       step-hits =
           rw (drop-cons theme k 0 q, at-column, further, add-one k, ← held)
-          (hits-part (λ c. holds way c (pitch (getD theme k 0)) here-column)
-          (λ c. follows way c (drop (suc k) theme) (drop (j + suc k - 1) (scoreOf cells h))) (codesOf way (note theme 1) word))
+          (hits-part (λ c. holds way c p cells-here) (λ c. follows way c (drop (suc k) theme) (drop (j + suc k - 1) score)) (codesOf way first word))
 
-      step-costs : sum (map (λ c. looked way c (drop k theme) (drop (j + k - 1) (scoreOf cells h))) (codesOf way (note theme 1) word))
-          ≡ ones word + sum (map (λ c. looked way c (drop (k + 1) theme) (drop (j + (k + 1) - 1) (scoreOf cells h))) (codesOf way (note theme 1) after))
+      step-costs : looksFrom way cells h theme j k word ≡ ones word + looksFrom way cells h theme j (k + 1) after
       step-costs =
-          rw (drop-cons theme k 0 q, at-column, further, add-one k, ← held, ← word-length way (note theme 1) word (t .small))
-          (sum-part (λ c. holds way c (pitch (getD theme k 0)) here-column)
-          (λ c. looked way c (drop (suc k) theme) (drop (j + suc k - 1) (scoreOf cells h))) (codesOf way (note theme 1) word))
+          rw (drop-cons theme k 0 q, at-column, further, add-one k, ← held, ← word-length way first word (t .small))
+          (sum-part (λ c. holds way c p cells-here) (λ c. looked way c (drop (suc k) theme) (drop (j + suc k - 1) score)) (codesOf way first word))
 
       follow-turn : Following way cells h theme j after (spent + ones word) (k + 1)
       follow-turn =
           record {
             upTo = omega arith;
-            small = lt-of-le-of-lt (and-le-l word (heldWord way (note theme 1) (pitch (getD theme k 0)) here-column)) (t .small);
+            small = lt-of-le-of-lt (and-le-l word (heldWord way first p cells-here)) (t .small);
             hits = t .hits ∙ step-hits;
             costs = omega (arith, t .costs, step-costs);
             bounded = omega (arith, t .bounded, alive-few way word (t .small));
           }
 
-  -- one note more, as code has the word: in halves, each with what the column holds
-  pub follow-halves : (low high spent k : ℕ) → Halves low high → Following way cells h theme j (value low high) spent k → k < length theme → (l u : ℕ) → Halves l u
-      → value l u ≡ heldWord way (note theme 1) (pitch (getD theme k 0)) (take h (drop ((j + k - 1) * h) cells))
+  -- the same as code has the word: in halves, each with what the column holds
+  pub follow-halves : (low high spent k : ℕ) → Halves low high → Following way cells h theme j (value low high) spent k → k < length theme
+      → (l u : ℕ) → Halves l u → value l u ≡ heldWord way first (pitch (getD theme k 0)) (take h (drop ((j + k - 1) * h) cells))
       → Following way cells h theme j (value (bitAnd low l) (bitAnd high u)) (spent + (ones low + ones high)) (k + 1)
   follow-halves low high spent k x t q l u y e = rw (value-and low high l u x y, e, value-ones low high x) (follow-turn (value low high) spent k t q)

@@ -4,15 +4,13 @@ use mathlib.Core.Path.{_≡_, refl, sym, ap, _∙_}
 use mathlib.Core.Bool.{Bool, true, false, cond}
 use mathlib.Core.List.{List, [], _∷_, _++_, map-append}
 use Prim.Native.Nat.{ℕ, zero, suc, _+_, _-_, _*_, _≤_, _<_, zero-le}
+use native.Mathlib.Nat.{add-zero}
 use native.Mathlib.Omega.{arith}
 use lib.IntN.{ℤ}
 use lib.ListN.{length, getD, take, drop, set, length-append, length-map, length-set}
-use lib.Seq.{sets, length-sets}
 use Rattle.theory.specs.Lists.{count, first}
 use Rattle.theory.specs.Pages.{hits, pageHits, pageLooks}
 use Rattle.theory.proofs.Lowest.{hits-first, hits-none}
-use Rattle.theory.proofs.Lists.{sets-more}
-use Rattle.theory.proofs.Going.{Going, Made, going-start, going-miss, going-took, going-full, going-end}
 use Rattle.score.specs.Score.{pitch, columnAt, column, columnsIn, scoreOf}
 use Rattle.score.proofs.Columns.{cut-at}
 use Rattle.asking.specs.declared.way.Way.{Way}
@@ -25,6 +23,7 @@ use Rattle.walking.specs.Found.{columnsOf, shiftsOf}
 use Rattle.walking.specs.Walk.{Ready, Fits, nextCode, Trial, columnStarts, Tries}
 use Rattle.walking.proofs.Order.{span-lt}
 use Rattle.walking.proofs.LookBound.{looks-le}
+use Rattle.walking.proofs.Taking.{Taking, take-start, take-part, take-full, take-end}
 
 -- ---- the starts of a column from a code on
 
@@ -42,156 +41,114 @@ module _ (way : Way) (cells : List ℕ) (h : ℕ) (theme : List ℕ) (j : ℕ) (
 
   pub starts-some : next < span way → columnStarts way (scoreOf cells h) theme j code ≡ place j next ∷ columnStarts way (scoreOf cells h) theme j (next + 1)
   starts-some q =
-      let k : first (λ c. holds way c (note theme 1) (column (scoreOf cells h) (columnAt j))) (count code (span way - code)) < span way - code = omega (arith, next-is) in
-      let e : span way - code - (first (λ c. holds way c (note theme 1) (column (scoreOf cells h) (columnAt j))) (count code (span way - code)) + 1) ≡ span way - (next + 1) = omega (arith, next-is) in
+      let k : first (λ c. holds way c (note theme 1) (column (scoreOf cells h) (columnAt j))) (count code (span way - code)) < span way - code =
+      omega (arith, next-is) in
+      let e : span way - code - (first (λ c. holds way c (note theme 1) (column (scoreOf cells h) (columnAt j))) (count code (span way - code)) + 1)
+      ≡ span way - (next + 1) = omega (arith, next-is) in
       rw (hits-first (λ c. holds way c (note theme 1) (column (scoreOf cells h) (columnAt j))) code (span way - code) k, e, ← next-is)
 
   pub starts-none : span way ≤ next → columnStarts way (scoreOf cells h) theme j code ≡ []
   starts-none q =
-      let k : span way - code ≤ first (λ c. holds way c (note theme 1) (column (scoreOf cells h) (columnAt j))) (count code (span way - code)) = omega (arith, next-is) in
+      let k : span way - code ≤ first (λ c. holds way c (note theme 1) (column (scoreOf cells h) (columnAt j))) (count code (span way - code)) =
+      omega (arith, next-is) in
       rw (hits-none (λ c. holds way c (note theme 1) (column (scoreOf cells h) (columnAt j))) code (span way - code) k)
 
--- nothing is tried
-pub tries-none : (way : Way) (score : List (List ℕ)) (theme : List ℕ) (C : List Place) {kept : Bool} (found : ℕ) (columns : List ℕ) (shifts : List ℤ)
-    → kept ≡ false → Tries way score theme (cond kept C []) found columns shifts found 0 columns shifts
-tries-none way score theme C found columns shifts e = rw e nothing
+-- ---- one start is tried: a hit is written behind those found, and nothing else is
+
+module _ (way : Way) (score : List (List ℕ)) (theme : List ℕ) (s : Place) where
+  page-none : (r : ℕ) → pageHits (hit way score theme) r [] ≡ []
+  page-none zero = refl
+  page-none (suc r) = refl
+
+  page-one : (r : ℕ) (b : Bool) → hit way score theme s ≡ b → pageHits (hit way score theme) (suc r) (s ∷ []) ≡ cond b (s ∷ []) []
+  page-one r true e = rw (e, page-none r)
+  page-one r false e = rw e
+
+  looks-one : (r : ℕ) → pageLooks (hit way score theme) (looks way score theme) (suc r) (s ∷ []) ≡ looks way score theme s
+  looks-one r = step r (hit way score theme s)
+    where
+      step : (n : ℕ) (b : Bool) → looks way score theme s
+          + cond b (pageLooks (hit way score theme) (looks way score theme) n [])
+          (pageLooks (hit way score theme) (looks way score theme) (suc n) []) ≡ looks way score theme s
+      step zero true = add-zero (looks way score theme s)
+      step (suc n) true = add-zero (looks way score theme s)
+      step n false = add-zero (looks way score theme s)
+
+tries-one : (way : Way) (score : List (List ℕ)) (theme : List ℕ) (j code at : ℕ) (columns : List ℕ) (shifts : List ℤ)
+    → code ≤ 255 → at < length columns → length shifts ≡ length columns → (found : Bool) (costs : ℕ) → Trial way score theme j code found costs
+    → (at′ : ℕ) (columns′ : List ℕ) (shifts′ : List ℤ) → Puts way j (fitting (startCodes found code) at columns shifts) at columns shifts at′ columns′ shifts′
+    → Tries way score theme (place j code ∷ []) at columns shifts at′ costs columns′ shifts′
+tries-one way score theme j code at columns shifts small room same found costs tried at′ columns′ shifts′ k = step found (tried .hits) k
   where
-    none : (r : ℕ) → pageHits (hit way score theme) r [] ≡ []
-    none zero = refl
-    none (suc r) = refl
+    left : length columns - at ≡ suc (length columns - at - 1)
+    left = omega arith
 
-    free : (r : ℕ) → 0 ≡ pageLooks (hit way score theme) (looks way score theme) r []
-    free zero = refl
-    free (suc r) = refl
+    spent : costs ≡ pageLooks (hit way score theme) (looks way score theme) (length columns - at) (place j code ∷ [])
+    spent = rw left (tried .costs ∙ sym (looks-one way score theme (place j code) (length columns - at - 1)))
 
-    nothing : Tries way score theme [] found columns shifts found 0 columns shifts
-    nothing =
-        let z = none (length columns - found) in
-        record { count = rw z (omega arith); costs = free (length columns - found); in-columns = rw z; in-shifts = rw z }
+    step : (b : Bool) → b ≡ hit way score theme (place j code) → Puts way j
+        (fitting (startCodes b code) at columns shifts) at columns shifts at′ columns′ shifts′
+        → Tries way score theme (place j code ∷ []) at columns shifts at′ costs columns′ shifts′
+    step true e k =
+        let p = puts-hit way j at columns shifts code at′ columns′ shifts′ small room (omega arith) k in
+        let page = page-one way score theme (place j code) (length columns - at - 1) true (sym e) in
+        record { count = rw (left, page) (p .count); costs = spent; in-columns = rw (left, page) (p .in-columns); in-shifts = rw (left, page) (p .in-shifts) }
+    step false e k =
+        let p = puts-miss way j at columns shifts code at′ columns′ shifts′ k in
+        let page = page-one way score theme (place j code) (length columns - at - 1) false (sym e) in
+        record { count = rw (left, page) (p .count); costs = spent; in-columns = rw (left, page) (p .in-columns); in-shifts = rw (left, page) (p .in-shifts) }
 
-pub tries-all : (way : Way) (score : List (List ℕ)) (theme : List ℕ) (C : List Place) {kept : Bool} (found : ℕ) (columns : List ℕ) (shifts : List ℤ)
-    (found′ spent : ℕ) (columns′ : List ℕ) (shifts′ : List ℤ) → kept ≡ true → Tries way score theme C found columns shifts found′ spent columns′ shifts′
-    → Tries way score theme (cond kept C []) found columns shifts found′ spent columns′ shifts′
-tries-all way score theme C found columns shifts found′ spent columns′ shifts′ e t = rw e t
-
--- the buffers stay as long as they were
-module _ {way : Way} {score : List (List ℕ)} {theme : List ℕ} {tried : List Place} {found : ℕ} {columns : List ℕ} {shifts : List ℤ}
-    {found′ spent : ℕ} {columns′ : List ℕ} {shifts′ : List ℤ} (t : Tries way score theme tried found columns shifts found′ spent columns′ shifts′) where
-  pub tries-long : length columns′ ≡ length columns
-  tries-long = simp length-sets at (ap length (t .in-columns))
-
-  pub tries-long-shifts : length shifts′ ≡ length shifts
-  tries-long-shifts = simp length-sets at (ap length (t .in-shifts))
-
--- ---- a column under way: `out` is what it gave so far
+-- ---- a column under way: its starts below `code` are tried
 
 pub record Filling (way : Way) (cells : List ℕ) (h : ℕ) (theme : List ℕ) (j x found : ℕ) (columns₀ : List ℕ) (shifts₀ : List ℤ)
     (columns : List ℕ) (shifts : List ℤ) (code at spent : ℕ) : Type 0 where
-  pub out : List Place
-  pub going : Going (hit way (scoreOf cells h) theme) (looks way (scoreOf cells h) theme) (length columns₀ - found) (columnStarts way (scoreOf cells h) theme j x)
-      out spent (length columns₀ - at) (columnStarts way (scoreOf cells h) theme j code)
-  pub counted : at ≡ found + length out
-  pub in-columns : columns ≡ sets columns₀ found (columnsOf out)
-  pub in-shifts : shifts ≡ sets shifts₀ found (shiftsOf way out)
-  pub long : length columns ≡ length columns₀
-  pub long-shifts : length shifts ≡ length columns₀
-  pub room : at ≤ length columns₀
+  pub taking : Taking way (scoreOf cells h) theme (columnStarts way (scoreOf cells h) theme j x) found columns₀ shifts₀
+      columns shifts (columnStarts way (scoreOf cells h) theme j code) at spent
   pub low : code ≤ span way
   pub bounded : spent ≤ code * 32
 
 module _ (way : Way) (cells : List ℕ) (h : ℕ) (theme : List ℕ) (j x found : ℕ) (columns₀ : List ℕ) (shifts₀ : List ℤ) where
-  pub fill-start : x ≤ span way → found ≤ length columns₀ → length shifts₀ ≡ length columns₀ → Filling way cells h theme j x found columns₀ shifts₀ columns₀ shifts₀ x found 0
-  fill-start a b c =
-      record {
-        out = [];
-        going = going-start _ _ _ _;
-        counted = omega arith;
-        in-columns = refl;
-        in-shifts = refl;
-        long = refl;
-        long-shifts = c;
-        room = b;
-        low = a;
-        bounded = zero-le;
-      }
+  pub fill-start : x ≤ span way → found ≤ length columns₀ → length shifts₀ ≡ length columns₀
+      → Filling way cells h theme j x found columns₀ shifts₀ columns₀ shifts₀ x found 0
+  fill-start a b c = record { taking = take-start _ _ _ _ _ _ _ b c; low = a; bounded = zero-le }
 
-  module _ (columns : List ℕ) (shifts : List ℤ) (code at spent : ℕ) (t : Filling way cells h theme j x found columns₀ shifts₀ columns shifts code at spent) where
-    -- the column is done with: no start is left, or no room
-    done : Made (hit way (scoreOf cells h) theme) (looks way (scoreOf cells h) theme) (length columns₀ - found) (columnStarts way (scoreOf cells h) theme j x) (t .out) spent
-        → Tries way (scoreOf cells h) theme (columnStarts way (scoreOf cells h) theme j x) found columns₀ shifts₀ at spent columns shifts
-    done g =
-        record {
-          count = rw (g .got) (t .counted);
-          costs = sym (g .paid);
-          in-columns = rw (g .got) (t .in-columns);
-          in-shifts = rw (g .got) (t .in-shifts);
-        }
-
-    pub fill-full : length columns ≤ at → Tries way (scoreOf cells h) theme (columnStarts way (scoreOf cells h) theme j x) found columns₀ shifts₀ at spent columns shifts
-    fill-full q =
-        let z : length columns₀ - at ≡ 0 = omega (arith, t .long) in
-        done (going-full _ _ _ _ (rw z at (t .going)))
+  module _ (columns : List ℕ) (shifts : List ℤ) (code at spent : ℕ)
+      (t : Filling way cells h theme j x found columns₀ shifts₀ columns shifts code at spent) where
+    -- the column is done with: no room is left, or no start
+    pub fill-full : length columns ≤ at → Tries way (scoreOf cells h) theme
+        (columnStarts way (scoreOf cells h) theme j x) found columns₀ shifts₀ at spent columns shifts
+    fill-full q = take-full _ _ _ _ _ _ _ _ _ _ _ _ (t .taking) q
 
     module _ (r : Ready cells h theme) (f : Fits (columnsIn cells h) (length theme) j) (base : ℕ) (b : base ≡ (j - 1) * h) (next : ℕ)
         (n : next ≡ nextCode way (pitch (getD theme 0 0)) (take h (drop base cells)) code) where
       some-notes : 1 ≤ length theme
       some-notes = omega (arith, r .notes)
 
-      pub fill-none : span way ≤ next → Tries way (scoreOf cells h) theme (columnStarts way (scoreOf cells h) theme j x) found columns₀ shifts₀ at spent columns shifts
-      fill-none q = done (going-end _ _ _ _ (rw (starts-none way cells h theme j f some-notes code next base b n q) at (t .going)))
+      pub fill-none : span way ≤ next → Tries way (scoreOf cells h) theme
+          (columnStarts way (scoreOf cells h) theme j x) found columns₀ shifts₀ at spent columns shifts
+      fill-none q = take-end _ _ _ _ _ _ _ _ _ _ _ _ (t .taking) (starts-none way cells h theme j f some-notes code next base b n q)
 
       pub fill-further : code ≤ next
       fill-further = next-le way cells h theme j f some-notes code next base b n
 
-      module _ (q : next < span way) (some-room : at < length columns) (found′ : Bool) (costs : ℕ) (tried : Trial way (scoreOf cells h) theme j next found′ costs) where
+      module _ (q : next < span way) (some-room : at < length columns) (hits : Bool) (costs : ℕ)
+          (tried : Trial way (scoreOf cells h) theme j next hits costs) where
         -- it costs few looks
         pub fill-bound : spent + costs ≤ (next + 1) * 32
         fill-bound = omega (arith, t .bounded, tried .costs, looks-le way (scoreOf cells h) theme (place j next), r .notes-most, fill-further)
 
-        room-more : length columns₀ - at ≡ suc (length columns₀ - (at + 1))
-        room-more = omega (arith, t .long)
-
-        ready : Going (hit way (scoreOf cells h) theme) (looks way (scoreOf cells h) theme) (length columns₀ - found) (columnStarts way (scoreOf cells h) theme j x)
-            (t .out) spent (suc (length columns₀ - (at + 1))) (place j next ∷ columnStarts way (scoreOf cells h) theme j (next + 1))
-        ready = rw (starts-some way cells h theme j f some-notes code next base b n q, room-more) at (t .going)
-
-        pub fill-turn : (columns′ : List ℕ) (shifts′ : List ℤ) (at′ : ℕ) → Puts way j (fitting (startCodes found′ next) at columns shifts) at columns shifts at′ columns′ shifts′
+        pub fill-turn : (columns′ : List ℕ) (shifts′ : List ℤ) (at′ : ℕ) → Puts way j
+            (fitting (startCodes hits next) at columns shifts) at columns shifts at′ columns′ shifts′
             → Filling way cells h theme j x found columns₀ shifts₀ columns′ shifts′ (next + 1) at′ (spent + costs)
-        fill-turn columns′ shifts′ at′ k = step found′ (tried .hits) k
-          where
-            step : (b : Bool) → b ≡ hit way (scoreOf cells h) theme (place j next) → Puts way j (fitting (startCodes b next) at columns shifts) at columns shifts at′ columns′ shifts′
-                → Filling way cells h theme j x found columns₀ shifts₀ columns′ shifts′ (next + 1) at′ (spent + costs)
-            step true e k =
-                let p = puts-hit way j at columns shifts next at′ columns′ shifts′ (omega (arith, span-lt way)) some-room (omega (arith, t .long, t .long-shifts)) k in
-                let a : at′ ≡ at + 1 = p .count in
-                let c : columns′ ≡ set columns at j = p .in-columns in
-                let d : shifts′ ≡ set shifts at (shiftOf way next) = p .in-shifts in
-                record {
-                  out = t .out ++ (place j next ∷ []);
-                  going = rw (a, tried .costs) (going-took _ _ _ _ ready (sym e));
-                  counted = omega (arith, a, t .counted, length-append (t .out) (place j next ∷ []));
-                  in-columns = c ∙ rw (t .in-columns, map-append) (sets-more columns₀ found (columnsOf (t .out)) j at (t .counted ∙ ap (λ (i : ℕ). found + i) (sym (length-map (t .out) _))));
-                  in-shifts = d ∙ rw (t .in-shifts, map-append) (sets-more shifts₀ found (shiftsOf way (t .out)) (shiftOf way next) at (t .counted ∙ ap (λ (i : ℕ). found + i) (sym (length-map (t .out) _))));
-                  long = ap length c ∙ length-set columns at j ∙ t .long;
-                  long-shifts = ap length d ∙ length-set shifts at (shiftOf way next) ∙ t .long-shifts;
-                  room = omega (arith, a, t .long);
-                  low = omega arith;
-                  bounded = fill-bound;
-                }
-            step false e k =
-                let p = puts-miss way j at columns shifts next at′ columns′ shifts′ k in
-                let a : at′ ≡ at = omega (arith, p .count) in
-                let c : columns′ ≡ columns = p .in-columns in
-                let d : shifts′ ≡ shifts = p .in-shifts in
-                record {
-                  out = t .out;
-                  going = rw (a, tried .costs, room-more) (going-miss _ _ _ _ ready (sym e));
-                  counted = a ∙ t .counted;
-                  in-columns = c ∙ t .in-columns;
-                  in-shifts = d ∙ t .in-shifts;
-                  long = ap length c ∙ t .long;
-                  long-shifts = ap length d ∙ t .long-shifts;
-                  room = omega (arith, a, t .room);
-                  low = omega arith;
-                  bounded = fill-bound;
-                }
+        fill-turn columns′ shifts′ at′ k =
+            let one = place j next ∷ [] in
+            let rest = columnStarts way (scoreOf cells h) theme j (next + 1) in
+            let same : length shifts ≡ length columns = t .taking .long-shifts ∙ sym (t .taking .long) in
+            let tries = tries-one _ _ _ _ _ _ _ _ (omega (arith, span-lt way)) some-room same _ _ tried _ _ _ k in
+            record {
+              taking =
+                  take-part _ _ _ _ _ _ _ _ _ _ _ one rest (rw (starts-some way cells h theme j f some-notes code next base b n q) at (t .taking))
+                  _ _ _ _ tries;
+              low = omega arith;
+              bounded = fill-bound;
+            }

@@ -5,60 +5,70 @@ use mathlib.Core.List.{List}
 use Prim.Native.Nat.{ℕ, _+_, _-_, _*_, _≤_, _<_}
 use native.Mathlib.Omega.{arith}
 use lib.Dec.{eqb}
-use lib.ListN.{getD, take, drop, set, replicate, length-set, length-replicate, getD-replicate}
+use lib.ListN.{length, getD, take, drop, set, replicate, length-set, length-replicate, getD-replicate}
 use lib.Seq.{getD-set-same, getD-set-other}
 use borrow.Author.Tests.{eqb-true, eqb-false}
 use Rattle.asking.specs.declared.way.Way.{Way}
 use Rattle.masks.specs.Masks.{value, columnWord}
-use Rattle.walking.specs.Alive.{Cached}
+use Rattle.walking.specs.Alive.{places, tags, ringLength, Cached}
 
-module _ (way : Way) (cells : List ℕ) (h : ℕ) (ring : List ℕ) (c : Cached way cells h ring) (s k : ℕ) (l : s < 32) where
-  pub cached-kept : getD ring (64 + s) 0 ≡ k + 1 → value (getD ring s 0) (getD ring (32 + s) 0) ≡ columnWord way (take h (drop (k * h) cells))
-  cached-kept e = let n : getD ring (64 + s) 0 - 1 ≡ k = omega (arith, e) in rw n at (c .right s l (omega (arith, e)))
+module _ (way : Way) (cells : List ℕ) (h : ℕ) (ring : List ℕ) (c : Cached way cells h ring) (s k : ℕ) (l : s < places) where
+  pub cached-kept : getD ring (tags + s) 0 ≡ k + 1 → value (getD ring s 0) (getD ring (places + s) 0) ≡ columnWord way (take h (drop (k * h) cells))
+  cached-kept e = let n : getD ring (tags + s) 0 - 1 ≡ k = omega (arith, e) in rw n at (c .right s l (omega (arith, e)))
 
-  pub cached-put : (low high : ℕ) → value low high ≡ columnWord way (take h (drop (k * h) cells))
-      → Cached way cells h (set (set (set ring s low) (32 + s) high) (64 + s) (k + 1))
-  cached-put low high w =
-      record {
-        long = length-set (set (set ring s low) (32 + s) high) (64 + s) (k + 1) ∙ length-set (set ring s low) (32 + s) high ∙ length-set ring s low ∙ c .long;
-        right = λ t m q. step t m (eqb t s) refl q;
-      }
-    where
-      after : List ℕ
-      after = set (set (set ring s low) (32 + s) high) (64 + s) (k + 1)
+  module _ (low high : ℕ) where
+    -- the ring after each of the three stores
+    abbrev first : List ℕ
+    first = set ring s low
 
-      -- the three places that were written, and the others
-      tag-is : getD after (64 + s) 0 ≡ k + 1
-      tag-is = getD-set-same (set (set ring s low) (32 + s) high) (64 + s) (k + 1) 0 (omega (arith, length-set (set ring s low) (32 + s) high, length-set ring s low, c .long))
+    abbrev second : List ℕ
+    second = set first (places + s) high
 
-      high-is : getD after (32 + s) 0 ≡ high
-      high-is =
-          getD-set-other (set (set ring s low) (32 + s) high) (64 + s) (32 + s) (k + 1) 0 (λ e. omega (arith, e))
-          ∙ getD-set-same (set ring s low) (32 + s) high 0 (omega (arith, length-set ring s low, c .long))
+    abbrev third : List ℕ
+    third = set second (tags + s) (k + 1)
 
-      low-is : getD after s 0 ≡ low
-      low-is =
-          getD-set-other (set (set ring s low) (32 + s) high) (64 + s) s (k + 1) 0 (λ e. omega (arith, e))
-          ∙ getD-set-other (set ring s low) (32 + s) s high 0 (λ e. omega (arith, e)) ∙ getD-set-same ring s low 0 (omega (arith, c .long))
+    first-long : length first ≡ ringLength
+    first-long = length-set ring s low ∙ c .long
 
-      other : (n : ℕ) → (n ≡ s → ⊥) → (n ≡ 32 + s → ⊥) → (n ≡ 64 + s → ⊥) → getD after n 0 ≡ getD ring n 0
-      other n a b d =
-          getD-set-other (set (set ring s low) (32 + s) high) (64 + s) n (k + 1) 0 d ∙ getD-set-other (set ring s low) (32 + s) n high 0 b ∙ getD-set-other ring s n low 0 a
+    second-long : length second ≡ ringLength
+    second-long = length-set first (places + s) high ∙ first-long
 
-      step : (t : ℕ) → t < 32 → (b : Bool) → eqb t s ≡ b → 1 ≤ getD after (64 + t) 0
-          → value (getD after t 0) (getD after (32 + t) 0) ≡ columnWord way (take h (drop ((getD after (64 + t) 0 - 1) * h) cells))
-      step t m true e q =
-          let same : t ≡ s = eqb-true t s e in
-          let n : k + 1 - 1 ≡ k = omega arith in
-          rw (same, tag-is, high-is, low-is, n) w
-      step t m false e q =
-          let ne : (t ≡ s → ⊥) = eqb-false t s e in
-          let a : getD after (64 + t) 0 ≡ getD ring (64 + t) 0 = other (64 + t) (λ f. omega (arith, f)) (λ f. omega (arith, f)) (λ f. ne (omega (arith, f))) in
-          let b : getD after (32 + t) 0 ≡ getD ring (32 + t) 0 = other (32 + t) (λ f. omega (arith, f)) (λ f. ne (omega (arith, f))) (λ f. omega (arith, f)) in
-          let d : getD after t 0 ≡ getD ring t 0 = other t ne (λ f. omega (arith, f)) (λ f. omega (arith, f)) in
-          rw (a, b, d) (c .right t m (omega (arith, q, a)))
+    -- the places that were written, and the others
+    tag-is : getD third (tags + s) 0 ≡ k + 1
+    tag-is = getD-set-same second (tags + s) (k + 1) 0 (omega (arith, second-long))
+
+    high-is : getD third (places + s) 0 ≡ high
+    high-is =
+        getD-set-other second (tags + s) (places + s) (k + 1) 0 (λ e. omega (arith, e)) ∙ getD-set-same first (places + s) high 0 (omega (arith, first-long))
+
+    low-is : getD third s 0 ≡ low
+    low-is =
+        getD-set-other second (tags + s) s (k + 1) 0 (λ e. omega (arith, e)) ∙ getD-set-other first (places + s) s high 0 (λ e. omega (arith, e))
+        ∙ getD-set-same ring s low 0 (omega (arith, c .long))
+
+    other : (n : ℕ) → (n ≡ s → ⊥) → (n ≡ places + s → ⊥) → (n ≡ tags + s → ⊥) → getD third n 0 ≡ getD ring n 0
+    other n a b d = getD-set-other second (tags + s) n (k + 1) 0 d ∙ getD-set-other first (places + s) n high 0 b ∙ getD-set-other ring s n low 0 a
+
+    pub cached-put : value low high ≡ columnWord way (take h (drop (k * h) cells)) → Cached way cells h third
+    cached-put w = record { long = length-set second (tags + s) (k + 1) ∙ second-long; right = λ t m q. step t m (eqb t s) refl q }
+      where
+        step : (t : ℕ) → t < places → (b : Bool) → eqb t s ≡ b → 1 ≤ getD third (tags + t) 0
+            → value (getD third t 0) (getD third (places + t) 0) ≡ columnWord way (take h (drop ((getD third (tags + t) 0 - 1) * h) cells))
+        step t m true e q =
+            let same : t ≡ s = eqb-true t s e in
+            let n : k + 1 - 1 ≡ k = omega arith in
+            rw (same, tag-is, high-is, low-is, n) w
+        step t m false e q =
+            let ne : (t ≡ s → ⊥) = eqb-false t s e in
+            let a = other (tags + t) (λ f. omega (arith, f)) (λ f. omega (arith, f)) (λ f. ne (omega (arith, f))) in
+            let b = other (places + t) (λ f. omega (arith, f)) (λ f. ne (omega (arith, f))) (λ f. omega (arith, f)) in
+            let d = other t ne (λ f. omega (arith, f)) (λ f. omega (arith, f)) in
+            rw (a, b, d) (c .right t m (omega (arith, q, a)))
 
 -- a ring of zeros has no words
-pub cached-none : (way : Way) (cells : List ℕ) (h : ℕ) → Cached way cells h (replicate 96 0)
+pub cached-none : (way : Way) (cells : List ℕ) (h : ℕ) → Cached way cells h (replicate ringLength 0)
 cached-none way cells h =
-    record { long = length-replicate {A = ℕ} 96 0; right = λ s k q. absurd (omega (arith, getD-replicate {A = ℕ} 96 (64 + s) 0 0 (omega arith))) }
+    record {
+      long = length-replicate {A = ℕ} ringLength 0;
+      right = λ s k q. absurd (omega (arith, getD-replicate {A = ℕ} ringLength (tags + s) 0 0 (omega arith)));
+    }

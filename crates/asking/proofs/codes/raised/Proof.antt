@@ -20,7 +20,9 @@ returns : tie.Need-returns
 returns c = add-read w16 _ (pos 1) (c .before .fits .shift) (raise-fits w16 _ (c .before .fits .shift) (below c)) ∙ rw (below c)
 
 returns-2 : tie.Need-returns-2
-returns-2 c = let e : ltZ (c .before .args .shift) (pos 32767) ≡ false = subst (λ (z : ℤ). ltZ z (pos 32767) ≡ false) (toZ-ofZ (c .before .fits .shift)) (c .if1 .left) in rw e
+returns-2 c =
+    let e : ltZ (c .before .args .shift) (pos 32767) ≡ false = subst (λ (z : ℤ). ltZ z (pos 32767) ≡ false) (toZ-ofZ (c .before .fits .shift)) (c .if1 .left) in
+    rw e
 
 pub raised-spec : {M : Type 1} → statement M
 raised-spec = tie.close (tie.spec add-result returns returns-2)

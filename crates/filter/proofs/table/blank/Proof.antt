@@ -1,7 +1,7 @@
 -- `filter::table::blank` meets its contract: its bits are those of the word of no bit. Assumes nothing.
 use borrow.Author.Needs.{needs}
 use mathlib.Core.Path.{refl}
-use Rattle.filter.specs.Table.{wordBits}
+use Rattle.filter.specs.Limits.{wordBits}
 use Rattle.filter.proofs.table.Laws.{blank-few, blank-many}
 use Rattle.filter.proofs.table.blank.Statement.{statement}
 use Rattle.filter.proofs.table.blank.Tie as tie

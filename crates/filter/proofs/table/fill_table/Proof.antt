@@ -4,7 +4,8 @@ use borrow.Author.Needs.{needs}
 use mathlib.Core.Path.{sym, _∙_}
 use Prim.Native.Nat.{_-_}
 use Rattle.theory.proofs.Masks.{one-shl}
-use Rattle.filter.specs.Table.{wordBits, word, themeTable}
+use Rattle.filter.specs.Limits.{wordBits}
+use Rattle.filter.specs.Table.{word, themeTable}
 use Rattle.filter.proofs.Words.{after-none, after-other, after-filled}
 use Rattle.filter.proofs.table.Doubling.{Filled, filled-first, filled-room, filled-twice, filled-all}
 use Rattle.filter.proofs.table.fill_table.Statement.{statement}

@@ -5,7 +5,7 @@ use mathlib.Core.Path.{ap}
 use Prim.Native.Nat.{_-_}
 use native.Mathlib.Omega.{arith}
 use Rattle.score.specs.declared.quantities.Interval.{Interval}
-use Rattle.filter.specs.Table.{wordBits}
+use Rattle.filter.specs.Limits.{wordBits}
 use Rattle.filter.proofs.table.Laws.{Rows, rows-start, rows-more, rows-above}
 use Rattle.filter.proofs.table.rows_of.Statement.{statement}
 use Rattle.filter.proofs.table.rows_of.Tie as tie

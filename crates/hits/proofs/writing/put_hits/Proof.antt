@@ -9,7 +9,7 @@ use lib.ListN.{length}
 use denote.Ref.{now}
 use Rattle.theory.specs.Marks.{marks}
 use Rattle.theory.proofs.Marks.{marks-ones}
-use Rattle.masks.proofs.Halves.{Halves, value-few-ones}
+use Rattle.masks.proofs.Halves.{Halves, value-ones-le}
 use Rattle.hits.proofs.Fitting.{low-code-le}
 use Rattle.hits.proofs.writing.Putting.{Room, room-both, room-none, put-no-mark, put-no-pitch, put-no-room, put-all}
 use Rattle.hits.proofs.writing.put_hits.Statement.{statement}
@@ -35,10 +35,10 @@ returns-2 : tie.Need-returns-2
 returns-2 c = let a = c .before .before .before .before in put-no-pitch _ _ (a .args .first) _ _ _ _ _ (halves a) (c .if2 .taken)
 
 add-hits : tie.Need-add-hits
-add-hits c = omega (arith, value-few-ones _ _ (halves (c .before .before .before .before)))
+add-hits c = omega (arith, value-ones-le _ _ (halves (c .before .before .before .before)))
 
 cast-hits : tie.Need-cast-hits
-cast-hits c = omega (arith, value-few-ones _ _ (halves (c .before .before .before .before)))
+cast-hits c = omega (arith, value-ones-le _ _ (halves (c .before .before .before .before)))
 
 has-room-requires : tie.Need-has-room-requires
 has-room-requires c κs = tt
@@ -77,9 +77,11 @@ put-marked-requires-2 c κs =
     let s = a .args in
     let q = room (d .before) in
     let m : length (marks 64 (d .low-code .result) (s .word .low)) ≡ ones (s .word .low) = marks-ones 64 _ _ (halves a .lower) in
-    let w = p .put-marked in
-    (omega (arith, q .in-columns, w .ensures .count, m, w .kept .0), omega (arith, q .in-shifts, w .ensures .count, m, w .kept .1 .0),
-     omega (arith, d .low-code .ensures, low-code-le (s .way) (s .first)))
+    let w = p .put-marked in (
+      omega (arith, q .in-columns, w .ensures .count, m, w .kept .0),
+      omega (arith, q .in-shifts, w .ensures .count, m, w .kept .1 .0),
+      omega (arith, d .low-code .ensures, low-code-le (s .way) (s .first)),
+    )
 
 same-length : tie.Need-same-length
 same-length c = search needs

@@ -8,7 +8,7 @@ use lib.ListN.{length}
 use denote.Ref.{now}
 use Rattle.score.specs.Score.{columnsIn}
 use Rattle.masks.specs.Masks.{value}
-use Rattle.masks.proofs.Halves.{Halves, halves-and, value-none, value-few-ones}
+use Rattle.masks.proofs.Halves.{Halves, halves-and, value-none, value-ones-le}
 use Rattle.walking.specs.Alive.{Cached}
 use Rattle.walking.proofs.starts.Trying.{cells-within}
 use Rattle.walking.proofs.alive.Laws.{Following, follow-first, none-spare, follow-none, end-spare, follow-end, follow-halves}
@@ -21,6 +21,10 @@ Inv-loop cells h theme way ring₀ j first spare low₀ high₀ looks₀ k₀ ri
 
 abbrev μ-loop : tie.MeasureT-loop
 μ-loop cells h theme way ring₀ j first spare low₀ high₀ looks₀ k₀ ring low high looks k = length theme - k
+
+-- where the call began, from its loop
+abbrev start : tie.At-loop Inv-loop μ-loop → tie.Start Inv-loop μ-loop
+start l = l .before .before .before .before .before .before .before .before
 
 cast-j : tie.Need-cast-j Inv-loop μ-loop
 cast-j c = search needs
@@ -43,42 +47,47 @@ loop-holds c =
 
 sub-looks : tie.Need-sub-looks Inv-loop μ-loop
 sub-looks c =
-    let l = c .before .before .loop in
-    let s = c .before .before .before .before .before .before .before .before .before .before in
-    omega (arith, none-spare _ _ _ _ _ (s .pre .0) (s .pre .1 .0) _ _ _ (l .inv .0) (value-none (l .low) (l .high) (l .inv .1) (c .if1 .taken)), c .before .before .before .before .width-of .ensures)
+    let l = c .before .before in
+    let s = start l in
+    let z = value-none _ _ (l .loop .inv .1) (c .if1 .taken) in
+    omega (arith, none-spare _ _ _ _ _ (s .pre .0) (s .pre .1 .0) _ _ _ (l .loop .inv .0) z, l .before .before .width-of .ensures)
 
 same-length : tie.Need-same-length Inv-loop μ-loop
-same-length c = c .before .before .loop .inv .2 .long ∙ sym (c .before .before .before .before .before .before .before .before .before .before .pre .1 .1 .long)
+same-length c = let l = c .before .before in l .loop .inv .2 .long ∙ sym (start l .pre .1 .1 .long)
 
 returns : tie.Need-returns Inv-loop μ-loop
 returns c =
-    let l = c .before .before .loop in
-    let s = c .before .before .before .before .before .before .before .before .before .before in
-    (rw (c .before .before .before .before .width-of .ensures) (follow-none _ _ _ _ _ (s .pre .0) (s .pre .1 .0) _ _ _ (l .inv .0) (value-none (l .low) (l .high) (l .inv .1) (c .if1 .taken))), l .inv .2)
+    let l = c .before .before in
+    let s = start l in
+    let z = value-none _ _ (l .loop .inv .1) (c .if1 .taken) in
+    (rw (l .before .before .width-of .ensures) (follow-none _ _ _ _ _ (s .pre .0) (s .pre .1 .0) _ _ _ (l .loop .inv .0) z), l .loop .inv .2)
 
 add-looks : tie.Need-add-looks Inv-loop μ-loop
-add-looks c = omega (arith, value-few-ones _ _ (c .before .before .loop .inv .1))
+add-looks c = omega (arith, value-ones-le _ _ (c .before .before .loop .inv .1))
 
 add-looks-2 : tie.Need-add-looks-2 Inv-loop μ-loop
 add-looks-2 c =
-    let i = c .before .before .loop .inv in
-    omega (arith, value-few-ones _ _ (i .1), i .0 .bounded, i .0 .upTo, c .before .before .before .before .before .before .before .before .before .before .pre .0 .notes-most)
+    let l = c .before .before in
+    let i = l .loop .inv in
+    omega (arith, value-ones-le _ _ (i .1), i .0 .bounded, i .0 .upTo, start l .pre .0 .notes-most)
 
 add-held-at : tie.Need-add-held-at Inv-loop μ-loop
 add-held-at c = search needs
 
 sub-held-at : tie.Need-sub-held-at Inv-loop μ-loop
-sub-held-at c = omega (arith, c .before .before .before .before .before .before .before .before .before .before .pre .1 .0 .from-first)
+sub-held-at c = omega (arith, start (c .before .before) .pre .1 .0 .from-first)
 
 shared-slice-read-t28 : tie.Need-shared-slice-read-t28 Inv-loop μ-loop
 shared-slice-read-t28 c = search needs
 
 held-at-requires : tie.Need-held-at-requires Inv-loop μ-loop
 held-at-requires c κs =
-    let s = c .before .before .before .before .before .before .before .before .before .before .before .before in
-    let l = c .before .before .before .before .loop in
-    let q : s .args .column .0 + l .k - 1 < columnsIn (now (s .args .cells)) (s .args .h) = omega (arith, s .pre .1 .0 .from-first, s .pre .1 .0 .to-last, c .before .before .before .loop-test .taken) in
-    ((cells-within _ _ _ (s .pre .0) _ q, omega (arith, q, s .pre .0 .columns-most), s .pre .0 .sung 0), l .inv .2)
+    let t = c .before .before .before in
+    let l = t .before in
+    let s = start l in
+    let f = s .pre .1 .0 in
+    let q : s .args .column .0 + l .loop .k - 1 < columnsIn (now (s .args .cells)) (s .args .h) = omega (arith, f .from-first, f .to-last, t .loop-test .taken) in
+    ((cells-within _ _ _ (s .pre .0) _ q, omega (arith, q, s .pre .0 .columns-most), s .pre .0 .sung 0), l .loop .inv .2)
 
 add-k : tie.Need-add-k Inv-loop μ-loop
 add-k c = search needs
@@ -88,28 +97,29 @@ loop-less c = search needs
 
 loop-again : tie.Need-loop-again Inv-loop μ-loop
 loop-again c =
-    let s = c .before .before .before .before .before .before .before .before .before .before .before .before .before .before .before .before .before in
-    let l = c .before .before .before .before .before .before .before .before .before .loop in
-    let t = c .before .before .before .before .before .before .before .before .loop-test .taken in
-    let w = c .before .before .before .before .held-at in
-    let h : Halves (w .result .low) (w .result .high) = record { lower = omega arith; upper = omega arith } in (
-      follow-halves _ _ _ _ _ (s .pre .0) (s .pre .1 .0) _ _ _ _ (l .inv .1) (l .inv .0) t _ _ h (w .ensures .0),
-      halves-and _ _ _ _ (l .inv .1) h,
-      w .ensures .1,
-    )
+    let w = c .before .before .before .before in
+    let t = w .before .before .before .before in
+    let l = t .before .loop .inv in
+    let s = start (t .before) in
+    let h : Halves (w .held-at .result .low) (w .held-at .result .high) = record { lower = omega arith; upper = omega arith } in
+    let e = w .held-at .ensures in
+    (follow-halves _ _ _ _ _ (s .pre .0) (s .pre .1 .0) _ _ _ _ (l .1) (l .0) (t .loop-test .taken) _ _ h (e .0), halves-and _ _ _ _ (l .1) h, e .1)
 
 sub-looks-2 : tie.Need-sub-looks-2 Inv-loop μ-loop
 sub-looks-2 c =
-    let s = c .before .before .before .before .before .before .before .before .before in
-    omega (arith, end-spare _ _ _ _ _ (s .pre .0) (s .pre .1 .0) _ _ _ (c .before .loop .inv .0) (c .loop-test .left), c .before .before .before .width-of .ensures)
+    let l = c .before in
+    let s = start l in
+    omega (arith, end-spare _ _ _ _ _ (s .pre .0) (s .pre .1 .0) _ _ _ (l .loop .inv .0) (c .loop-test .left), l .before .before .width-of .ensures)
 
 same-length-2 : tie.Need-same-length-2 Inv-loop μ-loop
-same-length-2 c = c .before .loop .inv .2 .long ∙ sym (c .before .before .before .before .before .before .before .before .before .pre .1 .1 .long)
+same-length-2 c = let l = c .before in l .loop .inv .2 .long ∙ sym (start l .pre .1 .1 .long)
 
 returns-2 : tie.Need-returns-2 Inv-loop μ-loop
 returns-2 c =
-    let s = c .before .before .before .before .before .before .before .before .before in
-    (rw (c .before .before .before .width-of .ensures) (follow-end _ _ _ _ _ (s .pre .0) (s .pre .1 .0) _ _ _ (c .before .loop .inv .0) (c .loop-test .left)), c .before .loop .inv .2)
+    let l = c .before in
+    let s = start l in
+    let e = follow-end _ _ _ _ _ (s .pre .0) (s .pre .1 .0) _ _ _ (l .loop .inv .0) (c .loop-test .left) in
+    (rw (l .before .before .width-of .ensures) e, l .loop .inv .2)
 
 pub follow-spec : {M : Type 1} → statement M
 follow-spec =

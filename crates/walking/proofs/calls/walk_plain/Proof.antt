@@ -1,21 +1,14 @@
--- `walking::calls::walk_plain` meets its contract: the checks turn away, or the walk along every start begins at the
--- bookmark. Assumes nothing.
+-- `walking::calls::walk_plain` meets its contract: the checks turn away, or what is asked is accepted and the walk along every column is made.
+-- Assumes nothing.
 use borrow.Author.Needs.{needs}
-use mathlib.Core.Path.{_≡_, ap, _∙_}
-use mir.Syntax.{w16}
-use mir.Val.{toZ, ofZ}
-use mir.Facts.{toZ-ofZ}
-use Rattle.asking.specs.Way.{codeOf}
-use Rattle.asking.specs.Codes.{codeGiven}
-use Rattle.asking.proofs.Coding.{code-given}
+use Rattle.asking.specs.Asking.{PlainAsks}
 use Rattle.asking.proofs.Rows.{plain-clear}
-use Rattle.walking.proofs.Answers.{accepted-ready, finds-away, finds-done, plain-asks, plain-begins}
-use Rattle.walking.proofs.ring.Laws.{cached-none}
+use Rattle.walking.proofs.Answers.{finds-away, finds-done, plain-asks}
 use Rattle.walking.proofs.calls.walk_plain.Statement.{statement}
 use Rattle.walking.proofs.calls.walk_plain.Tie as tie
 
 check-plain-requires : tie.Need-check-plain-requires
-check-plain-requires c κs = search needs
+check-plain-requires c κs = tt
 
 enum-known-e : tie.Need-enum-known-e
 enum-known-e c = search needs
@@ -26,29 +19,16 @@ returns c = finds-away _ _ _ _ _ _ _ _ (c .before .before .before .check-plain .
 enum-told : tie.Need-enum-told
 enum-told c = search needs
 
--- the bookmark's shift, as it is read
-read : (c : tie.After-struct-told) → let z = c .before .before .before .before .before .before .before .args .bookmark .shift in toZ w16 (ofZ w16 z) ≡ z
-read c = toZ-ofZ {w = w16} (record { sfits = c .struct-told .given .1 .0 .1 })
+-- what is asked is accepted
+asked : (c : tie.After-enum-told) → let a = c .before .before .before .before .before .before .args in PlainAsks (a .cells .now) (a .tracks)
+    (a .theme .now) (a .way) (a .bookmark) (a .columns .now) (a .shifts .now)
+asked c =
+    let a = c .before .before .before .before .before .before .args in
+    plain-asks (a .cells .now) (a .tracks) (a .theme .now) (a .way) (a .bookmark) (a .columns .now) (a .shifts .now)
+    (c .before .before .check-plain .ensures) (c .enum-told .given .1)
 
-code-of-requires : tie.Need-code-of-requires
-code-of-requires c κs = tt
-
-slice-aggregate-walk : tie.Need-slice-aggregate-walk
-slice-aggregate-walk c = search needs
-
-slice-aggregate-walk-2 : tie.Need-slice-aggregate-walk-2
-slice-aggregate-walk-2 c = search needs
-
-slice-aggregate-walk-3 : tie.Need-slice-aggregate-walk-3
-slice-aggregate-walk-3 c = search needs
-
-walk-requires : tie.Need-walk-requires
-walk-requires c κs =
-    let e = c .before .before .before .before .before .before .before in
-    let a = e .before .before .before .before .before .before .args in
-    let q = plain-asks (a .cells .now) (a .tracks) (a .theme .now) (a .way) (a .bookmark) (a .columns .now) (a .shifts .now) (e .before .before .check-plain .ensures) (e .enum-told .given .1) in
-    let k : c .before .before .before .before .before .code-of .result ≡ codeOf (a .way) (a .bookmark .shift) = c .before .before .before .before .before .code-of .ensures ∙ ap (codeGiven (a .way)) (read (c .before .before .before .before .before .before)) ∙ code-given (a .way) (a .bookmark .shift) (q .marked .not-below) (q .marked .not-above) in
-    (accepted-ready (q .accepted), (tt, (plain-begins _ _ _ _ _ _ _ q _ k, cached-none (a .way) (a .cells .now) (a .tracks))))
+walk-every-requires : tie.Need-walk-every-requires
+walk-every-requires c κs = asked (c .before .before)
 
 same-length : tie.Need-same-length
 same-length c = search needs
@@ -58,11 +38,8 @@ same-length-2 c = search needs
 
 returns-2 : tie.Need-returns-2
 returns-2 c =
-    let e = c .before .before .before .before .before .before .before .before .before .before .before .before in
-    let a = e .before .before .before .before .before .before .args in
-    let q = plain-asks (a .cells .now) (a .tracks) (a .theme .now) (a .way) (a .bookmark) (a .columns .now) (a .shifts .now) (e .before .before .check-plain .ensures) (e .enum-told .given .1) in
-    let k : c .before .before .before .before .before .before .before .before .before .before .code-of .result ≡ codeOf (a .way) (a .bookmark .shift) = c .before .before .before .before .before .before .before .before .before .before .code-of .ensures ∙ ap (codeGiven (a .way)) (read (c .before .before .before .before .before .before .before .before .before .before .before)) ∙ code-given (a .way) (a .bookmark .shift) (q .marked .not-below) (q .marked .not-above) in
-    finds-done _ _ _ _ _ _ _ _ (plain-clear _ _ _ _ _ _ _ .0 q) (rw k at (c .before .before .before .before .walk .ensures))
+    finds-done _ _ _ _ _ _ _ _ (plain-clear _ _ _ _ _ _ _ .0 (asked (c .before .before .before .before .before .before)))
+    (c .before .before .before .walk-every .ensures)
 
 pub walk-plain-spec : {M : Type 1} → statement M
 walk-plain-spec =
@@ -72,11 +49,7 @@ walk-plain-spec =
     enum-known-e
     returns
     enum-told
-    code-of-requires
-    slice-aggregate-walk
-    slice-aggregate-walk-2
-    slice-aggregate-walk-3
-    walk-requires
+    walk-every-requires
     same-length
     same-length-2
     returns-2)

@@ -1,6 +1,5 @@
 -- `walking::ring::held_at` meets its contract: the column's word, moved by the note. Assumes nothing.
-use mathlib.Core.Path.{_∙_, ap}
-use Rattle.masks.specs.Masks.{movedWord}
+use mathlib.Core.Path.{_∙_}
 use Rattle.masks.proofs.HeldWords.{moved-held}
 use Rattle.walking.proofs.ring.held_at.Statement.{statement}
 use Rattle.walking.proofs.ring.held_at.Tie as tie
@@ -18,7 +17,7 @@ returns : tie.Need-returns
 returns c =
     let w = c .before .before .before .word-at .ensures in
     let s = c .before .before .before .before .before .before .before in
-    (c .moved .ensures ∙ ap (movedWord (s .args .way) (s .args .first) (s .args .p)) (w .0) ∙ moved-held _ _ _ _ (s .pre .0 .2), w .1)
+    (c .moved .ensures ∙ rw (w .0) (moved-held (s .args .way) (s .args .first) (s .args .p) _ (s .pre .0 .2)), w .1)
 
 pub held-at-spec : {M : Type 1} → statement M
 held-at-spec = tie.close (tie.spec word-at-requires moved-requires same-length returns)

@@ -41,7 +41,7 @@ slice-read-t22 c = search needs
 returns : tie.Need-returns
 returns c =
     let s = c .before .before .before .before .before .before in
-    (cached-kept (s .args .way) (now (s .args .cells)) (s .args .h) (s .args .ring .now) (s .pre .1) (s .args .k % 32) (s .args .k) (mod-lt _ (zero-lt-suc 31)) (c .before .before .if1 .taken), s .pre .1)
+    (cached-kept _ _ _ _ (s .pre .1) _ (s .args .k) (mod-lt (s .args .k) (zero-lt-suc 31)) (c .before .before .if1 .taken), s .pre .1)
 
 mul-base : tie.Need-mul-base
 mul-base c = search needs
@@ -92,8 +92,8 @@ returns-2 : tie.Need-returns-2
 returns-2 c =
     let s = c .before .before .before .before .before .before in
     let e : s .args .k * s .args .h + s .args .h - s .args .k * s .args .h ≡ s .args .h = omega arith in
-    let w : value (c .word-of .result .low) (c .word-of .result .high) ≡ columnWord (s .args .way) (take (s .args .h) (drop (s .args .k * s .args .h) (now (s .args .cells)))) = rw e at (c .word-of .ensures) in
-    (w, cached-put (s .args .way) (now (s .args .cells)) (s .args .h) (s .args .ring .now) (s .pre .1) (s .args .k % 32) (s .args .k) (mod-lt _ (zero-lt-suc 31)) _ _ w)
+    let w = rw e at (c .word-of .ensures) in
+    (w, cached-put _ _ _ _ (s .pre .1) _ (s .args .k) (mod-lt (s .args .k) (zero-lt-suc 31)) _ _ w)
 
 pub word-at-spec : {M : Type 1} → statement M
 word-at-spec =

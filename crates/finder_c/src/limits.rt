@@ -1,0 +1,7 @@
+// How an answer is told in numbers.
+
+// How many numbers the answer of a page has.
+pub const ANSWER_NUMBERS: usize = 5;
+
+// The result where there was no call.
+pub const NOT_CALLED: i64 = 255;
