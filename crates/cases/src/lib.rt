@@ -3,7 +3,7 @@
 // `jobs` says what a job is. `families` has every job by its number: the `worked` cases, what is `refused`, small `worlds` and
 // `random` scores, of several `shapes`, by `changes` to what is asked. `arranging` puts a job into the lent `buffers`. `answers` are
 // the library's as plain numbers, `marks` show what is untouched, and `compare` holds an answer against the second finder's. The
-// functions promise only to be safe and to end.
+// functions promise only to be safe and to end, and `part` to stay within its buffer.
 
 pub mod answers;
 pub mod arranging;
