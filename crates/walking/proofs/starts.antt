@@ -1,3 +1,2 @@
--- Laws of the functions on starts: along a column, and along a theme.
-pub mod Laws
+-- Laws of the function on starts, along a theme.
 pub mod Trying

@@ -40,19 +40,6 @@ pub record Fits (n m j : ℕ) : Type 0 where
   pub from-first : 1 ≤ j
   pub to-last : j + m ≤ n + 1
 
--- the code at which the note p comes to stand on the pitch t
-abbrev pub codeBetween : Way → (p t : Pitch) → ℕ
-codeBetween Exact p t = t .0 + 127 - p .0
-codeBetween Octave p t = (t .0 + 132 - p .0) % 12
-
--- the lower of best and the cell's code, which counts only where the cell is a pitch and its code is x or more
-abbrev pub lowered : Way → Pitch → (x best cell : ℕ) → ℕ
-lowered way p x best cell = cond (leb cell 127) (lower x (codeBetween way p (pitch cell)) best) best
-
--- the first code from x on at which the column holds p, or the span where there is none
-unfoldable pub nextCode : Way → Pitch → (column : List ℕ) → (x : ℕ) → ℕ
-nextCode way p column x = x + first (λ code. holds way code p column) (count x (span way - x))
-
 -- what trying a start finds
 pub record Trial (way : Way) (score : List (List ℕ)) (theme : List ℕ) (j code : ℕ) (found : Bool) (spent : ℕ) : Type 0 where
   pub hits : found ≡ hit way score theme (place j code)

@@ -1,12 +1,12 @@
 // The starts of a column, tried one by one: hits are written behind those found before.
 
-use crate::starts::next_code;
 use crate::starts::try_start;
 use crate::walked::Spot;
 use crate::walked::Walked;
 use asking::Way;
 use asking::span_of;
 use hits::keep;
+use holding::next_code;
 use score::Pitch;
 ghost use lib.ListN.{length};
 ghost use Rattle.score.specs.Score.{columnsIn};
@@ -29,14 +29,15 @@ pub fn try_column(
 {
     let column = spot.column;
     let j = column.0 as usize;
-    let base = (j - 1) * h;
+    let from = (j - 1) * h;
+    let to = from + h;
     let p = Pitch(theme[0]);
     let end = span_of(way);
     let mut code = spot.code;
     let mut at = spot.found;
     let mut looks: u32 = 0;
     while at < columns.len() {
-        let next = next_code(cells, base, h, way, p, code);
+        let next = next_code(&cells[from..to], way, p, code);
         if end <= next {
             return Walked { found: at, looks };
         }

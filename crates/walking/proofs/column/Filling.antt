@@ -20,7 +20,9 @@ use Rattle.hits.proofs.Fitting.{puts-hit, puts-miss}
 use Rattle.score.specs.Score.{note}
 use Rattle.walking.specs.Starts.{Place, place, hit, looks}
 use Rattle.walking.specs.Found.{columnsOf, shiftsOf}
-use Rattle.walking.specs.Walk.{Ready, Fits, nextCode, Trial, columnStarts, Tries}
+use Rattle.holding.specs.Next.{nextCode, nextGiven}
+use Rattle.holding.proofs.Given.{next-given}
+use Rattle.walking.specs.Walk.{Ready, Fits, Trial, columnStarts, Tries}
 use Rattle.walking.proofs.Order.{span-lt}
 use Rattle.walking.proofs.LookBound.{looks-le}
 use Rattle.walking.proofs.Taking.{Taking, take-start, take-part, take-full, take-end}
@@ -120,9 +122,14 @@ module _ (way : Way) (cells : List ℕ) (h : ℕ) (theme : List ℕ) (j x found 
     fill-full q = take-full _ _ _ _ _ _ _ _ _ _ _ _ (t .taking) q
 
     module _ (r : Ready cells h theme) (f : Fits (columnsIn cells h) (length theme) j) (base : ℕ) (b : base ≡ (j - 1) * h) (next : ℕ)
-        (n : next ≡ nextCode way (pitch (getD theme 0 0)) (take h (drop base cells)) code) where
+        (given : next ≡ nextGiven way (pitch (getD theme 0 0)) (take (base + h - base) (drop base cells)) code) where
       some-notes : 1 ≤ length theme
       some-notes = omega (arith, r .notes)
+
+      n : next ≡ nextCode way (pitch (getD theme 0 0)) (take h (drop base cells)) code
+      n =
+          let w : base + h - base ≡ h = omega arith in
+          (rw w at given) ∙ next-given way (pitch (getD theme 0 0)) (take h (drop base cells)) code (r .sung 0) (t .low)
 
       pub fill-none : span way ≤ next → Tries way (scoreOf cells h) theme
           (columnStarts way (scoreOf cells h) theme j x) found columns₀ shifts₀ at spent columns shifts

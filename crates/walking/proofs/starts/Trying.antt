@@ -80,7 +80,11 @@ module _ (way : Way) (cells : List ℕ) (h : ℕ) (theme : List ℕ) (j code : �
           on : j + k - 1 + 1 ≡ j + (k + 1) - 1
           on = omega (arith, f .from-first)
 
-      module _ (held : Bool) (e : held ≡ holds way code (pitch (getD theme k 0)) (take h (drop base cells))) where
+      -- whether the part of the cells from base to base + h holds the note
+      module _ (held : Bool) (e′ : held ≡ holds way code (pitch (getD theme k 0)) (take (base + h - base) (drop base cells))) where
+        e : held ≡ holds way code (pitch (getD theme k 0)) (take h (drop base cells))
+        e = let w : base + h - base ≡ h = omega arith in rw w at e′
+
         step-hits : follows way code (drop k theme) (drop (j + k - 1) (scoreOf cells h)) ≡ cond held (follows way code (drop (k + 1) theme) (drop (j + (k + 1) - 1) (scoreOf cells h))) false
         step-hits = rw (drop-cons theme k 0 q, at-column, next, e, add-one k)
 

@@ -12,11 +12,11 @@ use Rattle.walking.proofs.column.try_column.Statement.{statement}
 use Rattle.walking.proofs.column.try_column.Tie as tie
 
 abbrev Inv-loop : tie.InvT-loop
-Inv-loop cells h theme way columns₀ shifts₀ column j base p end code₀ at₀ looks₀ columns shifts code at looks =
+Inv-loop cells h theme way columns₀ shifts₀ column j from to p end code₀ at₀ looks₀ columns shifts code at looks =
     Filling way cells h theme (column .0) code₀ at₀ columns₀ shifts₀ columns shifts code at looks
 
 abbrev μ-loop : tie.MeasureT-loop
-μ-loop cells h theme way columns₀ shifts₀ column j base p end code₀ at₀ looks₀ columns shifts code at looks = span way - code
+μ-loop cells h theme way columns₀ shifts₀ column j from to p end code₀ at₀ looks₀ columns shifts code at looks = span way - code
 
 -- what is known at entry, from the loop; and the loop and the test of the next code, from a turn's end
 abbrev start : tie.At-loop Inv-loop μ-loop → tie.Start Inv-loop μ-loop
@@ -28,14 +28,19 @@ turn c = c .before .before .before .before .before .before .before .before
 cast-j : tie.Need-cast-j Inv-loop μ-loop
 cast-j c = search needs
 
-sub-base : tie.Need-sub-base Inv-loop μ-loop
-sub-base c = search needs
+sub-from : tie.Need-sub-from Inv-loop μ-loop
+sub-from c = search needs
 
-mul-base : tie.Need-mul-base Inv-loop μ-loop
-mul-base c = let s = c .before .before .before .before .before in omega (arith, cells-within _ _ _ (s .pre .0) (s .args .spot .column .0 - 1) (omega arith))
+mul-from : tie.Need-mul-from Inv-loop μ-loop
+mul-from c = let s = c .before .before .before .before .before in omega (arith, cells-within _ _ _ (s .pre .0) (s .args .spot .column .0 - 1) (omega arith))
 
-shared-slice-read-t20 : tie.Need-shared-slice-read-t20 Inv-loop μ-loop
-shared-slice-read-t20 c = search needs
+add-to : tie.Need-add-to Inv-loop μ-loop
+add-to c =
+    let s = c .before .before .before .before .before in
+    omega (arith, cells-within _ _ _ (s .pre .0) (s .args .spot .column .0 - 1) (omega arith))
+
+shared-slice-read-t21 : tie.Need-shared-slice-read-t21 Inv-loop μ-loop
+shared-slice-read-t21 c = search needs
 
 span-of-requires : tie.Need-span-of-requires Inv-loop μ-loop
 span-of-requires c κs = tt
@@ -45,41 +50,50 @@ loop-holds c =
     let s = c .before .before .before .before .before .before .before in
     fill-start _ _ _ _ _ _ _ _ _ (s .pre .1 .low) (s .pre .1 .room) (s .pre .1 .same-room)
 
-next-code-requires : tie.Need-next-code-requires Inv-loop μ-loop
-next-code-requires c κs =
+sub-next-code : tie.Need-sub-next-code Inv-loop μ-loop
+sub-next-code c = search needs
+
+part-next-code-start : tie.Need-part-next-code-start Inv-loop μ-loop
+part-next-code-start c = search needs
+
+part-next-code-end : tie.Need-part-next-code-end Inv-loop μ-loop
+part-next-code-end c =
     let s = start (c .before) in
-    (cells-within _ _ _ (s .pre .0) (s .args .spot .column .0 - 1) (omega arith), s .pre .0 .sung 0, c .before .loop .inv .low)
+    cells-within _ _ _ (s .pre .0) (s .args .spot .column .0 - 1) (omega arith)
+
+next-code-requires : tie.Need-next-code-requires Inv-loop μ-loop
+next-code-requires c κs = search needs
 
 same-length : tie.Need-same-length Inv-loop μ-loop
-same-length c = c .before .before .before .loop .inv .taking .long
+same-length c = c .before .before .before .before .loop .inv .taking .long
 
 same-length-2 : tie.Need-same-length-2 Inv-loop μ-loop
-same-length-2 c = let l = c .before .before .before in l .loop .inv .taking .long-shifts ∙ sym (start l .pre .1 .same-room)
+same-length-2 c = let l = c .before .before .before .before in l .loop .inv .taking .long-shifts ∙ sym (start l .pre .1 .same-room)
 
 returns : tie.Need-returns Inv-loop μ-loop
 returns c =
-    let l = c .before .before .before in
+    let l = c .before .before .before .before in
     let s = start l in
     fill-none _ _ _ _ _ _ _ _ _ _ _ _ _ _ (l .loop .inv) (s .pre .0) (s .pre .1 .fits) _ refl _ (c .before .next-code .ensures)
     (omega (arith, l .before .span-of .ensures, c .if1 .taken))
 
 try-start-requires : tie.Need-try-start-requires Inv-loop μ-loop
 try-start-requires c κs =
-    let l = c .before .before .before in
+    let l = c .before .before .before .before in
     let s = start l in
     (s .pre .0, (s .pre .1 .fits, omega (arith, l .before .span-of .ensures, c .if1 .left, span-lt (s .args .way))))
 
 add-looks : tie.Need-add-looks Inv-loop μ-loop
 add-looks c =
     let e = c .before .before in
-    let l = e .before .before .before in
+    let l = e .before .before .before .before in
     let s = start l in
     let q : e .before .next-code .result < span (s .args .way) = omega (arith, l .before .span-of .ensures, e .if1 .left) in
     omega (
       arith,
       span-lt (s .args .way),
       fill-bound _ _ _ _ _ _ _ _ _ _ _ _ _ _ (l .loop .inv) (s .pre .0) (s .pre .1 .fits) _ refl
-          _ (e .before .next-code .ensures) q (e .before .before .loop-test .taken) _ _ (c .before .try-start .ensures),
+          _ (e .before .next-code .ensures) q (e .before .before .before .loop-test .taken) _ _ (c .before .try-start .ensures),
     )
 
 keep-requires : tie.Need-keep-requires Inv-loop μ-loop
@@ -91,7 +105,7 @@ add-code c = search needs
 loop-less : tie.Need-loop-less Inv-loop μ-loop
 loop-less c =
     let e = turn c in
-    let l = e .before .before .before in
+    let l = e .before .before .before .before in
     let s = start l in
     omega (
       arith,
@@ -105,11 +119,11 @@ loop-again : tie.Need-loop-again Inv-loop μ-loop
 loop-again c =
     let a = c .before .before .before in
     let e = turn c in
-    let l = e .before .before .before in
+    let l = e .before .before .before .before in
     let s = start l in
     let q : e .before .next-code .result < span (s .args .way) = omega (arith, l .before .span-of .ensures, e .if1 .left) in
     fill-turn _ _ _ _ _ _ _ _ _ _ _ _ _ _ (l .loop .inv) (s .pre .0) (s .pre .1 .fits) _ refl _ (e .before .next-code .ensures) q
-    (e .before .before .loop-test .taken) _ _ (a .before .before .before .before .try-start .ensures) _ _ _ (a .keep .ensures)
+    (e .before .before .before .loop-test .taken) _ _ (a .before .before .before .before .try-start .ensures) _ _ _ (a .keep .ensures)
 
 same-length-3 : tie.Need-same-length-3 Inv-loop μ-loop
 same-length-3 c = c .before .loop .inv .taking .long
@@ -127,11 +141,15 @@ try-column-spec =
     Inv-loop
     μ-loop
     cast-j
-    sub-base
-    mul-base
-    shared-slice-read-t20
+    sub-from
+    mul-from
+    add-to
+    shared-slice-read-t21
     span-of-requires
     loop-holds
+    sub-next-code
+    part-next-code-start
+    part-next-code-end
     next-code-requires
     same-length
     same-length-2

@@ -15,6 +15,10 @@ Inv-loop cells h theme way code j base₀ looks₀ k₀ base looks k = Trying wa
 abbrev μ-loop : tie.MeasureT-loop
 μ-loop cells h theme way code j base₀ looks₀ k₀ base looks k = length theme - k
 
+-- what is known at entry, from the loop
+abbrev start : tie.At-loop Inv-loop μ-loop → tie.Start Inv-loop μ-loop
+start c = c .before .before .before .before
+
 cast-j : tie.Need-cast-j Inv-loop μ-loop
 cast-j c = search needs
 
@@ -25,19 +29,35 @@ loop-holds : tie.Need-loop-holds Inv-loop μ-loop
 loop-holds c = let s = c .before .before .before in try-first _ _ _ _ _ _ (s .pre .0) (s .pre .1 .0)
 
 add-looks : tie.Need-add-looks Inv-loop μ-loop
-add-looks c = omega (arith, c .before .loop .inv .counted, c .before .loop .inv .upTo, c .before .before .before .before .before .pre .0 .notes-most)
+add-looks c = omega (arith, c .before .loop .inv .counted, c .before .loop .inv .upTo, start (c .before) .pre .0 .notes-most)
 
-shared-slice-read-t14 : tie.Need-shared-slice-read-t14 Inv-loop μ-loop
-shared-slice-read-t14 c = search needs
+add-end : tie.Need-add-end Inv-loop μ-loop
+add-end c =
+    let s = start (c .before) in
+    omega (arith, try-within _ _ _ _ _ _ (s .pre .0) (s .pre .1 .0) _ _ _ (c .before .loop .inv) (c .loop-test .taken))
+
+sub-holds-at : tie.Need-sub-holds-at Inv-loop μ-loop
+sub-holds-at c = search needs
+
+part-holds-at-start : tie.Need-part-holds-at-start Inv-loop μ-loop
+part-holds-at-start c = search needs
+
+part-holds-at-end : tie.Need-part-holds-at-end Inv-loop μ-loop
+part-holds-at-end c =
+    let s = start (c .before) in
+    try-within _ _ _ _ _ _ (s .pre .0) (s .pre .1 .0) _ _ _ (c .before .loop .inv) (c .loop-test .taken)
+
+shared-slice-read-t18 : tie.Need-shared-slice-read-t18 Inv-loop μ-loop
+shared-slice-read-t18 c = search needs
 
 holds-at-requires : tie.Need-holds-at-requires Inv-loop μ-loop
-holds-at-requires c κs = let s = c .before .before .before .before .before .before in (try-within _ _ _ _ _ _ (s .pre .0) (s .pre .1 .0) _ _ _ (c .before .before .loop .inv) (c .before .loop-test .taken), s .pre .0 .sung (c .before .before .loop .k), s .pre .1 .1)
+holds-at-requires c κs = search needs
 
 returns : tie.Need-returns Inv-loop μ-loop
-returns c = let s = c .before .before .before .before .before .before .before .before in try-miss _ _ _ _ _ _ (s .pre .0) (s .pre .1 .0) _ _ _ (c .before .before .before .before .loop .inv) (c .before .before .before .loop-test .taken) _ (c .before .holds-at .ensures) (not-true _ (c .if1 .taken))
-
-add-base : tie.Need-add-base Inv-loop μ-loop
-add-base c = let s = c .before .before .before .before .before .before .before .before in omega (arith, try-within _ _ _ _ _ _ (s .pre .0) (s .pre .1 .0) _ _ _ (c .before .before .before .before .loop .inv) (c .before .before .before .loop-test .taken))
+returns c =
+    let l = c .before .before .before .before in
+    let s = start (l .before) in
+    try-miss _ _ _ _ _ _ (s .pre .0) (s .pre .1 .0) _ _ _ (l .before .loop .inv) (l .loop-test .taken) _ (c .before .holds-at .ensures) (not-true _ (c .if1 .taken))
 
 add-k : tie.Need-add-k Inv-loop μ-loop
 add-k c = search needs
@@ -46,10 +66,15 @@ loop-less : tie.Need-loop-less Inv-loop μ-loop
 loop-less c = search needs
 
 loop-again : tie.Need-loop-again Inv-loop μ-loop
-loop-again c = let s = c .before .before .before .before .before .before .before .before in try-turn _ _ _ _ _ _ (s .pre .0) (s .pre .1 .0) _ _ _ (c .before .before .before .before .loop .inv) (c .before .before .before .loop-test .taken) _ (c .before .holds-at .ensures) (not-false _ (c .if1 .left))
+loop-again c =
+    let l = c .before .before .before .before in
+    let s = start (l .before) in
+    try-turn _ _ _ _ _ _ (s .pre .0) (s .pre .1 .0) _ _ _ (l .before .loop .inv) (l .loop-test .taken) _ (c .before .holds-at .ensures) (not-false _ (c .if1 .left))
 
 returns-2 : tie.Need-returns-2 Inv-loop μ-loop
-returns-2 c = let s = c .before .before .before .before .before in try-end _ _ _ _ _ _ (s .pre .0) (s .pre .1 .0) _ _ _ (c .before .loop .inv) (c .loop-test .left)
+returns-2 c =
+    let s = start (c .before) in
+    try-end _ _ _ _ _ _ (s .pre .0) (s .pre .1 .0) _ _ _ (c .before .loop .inv) (c .loop-test .left)
 
 pub try-start-spec : {M : Type 1} → statement M
 try-start-spec =
@@ -61,10 +86,13 @@ try-start-spec =
     mul-base
     loop-holds
     add-looks
-    shared-slice-read-t14
+    add-end
+    sub-holds-at
+    part-holds-at-start
+    part-holds-at-end
+    shared-slice-read-t18
     holds-at-requires
     returns
-    add-base
     add-k
     loop-less
     loop-again

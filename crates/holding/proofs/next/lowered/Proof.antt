@@ -1,9 +1,9 @@
--- `walking::starts::lowered` meets its contract: each way out is a case of the definition. Assumes nothing.
+-- `holding::next::lowered` meets its contract: each way out is a case of the definition. Assumes nothing.
 use borrow.Author.Needs.{needs}
 use borrow.Author.Tests.{le-leb, lt-leb}
 use Rattle.theory.proofs.Lowest.{lower-took, lower-high, lower-low}
-use Rattle.walking.proofs.starts.lowered.Statement.{statement}
-use Rattle.walking.proofs.starts.lowered.Tie as tie
+use Rattle.holding.proofs.next.lowered.Statement.{statement}
+use Rattle.holding.proofs.next.lowered.Tie as tie
 
 returns : tie.Need-returns
 returns c = rw (lt-leb _ _ (c .if1 .taken))

@@ -1,10 +1,9 @@
--- `walking::starts::holds_at` meets its contract: exact seeks a pitch, if the moved note is one; octave seeks its
--- class. Assumes nothing.
+-- `holding::held::holds_at` meets its contract: exact seeks a pitch, if the moved note is one; octave seeks its class. Assumes nothing.
 use borrow.Author.Needs.{needs}
 use mathlib.Core.Path.{sym, _∙_}
 use Rattle.asking.proofs.Holding.{holds-below, holds-above, holds-exact, holds-octave}
-use Rattle.walking.proofs.starts.holds_at.Statement.{statement}
-use Rattle.walking.proofs.starts.holds_at.Tie as tie
+use Rattle.holding.proofs.held.holds_at.Statement.{statement}
+use Rattle.holding.proofs.held.holds_at.Tie as tie
 
 cast-moved : tie.Need-cast-moved
 cast-moved c = search needs
@@ -21,8 +20,8 @@ returns c = rw (c .before .enum-told .given .1) (holds-below _ _ _ (c .if1 .take
 returns-2 : tie.Need-returns-2
 returns-2 c = rw (c .before .before .enum-told .given .1) (holds-above _ _ _ (c .if2 .taken))
 
-cast-t12 : tie.Need-cast-t12
-cast-t12 c = search needs
+cast-t11 : tie.Need-cast-t11
+cast-t11 c = search needs
 
 has-pitch-requires : tie.Need-has-pitch-requires
 has-pitch-requires c κs = search needs
@@ -48,7 +47,7 @@ holds-at-spec =
     enum-told
     returns
     returns-2
-    cast-t12
+    cast-t11
     has-pitch-requires
     enum-told-2
     has-class-requires

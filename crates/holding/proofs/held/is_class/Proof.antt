@@ -1,8 +1,8 @@
--- `walking::starts::is_class` meets its contract: a rest is of no class. Assumes nothing.
+-- `holding::held::is_class` meets its contract: a rest is of no class. Assumes nothing.
 use borrow.Author.Needs.{needs}
 use borrow.Author.Tests.{le-leb, lt-leb}
-use Rattle.walking.proofs.starts.is_class.Statement.{statement}
-use Rattle.walking.proofs.starts.is_class.Tie as tie
+use Rattle.holding.proofs.held.is_class.Statement.{statement}
+use Rattle.holding.proofs.held.is_class.Tie as tie
 
 returns : tie.Need-returns
 returns c = rw (lt-leb _ _ (c .if1 .taken))

@@ -1,9 +1,9 @@
--- `walking::starts::code_between` meets its contract: by cases on the way. Assumes nothing.
+-- `holding::next::code_between` meets its contract: by cases on the way. Assumes nothing.
 use borrow.Author.Needs.{needs}
 use mathlib.Core.Path.{refl}
 use native.Mathlib.Omega.{arith}
-use Rattle.walking.proofs.starts.code_between.Statement.{statement}
-use Rattle.walking.proofs.starts.code_between.Tie as tie
+use Rattle.holding.proofs.next.code_between.Statement.{statement}
+use Rattle.holding.proofs.next.code_between.Tie as tie
 
 cast-high : tie.Need-cast-high
 cast-high c = search needs

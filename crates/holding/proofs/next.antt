@@ -1,0 +1,2 @@
+-- Laws of the loop that finds the next code.
+pub mod Lowering
