@@ -122,3 +122,8 @@ unfolding shiftedWord heldWord
 moved-held Exact first p column f = number-same 128 _ _ (shifted first p column f)
 moved-held Octave first p column f =
     turned-is (p .0 % 12) (columnWord Octave column) (mod-lt (p .0) (zero-lt-suc 11)) (word-lt Octave column) ∙ number-same 12 _ _ (round first p column)
+
+-- so what a note moves a column's word to says where the column holds the note
+pub moved-word : (way : Way) (first p : Pitch) (column : List ℕ) {x y : ℕ} → x ≡ columnWord way column → y ≡ movedWord way first p x → first .0 ≤ 127
+    → y ≡ heldWord way first p column
+moved-word way first p column e f h = f ∙ rw e (moved-held way first p column h)

@@ -12,3 +12,4 @@ pub use moving::held;
 pub use moving::moved;
 pub use word::Word;
 pub use word::all_starts;
+pub use word::width_of;

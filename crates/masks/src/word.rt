@@ -2,7 +2,7 @@
 
 use asking::Way;
 ghost use mathlib.Core.Path.{_≡_};
-ghost use Rattle.masks.specs.Masks.{value, allStarts};
+ghost use Rattle.masks.specs.Masks.{value, width, allStarts};
 
 // The lower 64 bits, and those above.
 pub struct Word {
@@ -20,5 +20,15 @@ pub fn all_starts(way: Way) -> Word
             high: 0xffff_ffff_ffff_ffff,
         },
         Way::Octave => Word { low: 4095, high: 0 },
+    }
+}
+
+// How many they are, which is how many bits of a word are used.
+pub fn width_of(way: Way) -> u32
+    ensures { λ r. ⌜ r ≡ width way ⌝ }
+{
+    match way {
+        Way::Exact => 128,
+        Way::Octave => 12,
     }
 }

@@ -2,20 +2,22 @@
 // the next column holds it.
 
 use crate::column::try_column;
-use crate::ring::held_at;
+use crate::ring::word_at;
 use crate::walked::Spot;
 use crate::walked::Walked;
 use asking::Way;
 use hits::put_hits;
 use masks::Word;
 use masks::all_starts;
+use masks::moved;
+use masks::width_of;
 use score::Column;
 use score::Pitch;
 ghost use mathlib.Core.Path.{_≡_};
 ghost use Prim.Native.Nat.{_+_, _≤_, _<_};
 ghost use lib.ListN.{length};
 ghost use Rattle.score.specs.Score.{columnsIn, scoreOf};
-ghost use Rattle.masks.specs.Masks.{value, width};
+ghost use Rattle.masks.specs.Masks.{value};
 ghost use Rattle.walking.specs.Walk.{Ready, Fits, Stands, TriesColumn};
 ghost use Rattle.walking.specs.Alive.{Cached, Followed};
 
@@ -23,16 +25,6 @@ ghost use Rattle.walking.specs.Alive.{Cached, Followed};
 pub struct Alive {
     pub word: Word,
     pub looks: u32,
-}
-
-// How many starts there may be.
-fn width_of(way: Way) -> u32
-    ensures { λ r. ⌜ r ≡ width way ⌝ }
-{
-    match way {
-        Way::Exact => 128,
-        Way::Octave => 12,
-    }
 }
 
 // Follows all starts of the column note by note, until none is alive or the theme ends. The first note is treated as the
@@ -59,7 +51,8 @@ fn follow(cells: &[u8], h: usize, theme: &[u8], way: Way, column: Column, ring: 
             return Alive { word: none, looks };
         }
         looks += u64::count_ones(low) + u64::count_ones(high);
-        let held = held_at(cells, h, way, j + k - 1, first, Pitch(theme[k]), ring);
+        let w = word_at(cells, h, way, j + k - 1, ring);
+        let held = moved(way, w, first, Pitch(theme[k]));
         low = low & held.low;
         high = high & held.high;
         k += 1;

@@ -3,13 +3,11 @@
 
 use asking::Way;
 use masks::Word;
-use masks::moved;
 use masks::word_of;
-use score::Pitch;
 ghost use mathlib.Core.Path.{_≡_};
 ghost use Prim.Native.Nat.{_+_, _*_, _≤_, _<_};
 ghost use lib.ListN.{length, take, drop};
-ghost use Rattle.masks.specs.Masks.{value, columnWord, heldWord};
+ghost use Rattle.masks.specs.Masks.{value, columnWord};
 ghost use Rattle.walking.specs.Alive.{Cached};
 
 // How many columns have a place. The lower halves of their words stand at the ring's front, the upper halves behind them.
@@ -22,7 +20,7 @@ const TAGS: usize = 64;
 pub const RING: usize = 96;
 
 // The word of the column after k others: as the ring has it, or found now and kept there.
-fn word_at(cells: &[u8], h: usize, way: Way, k: usize, ring: &mut [u64]) -> Word
+pub fn word_at(cells: &[u8], h: usize, way: Way, k: usize, ring: &mut [u64]) -> Word
     requires { ⌜ (k * h + h ≤ length (now cells)) × (k < 2048) ⌝ }
     requires { ⌜ Cached way (now cells) h (now ring) ⌝ }
     ensures { λ r. ⌜ (value (r .low) (r .high) ≡ columnWord way (take h (drop (k * h) (now (cells .entry))))) × Cached way (now (cells .entry)) h (now (ring .exit)) ⌝ }
@@ -42,22 +40,4 @@ fn word_at(cells: &[u8], h: usize, way: Way, k: usize, ring: &mut [u64]) -> Word
     ring[PLACES + s] = w.high;
     ring[TAGS + s] = tag;
     w
-}
-
-// The starts, for a theme that begins with `first`, at which the column after k others holds p.
-pub fn held_at(
-    cells: &[u8],
-    h: usize,
-    way: Way,
-    k: usize,
-    first: Pitch,
-    p: Pitch,
-    ring: &mut [u64],
-) -> Word
-    requires { ⌜ (k * h + h ≤ length (now cells)) × (k < 2048) × (first .0 ≤ 127) ⌝ }
-    requires { ⌜ Cached way (now cells) h (now ring) ⌝ }
-    ensures { λ r. ⌜ (value (r .low) (r .high) ≡ heldWord way first p (take h (drop (k * h) (now (cells .entry))))) × Cached way (now (cells .entry)) h (now (ring .exit)) ⌝ }
-{
-    let w = word_at(cells, h, way, k, ring);
-    moved(way, w, first, p)
 }

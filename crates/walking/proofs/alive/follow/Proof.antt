@@ -9,6 +9,7 @@ use denote.Ref.{now}
 use Rattle.score.specs.Score.{columnsIn}
 use Rattle.masks.specs.Masks.{value}
 use Rattle.masks.proofs.Halves.{Halves, halves-and, value-none, value-ones-le}
+use Rattle.masks.proofs.HeldWords.{moved-word}
 use Rattle.walking.specs.Alive.{Cached}
 use Rattle.walking.proofs.starts.Trying.{cells-within}
 use Rattle.walking.proofs.alive.Laws.{Following, follow-first, none-spare, follow-none, end-spare, follow-end, follow-halves}
@@ -29,8 +30,8 @@ start l = l .before .before .before .before .before .before .before .before
 cast-j : tie.Need-cast-j Inv-loop μ-loop
 cast-j c = search needs
 
-shared-slice-read-t19 : tie.Need-shared-slice-read-t19 Inv-loop μ-loop
-shared-slice-read-t19 c = search needs
+shared-slice-read-t20 : tie.Need-shared-slice-read-t20 Inv-loop μ-loop
+shared-slice-read-t20 c = search needs
 
 width-of-requires : tie.Need-width-of-requires Inv-loop μ-loop
 width-of-requires c κs = search needs
@@ -71,23 +72,26 @@ add-looks-2 c =
     let i = l .loop .inv in
     omega (arith, value-ones-le _ _ (i .1), i .0 .bounded, i .0 .upTo, start l .pre .0 .notes-most)
 
-add-held-at : tie.Need-add-held-at Inv-loop μ-loop
-add-held-at c = search needs
+add-word-at : tie.Need-add-word-at Inv-loop μ-loop
+add-word-at c = search needs
 
-sub-held-at : tie.Need-sub-held-at Inv-loop μ-loop
-sub-held-at c = omega (arith, start (c .before .before) .pre .1 .0 .from-first)
+sub-word-at : tie.Need-sub-word-at Inv-loop μ-loop
+sub-word-at c = omega (arith, start (c .before .before) .pre .1 .0 .from-first)
 
-shared-slice-read-t28 : tie.Need-shared-slice-read-t28 Inv-loop μ-loop
-shared-slice-read-t28 c = search needs
-
-held-at-requires : tie.Need-held-at-requires Inv-loop μ-loop
-held-at-requires c κs =
-    let t = c .before .before .before in
+word-at-requires : tie.Need-word-at-requires Inv-loop μ-loop
+word-at-requires c κs =
+    let t = c .before .before in
     let l = t .before in
     let s = start l in
     let f = s .pre .1 .0 in
     let q : s .args .column .0 + l .loop .k - 1 < columnsIn (now (s .args .cells)) (s .args .h) = omega (arith, f .from-first, f .to-last, t .loop-test .taken) in
-    ((cells-within _ _ _ (s .pre .0) _ q, omega (arith, q, s .pre .0 .columns-most), s .pre .0 .sung 0), l .loop .inv .2)
+    ((cells-within _ _ _ (s .pre .0) _ q, omega (arith, q, s .pre .0 .columns-most)), l .loop .inv .2)
+
+shared-slice-read-t31 : tie.Need-shared-slice-read-t31 Inv-loop μ-loop
+shared-slice-read-t31 c = search needs
+
+moved-requires : tie.Need-moved-requires Inv-loop μ-loop
+moved-requires c κs = tt
 
 add-k : tie.Need-add-k Inv-loop μ-loop
 add-k c = search needs
@@ -97,13 +101,15 @@ loop-less c = search needs
 
 loop-again : tie.Need-loop-again Inv-loop μ-loop
 loop-again c =
-    let w = c .before .before .before .before in
-    let t = w .before .before .before .before in
+    let m = c .before .before in
+    let w = m .before .before .before .before in
+    let t = w .before .before .before in
     let l = t .before .loop .inv in
     let s = start (t .before) in
-    let h : Halves (w .held-at .result .low) (w .held-at .result .high) = record { lower = omega arith; upper = omega arith } in
-    let e = w .held-at .ensures in
-    (follow-halves _ _ _ _ _ (s .pre .0) (s .pre .1 .0) _ _ _ _ (l .1) (l .0) (t .loop-test .taken) _ _ h (e .0), halves-and _ _ _ _ (l .1) h, e .1)
+    let h : Halves (m .moved .result .low) (m .moved .result .high) = record { lower = omega arith; upper = omega arith } in
+    let e = w .word-at .ensures in
+    let held = moved-word _ _ _ _ (e .0) (m .moved .ensures) (s .pre .0 .sung 0) in
+    (follow-halves _ _ _ _ _ (s .pre .0) (s .pre .1 .0) _ _ _ _ (l .1) (l .0) (t .loop-test .taken) _ _ h held, halves-and _ _ _ _ (l .1) h, e .1)
 
 sub-looks-2 : tie.Need-sub-looks-2 Inv-loop μ-loop
 sub-looks-2 c =
@@ -128,7 +134,7 @@ follow-spec =
     Inv-loop
     μ-loop
     cast-j
-    shared-slice-read-t19
+    shared-slice-read-t20
     width-of-requires
     all-starts-requires
     loop-holds
@@ -137,10 +143,11 @@ follow-spec =
     returns
     add-looks
     add-looks-2
-    add-held-at
-    sub-held-at
-    shared-slice-read-t28
-    held-at-requires
+    add-word-at
+    sub-word-at
+    word-at-requires
+    shared-slice-read-t31
+    moved-requires
     add-k
     loop-less
     loop-again
