@@ -19,7 +19,7 @@ use Rattle.score.specs.declared.refusals.Verdict.the-variants.{Accepted as Pass
 use Rattle.score.specs.Score.{columnsIn}
 use Rattle.score.specs.Refusals.{Row, judge, verdict}
 use Rattle.score.proofs.Columns.{columns-whole}
-use Rattle.score.proofs.Judged.{Clear, judge-clear, judge-clear-of, judge-both}
+use Rattle.score.proofs.Judged.{Clear, judge-clear, judge-clear-of, judge-both, verdict-clear}
 use Rattle.score.proofs.Judging.{judge-away}
 use Rattle.asking.specs.Limits.{mostNotes}
 use Rattle.asking.specs.declared.way.Way.{Way}
@@ -107,13 +107,6 @@ refused-same {r} e = ap (refusalOf r) e
 done-same : {w x : Walked} → Done w ≡ Done x → w ≡ x
 done-same {w} e = ap (walkedOf w) e
 
--- an accepted verdict: no row applies
-accepted-clear : (rows : List Row) → verdict rows ≡ Passed → Clear rows
-accepted-clear rows e = judge-clear-of Away Passed (λ v. v ≡ Passed) (λ r k. never r k) rows e
-  where
-    never : (r : Refusal) → Away r ≡ Passed → ⊥
-    never r k = let z : _≡_ {A = ℕ} 0 1 = cc in omega arith
-
 -- ---- any walk that is judged by rows
 
 module _ (rows : List Row) (way : Way) (score : List (List ℕ)) (theme : List ℕ) (reached : List Place) (b : Bookmark) (columns : List ℕ) (shifts : List ℤ) where
@@ -177,7 +170,7 @@ module _ (rows : List Row) (way : Way) (score : List (List ℕ)) (theme : List �
 
 module _ (cells : List ℕ) (h : ℕ) (theme : List ℕ) (way : Way) (b : Bookmark) (columns : List ℕ) (shifts : List ℤ) where
   pub plain-asks : {v : Verdict} → v ≡ verdict (plainRows cells h theme way b columns shifts) → v ≡ Passed → PlainAsks cells h theme way b columns shifts
-  plain-asks a v = plain-clear cells h theme way b columns shifts .1 (accepted-clear (plainRows cells h theme way b columns shifts) (sym a ∙ v))
+  plain-asks a v = plain-clear cells h theme way b columns shifts .1 (verdict-clear (plainRows cells h theme way b columns shifts) (sym a ∙ v))
 
   -- the code at which a walk begins
   pub plain-code : PlainAsks cells h theme way b columns shifts → (code : ℕ) → code ≡ codeGiven way (b .shift) → (code ≡ codeOf way (b .shift))
@@ -191,7 +184,7 @@ module _ (cells : List ℕ) (h : ℕ) (theme : List ℕ) (way : Way) (b : Bookma
   rows = quickRows cells h theme way b sets table columns shifts
 
   pub quick-asks : {v : Verdict} → v ≡ verdict rows → v ≡ Passed → QuickAsks cells h theme way b sets table columns shifts
-  quick-asks a v = quick-clear cells h theme way b sets table columns shifts .1 (accepted-clear rows (sym a ∙ v))
+  quick-asks a v = quick-clear cells h theme way b sets table columns shifts .1 (verdict-clear rows (sym a ∙ v))
 
   -- the table: as it was, or the theme's
   pub table-kept : {v : Verdict} {e : Refusal} → v ≡ verdict rows → v ≡ Away e → table ≡ judge rows (λ r. table) (themeTable wordBits theme)
