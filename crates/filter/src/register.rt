@@ -1,5 +1,6 @@
 // The filter register: one word more at each column, and whether a candidate is marked.
 
+use crate::limits::WORD_BITS;
 ghost use mathlib.Core.Path.{_≡_};
 ghost use Prim.Native.Nat.{_%_};
 ghost use lib.Dec.{eqb};
@@ -19,5 +20,5 @@ pub fn step(register: u32, word: u32) -> u32
 pub fn marks(register: u32, top: u32) -> bool
     ensures { λ r. ⌜ r ≡ eqb (bit register (top % wordBits)) 0 ⌝ }
 {
-    (register >> (top & 31)) & 1 == 0
+    (register >> (top % WORD_BITS)) & 1 == 0
 }

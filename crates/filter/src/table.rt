@@ -43,7 +43,7 @@ fn blank(theme: &[u8]) -> u32
     ensures { λ r. ⌜ r ≡ word wordBits (now (theme .entry)) 0 ⌝ }
 {
     let intervals = theme.len() - 1;
-    if intervals < WORD_BITS {
+    if intervals < WORD_BITS as usize {
         0xffff_ffff << intervals
     } else {
         0

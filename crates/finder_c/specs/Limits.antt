@@ -5,6 +5,10 @@ use Prim.Native.Nat.{ℕ}
 abbrev pub answerNumbers : ℕ
 answerNumbers = 5
 
+-- what a refusal's place is multiplied by, to stand above its number
+abbrev pub placeWeight : ℕ
+placeWeight = 256
+
 -- the result where there was no call
 abbrev pub notCalled : ℕ
 notCalled = 255

@@ -13,7 +13,7 @@ use Rattle.asking.specs.declared.way.Way.the-variants.{Exact, Octave}
 use Rattle.paging.specs.declared.page.Turn.{Turn}
 use Rattle.paging.specs.declared.page.Page.{Page}
 use Rattle.paging.specs.declared.page.Page.the-variants.{Turned, Refused}
-use Rattle.finder_c.specs.Limits.{answerNumbers}
+use Rattle.finder_c.specs.Limits.{answerNumbers, placeWeight}
 
 -- 0 exact, 1 octave
 abbrev pub wayOf : ℕ → Way
@@ -24,7 +24,7 @@ abbrev pub noCall : (way len : ℕ) → Bool
 noCall way len = ltb 1 way || not (eqb len answerNumbers)
 
 abbrev pub refusalNumber : Refusal → ℤ
-refusalNumber r = pos (r .number + 256 * r .place)
+refusalNumber r = pos (r .number + placeWeight * r .place)
 
 abbrev pub preparationNumber : Preparation → ℤ
 preparationNumber preparation.Prepared = pos 0

@@ -1,6 +1,7 @@
 // An answer in numbers: 0 where the call was accepted, and otherwise the refusal.
 
 use crate::limits::ANSWER_NUMBERS;
+use crate::limits::PLACE_WEIGHT;
 use preparing::Preparation;
 use score::Refusal;
 use search::Page;
@@ -32,7 +33,7 @@ fn refusal_number(e: Refusal) -> i64
     requires { ⌜ SmallPlace e ⌝ }
     ensures { λ r. ⌜ r ≡ refusalNumber e ⌝ }
 {
-    (e.number as usize + 256 * e.place) as i64
+    (e.number as usize + PLACE_WEIGHT * e.place) as i64
 }
 
 // The result of a preparation.

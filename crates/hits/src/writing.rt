@@ -5,6 +5,7 @@ use asking::Way;
 use asking::shift_of;
 use masks::Word;
 use score::Column;
+use score::HIGHEST_PITCH;
 use score::Pitch;
 ghost use mathlib.Core.Path.{_≡_};
 ghost use Prim.Native.Nat.{_+_, _≤_};
@@ -56,7 +57,7 @@ fn low_code(way: Way, first: Pitch) -> u16
     ensures { λ r. ⌜ r ≡ lowCode way first ⌝ }
 {
     match way {
-        Way::Exact => 127 - first.0 as u16,
+        Way::Exact => (HIGHEST_PITCH - first.0) as u16,
         Way::Octave => 0,
     }
 }
@@ -80,7 +81,7 @@ pub fn put_hits(
     if (low | high) == 0 {
         return from;
     }
-    if 127 < first.0 {
+    if HIGHEST_PITCH < first.0 {
         return from;
     }
     let hits = (u64::count_ones(low) + u64::count_ones(high)) as usize;

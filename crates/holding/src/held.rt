@@ -1,6 +1,7 @@
 // Whether a column holds a note moved by a code's shift.
 
 use asking::Way;
+use score::HIGHEST_PITCH;
 use score::Pitch;
 ghost use mathlib.Core.Path.{_≡_};
 ghost use Prim.Native.Nat.{_%_, _≤_};
@@ -29,7 +30,7 @@ fn has_pitch(column: &[u8], p: Pitch) -> bool
 fn is_class(cell: u8, class: u32) -> bool
     ensures { λ r. ⌜ r ≡ (leb cell 127 && eqb (cell % 12) class) ⌝ }
 {
-    if 127 < cell {
+    if HIGHEST_PITCH < cell {
         return false;
     }
     (cell % 12) as u32 == class

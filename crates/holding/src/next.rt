@@ -2,6 +2,7 @@
 
 use asking::Way;
 use asking::span_of;
+use score::HIGHEST_PITCH;
 use score::Pitch;
 ghost use mathlib.Core.Path.{_≡_};
 ghost use Prim.Native.Nat.{_≤_};
@@ -25,7 +26,7 @@ fn lowered(way: Way, p: Pitch, x: u16, best: u16, cell: u8) -> u16
     requires { ⌜ p .0 ≤ 127 ⌝ }
     ensures { λ r. ⌜ r ≡ lowered way p x best cell ⌝ }
 {
-    if 127 < cell {
+    if HIGHEST_PITCH < cell {
         return best;
     }
     let code = code_between(way, p, Pitch(cell));
@@ -58,7 +59,7 @@ pub fn next_code(column: &[u8], way: Way, p: Pitch, x: u16) -> u16
     ensures { λ r. ⌜ r ≡ nextGiven way p (now (column .entry)) x ⌝ }
 {
     let end = span_of(way);
-    if 127 < p.0 {
+    if HIGHEST_PITCH < p.0 {
         return end;
     }
     if end < x {

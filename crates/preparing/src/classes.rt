@@ -8,6 +8,12 @@ ghost use lib.ListN.{length};
 ghost use Rattle.score.specs.Score.{cut};
 ghost use Rattle.preparing.specs.Classes.{classSet, ClassBits, ClassSets};
 
+// How many bytes there are: a look-up has a place for each.
+const BYTES: usize = 256;
+
+// So many cells are no longer looked up.
+const MANY: usize = 8;
+
 // The class sets of all columns: the first column's is the answer, and the others are stored in order.
 pub fn gather(cells: &[u8], tracks: usize, others: &mut [u16]) -> u16
     requires { ⌜ (length (now others) + 1) * tracks ≤ length (now cells) ⌝ }
@@ -26,10 +32,10 @@ pub fn gather(cells: &[u8], tracks: usize, others: &mut [u16]) -> u16
 }
 
 // The class bit of every byte, made once for a whole score.
-fn class_bits() -> [u16; 256]
+fn class_bits() -> [u16; BYTES]
     ensures { λ r. ⌜ ClassBits r ⌝ }
 {
-    let mut bits = [0u16; 256];
+    let mut bits = [0u16; BYTES];
     let mut cell: u8 = 0;
     while cell <= HIGHEST_PITCH {
         bits[cell as usize] = 1 << class_of(Pitch(cell));
@@ -39,18 +45,18 @@ fn class_bits() -> [u16; 256]
 }
 
 // The class set of a column. Few cells are looked up; of many the bits are worked out, so that eight cells go together.
-fn class_set(column: &[u8], bits: &[u16; 256]) -> u16
+fn class_set(column: &[u8], bits: &[u16; BYTES]) -> u16
     requires { ⌜ ClassBits (now bits) ⌝ }
     ensures { λ r. ⌜ r ≡ classSet (now (column .entry)) ⌝ }
 {
-    if column.len() < 8 {
+    if column.len() < MANY {
         looked_up(column, bits)
     } else {
         classes_of(column)
     }
 }
 
-fn looked_up(column: &[u8], bits: &[u16; 256]) -> u16
+fn looked_up(column: &[u8], bits: &[u16; BYTES]) -> u16
     requires { ⌜ ClassBits (now bits) ⌝ }
     ensures { λ r. ⌜ r ≡ classSet (now (column .entry)) ⌝ }
 {

@@ -9,6 +9,9 @@ use Rattle.filter.proofs.table.blank.Tie as tie
 sub-intervals : tie.Need-sub-intervals
 sub-intervals c = search needs
 
+cast-if1 : tie.Need-cast-if1
+cast-if1 c = search needs
+
 cast-result : tie.Need-cast-result
 cast-result c = search needs
 
@@ -22,4 +25,4 @@ returns-2 : tie.Need-returns-2
 returns-2 c = blank-many wordBits _ (c .if1 .left)
 
 pub blank-spec : {M : Type 1} → statement M
-blank-spec = tie.close (tie.spec sub-intervals cast-result shl-result returns returns-2)
+blank-spec = tie.close (tie.spec sub-intervals cast-if1 cast-result shl-result returns returns-2)

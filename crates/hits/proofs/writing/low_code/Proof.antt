@@ -22,4 +22,4 @@ returns-2 : tie.Need-returns-2
 returns-2 c = rw (c .enum-told2 .given .1)
 
 pub low-code-spec : {M : Type 1} → statement M
-low-code-spec = tie.close (tie.spec enum-told cast-result sub-result enum-told-2 returns returns-2)
+low-code-spec = tie.close (tie.spec enum-told sub-result cast-result enum-told-2 returns returns-2)
