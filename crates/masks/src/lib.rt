@@ -8,7 +8,6 @@ pub mod moving;
 pub mod word;
 
 pub use columns::word_of;
-pub use moving::held;
 pub use moving::moved;
 pub use word::Word;
 pub use word::all_starts;

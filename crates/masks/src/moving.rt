@@ -1,12 +1,11 @@
 // A word moved by a note: in exact by its distance from the theme's first note, in octave round about by its class.
 
-use crate::columns::word_of;
 use crate::word::Word;
 use asking::Way;
 use score::Pitch;
 ghost use mathlib.Core.Path.{_≡_};
 ghost use Prim.Native.Nat.{_*_, _/_, _%_, _^_, _<_};
-ghost use Rattle.masks.specs.Masks.{value, columnWord, turnedWord, movedWord};
+ghost use Rattle.masks.specs.Masks.{value, turnedWord, movedWord};
 
 // The word moved down by d places.
 fn down(w: Word, d: u8) -> Word
@@ -75,12 +74,4 @@ pub fn moved(way: Way, w: Word, first: Pitch, p: Pitch) -> Word
             high: 0,
         },
     }
-}
-
-// The starts at which a column holds p, for a theme that begins with `first`.
-pub fn held(way: Way, column: &[u8], first: Pitch, p: Pitch) -> Word
-    ensures { λ r. ⌜ value (r .low) (r .high) ≡ movedWord way first p (columnWord way (now (column .entry))) ⌝ }
-{
-    let w = word_of(way, column);
-    moved(way, w, first, p)
 }
