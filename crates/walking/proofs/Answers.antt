@@ -24,14 +24,10 @@ use Rattle.score.proofs.Judging.{judge-away}
 use Rattle.asking.specs.Limits.{mostNotes}
 use Rattle.asking.specs.declared.way.Way.{Way}
 use Rattle.asking.specs.declared.bookmark.Bookmark.{Bookmark}
-use Rattle.asking.specs.Way.{span, codeOf}
 use Rattle.asking.specs.Bookmarks.{keyOf}
 use Rattle.asking.specs.Asking.{Accepted, AcceptedSets, PlainAsks, QuickAsks}
 use Rattle.asking.specs.Refusals.{plainRows, quickRows}
 use Rattle.asking.proofs.Rows.{plain-clear, quick-clear}
-use Rattle.asking.specs.Codes.{codeGiven}
-use Rattle.asking.proofs.Shifts.{code-le}
-use Rattle.asking.proofs.Coding.{code-given}
 use Rattle.filter.specs.Limits.{wordBits}
 use Rattle.filter.specs.Table.{themeTable}
 use Rattle.walking.specs.declared.walked.Walked.{Walked}
@@ -40,7 +36,7 @@ use Rattle.walking.specs.declared.calls.Walk.the-variants.{Done, Refused
 use Rattle.walking.specs.Starts.{Place, key}
 use Rattle.walking.specs.Found.{walked, Finds, QuickWalks}
 use Rattle.walking.specs.Scan.{Lent}
-use Rattle.walking.specs.Walk.{Ready, Walks}
+use Rattle.walking.specs.Walk.{Ready, endOf, Walks}
 
 -- ---- what is accepted is what a walk asks for
 
@@ -72,13 +68,14 @@ module _ {cells : List ℕ} {h : ℕ} {theme : List ℕ} {way : Way} {b : Bookma
   pub asked-small : (k : ℕ) → getD sets k 0 < 4096
   asked-small k = let q : getD sets k 0 ≤ 4095 = small 4095 sets (a .with-sets .sets-good) k in omega arith
 
-  pub asked-lent : (j many : ℕ) → 1 ≤ j → j + many + length theme ≤ columnsIn cells h + 2 → Lent sets table (length theme) j many
-  asked-lent j many first last =
+  pub asked-lent : {j end : ℕ} → 1 ≤ j → j < end → end ≡ endOf cells h theme → Lent sets table (length theme) j end
+  asked-lent first more e =
       record {
         notes = a .plain .accepted .notes-some;
         notes-most = a .plain .accepted .notes-few;
         from-first = first;
-        to-last = omega (arith, asked-sets);
+        some = more;
+        to-last = omega (arith, asked-sets, e);
         sets-few = omega (arith, asked-sets, a .plain .accepted .columns-few);
         sets-small = asked-small;
         table-long = a .table-long;
@@ -171,13 +168,6 @@ module _ (rows : List Row) (way : Way) (score : List (List ℕ)) (theme : List �
 module _ (cells : List ℕ) (h : ℕ) (theme : List ℕ) (way : Way) (b : Bookmark) (columns : List ℕ) (shifts : List ℤ) where
   pub plain-asks : {v : Verdict} → v ≡ verdict (plainRows cells h theme way b columns shifts) → v ≡ Passed → PlainAsks cells h theme way b columns shifts
   plain-asks a v = plain-clear cells h theme way b columns shifts .1 (verdict-clear (plainRows cells h theme way b columns shifts) (sym a ∙ v))
-
-  -- the code at which a walk begins
-  pub plain-code : PlainAsks cells h theme way b columns shifts → (code : ℕ) → code ≡ codeGiven way (b .shift) → (code ≡ codeOf way (b .shift))
-      × (code ≤ span way)
-  plain-code a code e =
-      let k : code ≡ codeOf way (b .shift) = e ∙ code-given way (b .shift) (a .marked .not-below) (a .marked .not-above) in
-      (k, rw k (code-le way (b .shift) (a .marked .not-below) (a .marked .not-above)))
 
 module _ (cells : List ℕ) (h : ℕ) (theme : List ℕ) (way : Way) (b : Bookmark) (sets table columns : List ℕ) (shifts : List ℤ) where
   abbrev rows : List Row

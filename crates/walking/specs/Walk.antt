@@ -12,10 +12,13 @@ use Rattle.theory.specs.Lists.{over, count, count as numbers, first, lower}
 use Rattle.theory.specs.Pages.{pageHits, pageLooks, from}
 use Rattle.score.specs.declared.quantities.Pitch.{Pitch}
 use Rattle.score.specs.Score.{pitch, columnAt, column, columnsIn, scoreOf}
+use Rattle.score.specs.Limits.{mostTracks, mostColumns, highestPitch}
+use Rattle.asking.specs.Limits.{mostNotes}
 use Rattle.asking.specs.declared.way.Way.{Way}
 use Rattle.asking.specs.declared.way.Way.the-variants.{Exact, Octave}
 use Rattle.asking.specs.declared.bookmark.Bookmark.{Bookmark}
 use Rattle.asking.specs.Way.{span, holds}
+use Rattle.asking.specs.Codes.{codeGiven}
 use Rattle.asking.specs.Bookmarks.{keyOf}
 use Rattle.filter.specs.Limits.{wordBits}
 use Rattle.score.specs.Score.{note}
@@ -28,17 +31,25 @@ use Rattle.walking.specs.Found.{columnsOf, shiftsOf}
 -- an accepted score and theme, as far as a walk rests on it
 pub record Ready (cells : List ℕ) (h : ℕ) (theme : List ℕ) : Type 0 where
   pub tracks : 1 ≤ h
-  pub tracks-most : h ≤ 16
+  pub tracks-most : h ≤ mostTracks
   pub whole : columnsIn cells h * h ≡ length cells
-  pub columns-most : columnsIn cells h ≤ 2048
+  pub columns-most : columnsIn cells h ≤ mostColumns
   pub notes : 2 ≤ length theme
-  pub notes-most : length theme ≤ 32
-  pub sung : (i : ℕ) → getD theme i 0 ≤ 127
+  pub notes-most : length theme ≤ mostNotes
+  pub sung : (i : ℕ) → getD theme i 0 ≤ highestPitch
 
 -- a theme of m notes fits from column j on, in n columns
 pub record Fits (n m j : ℕ) : Type 0 where
   pub from-first : 1 ≤ j
   pub to-last : j + m ≤ n + 1
+
+-- the first column from which on the theme has no more room
+abbrev pub endOf : (cells : List ℕ) (h : ℕ) (theme : List ℕ) → ℕ
+endOf cells h theme = columnsIn cells h + 2 - length theme
+
+-- how many columns are listed at a time at most
+abbrev pub listed : ℕ
+listed = 64
 
 -- what trying a start finds
 pub record Trial (way : Way) (score : List (List ℕ)) (theme : List ℕ) (j code : ℕ) (found : Bool) (spent : ℕ) : Type 0 where
@@ -48,6 +59,13 @@ pub record Trial (way : Way) (score : List (List ℕ)) (theme : List ℕ) (j cod
 -- the starts of column j from code x on
 abbrev pub columnStarts : Way → (score : List (List ℕ)) (theme : List ℕ) (j x : ℕ) → List Place
 columnStarts way score theme j x = map (place j) (codes way (note theme 1) (column score (columnAt j)) x)
+
+-- the spot at which a walk from a bookmark begins, and the one at the first code of a column
+abbrev pub begun : Way → Bookmark → Spot
+begun way b = record { column = b .column; code = codeGiven way (b .shift); found = 0 }
+
+abbrev pub goneOn : (j found : ℕ) → Spot
+goneOn j found = record { column = columnAt j; code = 0; found = found }
 
 -- the spot on column k where so many are found: the code of the spot before counts on its own column only
 abbrev pub atColumn : Spot → (k found : ℕ) → Spot

@@ -7,20 +7,30 @@ ghost use Prim.Native.Nat.{ℕ, _+_, _≤_, _<_};
 ghost use mathlib.Core.Bool.{cond};
 ghost use lib.ListN.{length, getD, set};
 ghost use Rattle.theory.specs.Register as Register;
-ghost use Rattle.walking.specs.Scan.{entryWord, Filters, Lent, ListsCandidates};
+ghost use Rattle.score.specs.Limits.{tableWords};
+ghost use Rattle.filter.specs.Limits.{wordBits};
+ghost use Rattle.walking.specs.Scan.{entryWord, Filters, Lent, Seeks, ListsCandidates};
 
-// How many candidates were listed, and what the register was then.
+// The column behind the last one that was decided, whether that one is a candidate, and what the register is there.
+pub struct Sought {
+    pub register: u32,
+    pub next: usize,
+    pub marked: bool,
+}
+
+// How many candidates were listed, the column behind the last one that was decided, and what the register is there.
 pub struct Listed {
     pub register: u32,
+    pub next: usize,
     pub count: usize,
 }
 
 // One entry of the sets more: the table's word for it.
 pub fn taken(register: u32, sets: &[u16], table: &[u32], at: usize) -> u32
     requires { ⌜ at < length (now sets) ⌝ }
-    requires { ⌜ length (now table) ≡ 4096 ⌝ }
-    requires { ⌜ ((k : ℕ) → getD (now sets) k 0 < 4096) ⌝ }
-    ensures { λ r. ⌜ r ≡ Register.step 32 register (entryWord (now (table .entry)) (now (sets .entry)) at) ⌝ }
+    requires { ⌜ length (now table) ≡ tableWords ⌝ }
+    requires { ⌜ ((k : ℕ) → getD (now sets) k 0 < tableWords) ⌝ }
+    ensures { λ r. ⌜ r ≡ Register.step wordBits register (entryWord (now (table .entry)) (now (sets .entry)) at) ⌝ }
 {
     let set = sets[at] as usize;
     step(register, table[set])
@@ -30,9 +40,9 @@ pub fn taken(register: u32, sets: &[u16], table: &[u32], at: usize) -> u32
 // they are m - 2, and the next one makes the first column a candidate or not.
 pub fn warmed(sets: &[u16], table: &[u32], from: usize, count: usize) -> u32
     requires { ⌜ from + count ≤ length (now sets) ⌝ }
-    requires { ⌜ length (now table) ≡ 4096 ⌝ }
-    requires { ⌜ ((k : ℕ) → getD (now sets) k 0 < 4096) ⌝ }
-    ensures { λ r. ⌜ r ≡ Register.regFrom 32 (entryWord (now (table .entry)) (now (sets .entry))) from (from + count) ⌝ }
+    requires { ⌜ length (now table) ≡ tableWords ⌝ }
+    requires { ⌜ ((k : ℕ) → getD (now sets) k 0 < tableWords) ⌝ }
+    ensures { λ r. ⌜ r ≡ Register.regFrom wordBits (entryWord (now (table .entry)) (now (sets .entry))) from (from + count) ⌝ }
 {
     let end = from + count;
     let mut register: u32 = 0xffff_ffff;
@@ -56,33 +66,61 @@ fn noted(list: &mut [u16], at: usize, column: u16, marked: bool) -> usize
     at + 1
 }
 
-// Lists, from the front, the candidates among as many columns as are counted, from the first on.
+// Decides column after column, from the first on, up to a candidate, or to the end where there is none before it.
+fn seek(register: u32, sets: &[u16], table: &[u32], m: usize, first: usize, end: usize) -> Sought
+    requires { ⌜ Lent (now sets) (now table) m first end ⌝ }
+    requires { ⌜ Filters (now table) (now sets) m register first ⌝ }
+    ensures { λ r. ⌜ Seeks (now (table .entry)) (now (sets .entry)) m first end (r .register) (r .next) (r .marked) ⌝ }
+{
+    let top = (m - 2) as u32;
+    let mut word = register;
+    let mut j = first;
+    while j < end {
+        word = taken(word, sets, table, j + m - 3);
+        j += 1;
+        if marks(word, top) {
+            return Sought {
+                register: word,
+                next: j,
+                marked: true,
+            };
+        }
+    }
+    Sought {
+        register: word,
+        next: j,
+        marked: false,
+    }
+}
+
+// Lists, from the front, the candidates from the first column on, as many as are wanted or as there are before the end.
 pub fn list_candidates(
     register: u32,
     sets: &[u16],
     table: &[u32],
     m: usize,
     first: usize,
-    many: usize,
+    end: usize,
+    wanted: usize,
     list: &mut [u16],
 ) -> Listed
-    requires { ⌜ Lent (now sets) (now table) m first many ⌝ }
+    requires { ⌜ Lent (now sets) (now table) m first end ⌝ }
     requires { ⌜ Filters (now table) (now sets) m register first ⌝ }
-    requires { ⌜ many ≤ length (now list) ⌝ }
-    ensures { λ r. ⌜ ListsCandidates (now (table .entry)) (now (sets .entry)) m first many (now (list .entry)) (r .register) (r .count) (now (list .exit)) ⌝ }
+    requires { ⌜ (1 ≤ wanted) × (wanted ≤ length (now list)) ⌝ }
+    ensures { λ r. ⌜ ListsCandidates (now (table .entry)) (now (sets .entry)) m first end (now (list .entry)) (r .register) (r .next) (r .count) (now (list .exit)) ⌝ }
 {
-    let top = (m - 2) as u32;
     let mut word = register;
+    let mut j = first;
     let mut count: usize = 0;
-    let mut i: usize = 0;
-    while i < many {
-        word = taken(word, sets, table, first + i + m - 3);
-        let marked = marks(word, top);
-        count = noted(list, count, (first + i) as u16, marked);
-        i += 1;
+    while (j < end) & (count < wanted) {
+        let s = seek(word, sets, table, m, j, end);
+        word = s.register;
+        j = s.next;
+        count = noted(list, count, (j - 1) as u16, s.marked);
     }
     Listed {
         register: word,
+        next: j,
         count,
     }
 }

@@ -7,6 +7,7 @@ use masks::word_of;
 ghost use mathlib.Core.Path.{_≡_};
 ghost use Prim.Native.Nat.{_+_, _*_, _≤_, _<_};
 ghost use lib.ListN.{length, take, drop};
+ghost use Rattle.score.specs.Limits.{mostColumns};
 ghost use Rattle.masks.specs.Masks.{value, columnWord};
 ghost use Rattle.walking.specs.Alive.{Cached};
 
@@ -21,7 +22,7 @@ pub const RING: usize = 96;
 
 // The word of the column after k others: as the ring has it, or found now and kept there.
 pub fn word_at(cells: &[u8], h: usize, way: Way, k: usize, ring: &mut [u64]) -> Word
-    requires { ⌜ (k * h + h ≤ length (now cells)) × (k < 2048) ⌝ }
+    requires { ⌜ (k * h + h ≤ length (now cells)) × (k < mostColumns) ⌝ }
     requires { ⌜ Cached way (now cells) h (now ring) ⌝ }
     ensures { λ r. ⌜ (value (r .low) (r .high) ≡ columnWord way (take h (drop (k * h) (now (cells .entry))))) × Cached way (now (cells .entry)) h (now (ring .exit)) ⌝ }
 {

@@ -7,16 +7,20 @@ use crate::ring::RING;
 use crate::walked::Spot;
 use crate::walked::Walked;
 use crate::walked::at_column;
+use crate::walked::begin;
+use crate::walked::go_on;
 use asking::Bookmark;
 use asking::Way;
-use asking::code_of;
-use score::Column;
 use score::columns_in;
+ghost use mathlib.Core.Path.{_≡_};
 ghost use Prim.Native.Nat.{_+_, _≤_};
 ghost use lib.ListN.{length};
 ghost use Rattle.asking.specs.Asking.{PlainAsks, QuickAsks};
 ghost use Rattle.walking.specs.Alive.{Cached};
-ghost use Rattle.walking.specs.Walk.{Ready, ListsEvery, Along, TriesList, WalksEvery, WalksCandidates};
+ghost use Rattle.walking.specs.Walk.{Ready, ListsEvery, Along, TriesList, WalksEvery, WalksCandidates, listed, endOf};
+
+// How many columns are listed at a time at most.
+const LISTED: usize = 64;
 
 // Tries the listed columns one after another, until none is left or no room. The spot's code counts on its own column only.
 fn walk_along(
@@ -61,15 +65,27 @@ fn list_every(first: usize, many: usize, list: &mut [u16])
     }
 }
 
-// How many columns are listed at a time, of those that are left.
+// As many as are left, or as a list has places.
 fn some_of(left: usize) -> usize
     requires { ⌜ 1 ≤ left ⌝ }
-    ensures { λ r. ⌜ (1 ≤ r) × (r ≤ left) × (r ≤ 64) ⌝ }
+    ensures { λ r. ⌜ (1 ≤ r) × (r ≤ left) × (r ≤ listed) ⌝ }
 {
-    if left < 64 {
+    if left < LISTED {
         return left;
     }
-    64
+    LISTED
+}
+
+// The first column from which on the theme has no more room.
+fn end_of(cells: &[u8], h: usize, theme: &[u8]) -> usize
+    requires { ⌜ Ready (now cells) h (now theme) ⌝ }
+    ensures { λ r. ⌜ r ≡ endOf (now (cells .entry)) h (now (theme .entry)) ⌝ }
+{
+    let past = columns_in(cells, h) + 2;
+    if past < theme.len() {
+        return 0;
+    }
+    past - theme.len()
 }
 
 // Walks along every column, until the page is full or no start is left.
@@ -86,22 +102,16 @@ pub fn walk_every(
     ensures { λ r. ⌜ WalksEvery way (now (cells .entry)) h (now (theme .entry)) bookmark
         (now (columns .entry)) (now (shifts .entry)) r (now (columns .exit)) (now (shifts .exit)) ⌝ }
 {
-    let n = columns_in(cells, h);
-    let m = theme.len();
-    let mut ring = [0u64; RING];
-    let mut list = [0u16; 64];
-    let mut j = bookmark.column.0 as usize;
-    let mut code = code_of(way, bookmark.shift);
-    let mut found: usize = 0;
+    let end = end_of(cells, h, theme);
+    let mut spot = begin(way, bookmark);
+    let mut j = spot.column.0 as usize;
     let mut looks: u32 = 0;
-    while (j + m <= n + 1) & (found < columns.len()) {
-        let many = some_of(n + 2 - m - j);
+    let mut ring = [0u64; RING];
+    let mut list = [0u16; LISTED];
+    while (j < end) & (spot.found < columns.len()) {
+        let many = some_of(end - j);
         list_every(j, many, &mut list);
-        let spot = Spot {
-            column: Column(j as u16),
-            code,
-            found,
-        };
+        j += many;
         let t = walk_along(
             cells,
             h,
@@ -113,15 +123,17 @@ pub fn walk_every(
             shifts,
             &mut ring,
         );
-        found = t.found;
         looks += t.looks;
-        code = 0;
-        j += many;
+        spot = go_on(j, t.found);
     }
-    Walked { found, looks }
+    Walked {
+        found: spot.found,
+        looks,
+    }
 }
 
-// The same along candidates. The register begins anew at the bookmark's column.
+// The same along candidates. The register begins anew at the bookmark's column. No more candidates are listed at a time than there is
+// room for pairs.
 pub fn walk_candidates(
     cells: &[u8],
     h: usize,
@@ -137,28 +149,27 @@ pub fn walk_candidates(
     ensures { λ r. ⌜ WalksCandidates way (now (cells .entry)) h (now (theme .entry)) bookmark (now (sets .entry)) (now (table .entry))
         (now (columns .entry)) (now (shifts .entry)) r (now (columns .exit)) (now (shifts .exit)) ⌝ }
 {
-    let n = columns_in(cells, h);
+    let end = end_of(cells, h, theme);
     let m = theme.len();
-    let mut ring = [0u64; RING];
-    let mut list = [0u16; 64];
-    let mut j = bookmark.column.0 as usize;
-    let mut code = code_of(way, bookmark.shift);
-    let mut found: usize = 0;
+    let mut spot = begin(way, bookmark);
+    let mut j = spot.column.0 as usize;
     let mut looks: u32 = 0;
-    if n + 1 < j + m {
-        return Walked { found, looks };
+    // what follows is made ready only where a column is left
+    if end <= j {
+        return Walked {
+            found: spot.found,
+            looks,
+        };
     }
     let mut register = warmed(sets, table, j - 1, m - 2);
-    while (j + m <= n + 1) & (found < columns.len()) {
-        let many = some_of(n + 2 - m - j);
-        let l = list_candidates(register, sets, table, m, j, many, &mut list);
-        let count = l.count;
+    let mut ring = [0u64; RING];
+    let mut list = [0u16; LISTED];
+    while (j < end) & (spot.found < columns.len()) {
+        let wanted = some_of(columns.len() - spot.found);
+        let l = list_candidates(register, sets, table, m, j, end, wanted, &mut list);
         register = l.register;
-        let spot = Spot {
-            column: Column(j as u16),
-            code,
-            found,
-        };
+        j = l.next;
+        let count = l.count;
         let t = walk_along(
             cells,
             h,
@@ -170,10 +181,11 @@ pub fn walk_candidates(
             shifts,
             &mut ring,
         );
-        found = t.found;
         looks += t.looks;
-        code = 0;
-        j += many;
+        spot = go_on(j, t.found);
     }
-    Walked { found, looks }
+    Walked {
+        found: spot.found,
+        looks,
+    }
 }

@@ -1,8 +1,12 @@
 // Where a walk stands, and how far it has come.
 
+use asking::Bookmark;
+use asking::Way;
+use asking::code_of;
 use score::Column;
 ghost use mathlib.Core.Path.{_≡_};
-ghost use Rattle.walking.specs.Walk.{atColumn};
+ghost use Prim.Native.Nat.{_≤_};
+ghost use Rattle.walking.specs.Walk.{begun, goneOn, atColumn};
 
 // The starts of this column from this code on are to be tried, and so many pairs are found: as many places of the buffers are taken.
 pub struct Spot {
@@ -15,6 +19,31 @@ pub struct Spot {
 pub struct Walked {
     pub found: usize,
     pub looks: u32,
+}
+
+// The spot at which a walk from a bookmark begins.
+pub fn begin(way: Way, bookmark: Bookmark) -> Spot
+    ensures { λ r. ⌜ r ≡ begun way bookmark ⌝ }
+{
+    let column = bookmark.column;
+    let code = code_of(way, bookmark.shift);
+    Spot {
+        column,
+        code,
+        found: 0,
+    }
+}
+
+// The spot at the first code of a column.
+pub fn go_on(column: usize, found: usize) -> Spot
+    requires { ⌜ column ≤ 65535 ⌝ }
+    ensures { λ r. ⌜ r ≡ goneOn column found ⌝ }
+{
+    Spot {
+        column: Column(column as u16),
+        code: 0,
+        found,
+    }
 }
 
 // A spot on a column where so many are found. The code of the spot before counts on its own column only.

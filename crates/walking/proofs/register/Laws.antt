@@ -1,14 +1,15 @@
 -- The register that is run along the sets makes the candidates, whatever column it began anew at: from there on its bit
--- m - 2 is that of the register that took every entry. One entry more is `regFrom-more` of theory. Then what the loop keeps
--- that lists candidates. Assumes nothing.
+-- m - 2 is that of the register that took every entry. One entry more is `regFrom-more` of theory. Then columns that are decided one
+-- after another: no column, one, and those behind; and what the loop keeps that lists candidates. Assumes nothing.
 use mathlib.Core.Path.{_≡_, refl, sym, ap, _∙_}
-use mathlib.Core.Bool.{Bool, true, false, cond}
+use mathlib.Core.Bool.{Bool, true, false, cond, _&&_}
 use mathlib.Core.List.{List, [], _∷_, _++_, append-nil}
 use Prim.Native.Nat.{ℕ, _+_, _-_, _%_, _≤_, _<_}
 use native.Mathlib.Nat.{mod-eq-of-lt}
 use native.Mathlib.Omega.{arith}
-use lib.Dec.{eqb}
+use lib.Dec.{eqb, ltb}
 use lib.ListN.{length, set, length-append}
+use borrow.Author.Tests.{ltb-false}
 use Rattle.theory.specs.Lists.{count, over}
 use Rattle.theory.specs.Pages.{hits}
 use Rattle.theory.specs.Bits.{bit}
@@ -18,7 +19,7 @@ use Rattle.theory.proofs.Pages.{hits-le, hits-append}
 use Rattle.theory.proofs.Register.{regFrom-register, regFrom-turn}
 use Rattle.filter.specs.Limits.{wordBits}
 use Rattle.walking.specs.Candidates.{candidate}
-use Rattle.walking.specs.Scan.{entryWord, Runs, Filters, ListsCandidates}
+use Rattle.walking.specs.Scan.{entryWord, Runs, Filters, Lent, Decides, Seeks, ListsCandidates}
 
 pub regFrom-candidate : (table sets : List ℕ) (m j₀ j : ℕ) → 2 ≤ m → m ≤ 32 → 1 ≤ j₀ → j₀ ≤ j
     → eqb (bit (regFrom 32 (entryWord table sets) (j₀ - 1) (j + m - 2)) (m - 2)) 0 ≡ candidate wordBits table sets m j
@@ -33,74 +34,144 @@ warmed-filters table sets m j register notes first e =
     let k : j - 1 + (m - 2) ≡ j + m - 3 = omega arith in
     record { start = j - 1; before = omega arith; runs = record { begun = omega arith; taken = rw k at e } }
 
--- ---- candidates are listed: of the columns from j on, those before column j + i, and the register has taken their entries
+-- what is asked for at a column is asked for at a later one before the end
+pub lent-on : {sets table : List ℕ} {m j end : ℕ} → Lent sets table m j end → {k : ℕ} → j ≤ k → k < end → Lent sets table m k end
+lent-on l q r =
+    record {
+      notes = l .notes;
+      notes-most = l .notes-most;
+      from-first = omega (arith, l .from-first);
+      some = r;
+      to-last = l .to-last;
+      sets-few = l .sets-few;
+      sets-small = l .sets-small;
+      table-long = l .table-long;
+    }
 
--- one column more
-hits-more : (keep : ℕ → Bool) (j i : ℕ) → hits keep (count j (i + 1)) ≡ cond (keep (j + i)) (hits keep (count j i) ++ ((j + i) ∷ [])) (hits keep (count j i))
-hits-more keep j i =
-    ap (hits keep) (count-append j i 1) ∙ hits-append keep (count j i) ((j + i) ∷ []) ∙ step (keep (j + i))
-  where
-    step : (b : Bool) → hits keep (count j i) ++ cond b ((j + i) ∷ []) [] ≡ cond b (hits keep (count j i) ++ ((j + i) ∷ [])) (hits keep (count j i))
-    step true = refl
-    step false = append-nil (hits keep (count j i))
+-- ---- columns are decided, one after another
 
-pub record Listing (table sets : List ℕ) (m j : ℕ) (list₀ list : List ℕ) (word at i : ℕ) : Type 0 where
-  pub listed : list ≡ over list₀ (hits (candidate wordBits table sets m) (count j i))
-  pub counted : at ≡ length (hits (candidate wordBits table sets m) (count j i))
-  pub filters : Filters table sets m word (j + i)
+-- no column
+pub decide-start : {table sets : List ℕ} {m j end register : ℕ} → j ≤ end → Filters table sets m register j → Decides table sets m j end register j []
+decide-start {j = j} q f = let z : j - j ≡ 0 = omega arith in record { on = omega arith; to-end = q; these = rw z; goes-on = f }
 
-module _ (table sets : List ℕ) (m j : ℕ) (list₀ : List ℕ) where
-  pub list-start : (word : ℕ) → Filters table sets m word j → Listing table sets m j list₀ list₀ word 0 0
-  list-start word f = let e : j + 0 ≡ j = omega arith in record { listed = refl; counted = refl; filters = rw e f }
+-- the columns up to column k, and then those behind
+pub decide-append : {table sets : List ℕ} {m j end register k : ℕ} {cs : List ℕ} {register′ k′ : ℕ} {ds : List ℕ}
+    → Decides table sets m j end register k cs → Decides table sets m k end register′ k′ ds → Decides table sets m j end register′ k′ (cs ++ ds)
+decide-append {table} {sets} {m} {j} {k = k} {k′ = k′} p q =
+    let keep : ℕ → Bool = candidate wordBits table sets m in
+    let e : k′ - j ≡ (k - j) + (k′ - k) = omega (arith, p .on, q .on) in
+    let f : j + (k - j) ≡ k = omega (arith, p .on) in
+    record {
+      on = omega (arith, p .on, q .on);
+      to-end = q .to-end;
+      these =
+          rw (p .these, q .these, e, count-append j (k - j) (k′ - k), hits-append keep (count j (k - j)) (count (j + (k - j)) (k′ - k)), f);
+      goes-on = q .goes-on;
+    }
 
-  module _ (list : List ℕ) (word at i : ℕ) (t : Listing table sets m j list₀ list word at i) where
-    pub list-at : at ≤ i
-    list-at = omega (arith, t .counted, hits-le (candidate wordBits table sets m) (count j i), count-length j i)
+-- one column: the register takes its entry, and its bit m - 2 says whether it is a candidate
+module _ {table sets : List ℕ} {m j end : ℕ} (lent : Lent sets table m j end) {register k : ℕ} (f : Filters table sets m register k) (here : k < end)
+    {register′ : ℕ} (e : register′ ≡ step wordBits register (entryWord table sets (k + m - 3)))
+    {marked : Bool} (d : marked ≡ eqb (bit register′ ((m - 2) % wordBits)) 0) where
+  taken : Runs table sets (f .start) register′ (k + m - 3 + 1)
+  taken =
+      let r = f .runs in
+      record { begun = omega (arith, r .begun); taken = regFrom-turn 32 (entryWord table sets) (f .start) (k + m - 3) (r .begun) (r .taken) e }
 
-    pub list-long : i ≤ length list₀ → length list ≡ length list₀
-    list-long h = ap length (t .listed) ∙ over-length list₀ (hits (candidate wordBits table sets m) (count j i)) (omega (arith, list-at, t .counted))
+  is-candidate : marked ≡ candidate wordBits table sets m k
+  is-candidate =
+      let s = f .start in
+      let z : s + 1 - 1 ≡ s = omega arith in
+      let y : k + m - 3 + 1 ≡ k + m - 2 = omega (arith, lent .notes, f .before) in
+      let c : eqb (bit (regFrom 32 (entryWord table sets) s (k + m - 2)) (m - 2)) 0 ≡ candidate wordBits table sets m k =
+      rw z at (regFrom-candidate table sets m (s + 1) k (lent .notes) (lent .notes-most) (omega arith) (omega (arith, f .before))) in
+      let w : register′ ≡ regFrom 32 (entryWord table sets) s (k + m - 2) = rw y at (taken .taken) in
+      d ∙ ap (λ (q : ℕ). eqb (bit register′ q) 0) (mod-eq-of-lt (omega (arith, lent .notes-most))) ∙ rw w c
 
-    pub list-end : (many : ℕ) → i ≡ many → ListsCandidates table sets m j many list₀ word at list
-    list-end many e = rw (← e) record { listed = t .listed; counted = t .counted; goes-on = t .filters }
+  pub decide-one : Decides table sets m k end register′ (k + 1) (cond marked (k ∷ []) [])
+  decide-one =
+      let z : k + 1 - k ≡ 1 = omega arith in
+      let y : k + m - 3 + 1 ≡ k + 1 + m - 3 = omega (arith, lent .notes, f .before) in
+      record {
+        on = omega arith;
+        to-end = omega (arith, here);
+        these = rw (z, is-candidate);
+        goes-on = record { start = f .start; before = omega (arith, f .before); runs = rw y at taken };
+      }
 
-    module _ (some : 1 ≤ j) (notes : 2 ≤ m) (most : m ≤ 32) (more : i < length list₀)
-        (word′ : ℕ) (e : word′ ≡ step 32 word (entryWord table sets (j + i + m - 3))) (marked : Bool) (d : marked ≡ eqb (bit word′ ((m - 2) % 32)) 0) where
-      taken : Runs table sets (t .filters .start) word′ (j + i + m - 3 + 1)
-      taken =
-          let r = t .filters .runs in
-          record { begun = omega (arith, r .begun); taken = regFrom-turn 32 (entryWord table sets) (t .filters .start) (j + i + m - 3) (r .begun) (r .taken) e }
+-- ---- a candidate is sought from column j on, and none stands before column k
 
-      is-candidate : candidate wordBits table sets m (j + i) ≡ marked
-      is-candidate =
-          let s = t .filters .start in
-          let z : s + 1 - 1 ≡ s = omega arith in
-          let y : j + i + m - 3 + 1 ≡ j + i + m - 2 = omega arith in
-          let c : eqb (bit (regFrom 32 (entryWord table sets) s (j + i + m - 2)) (m - 2)) 0 ≡ candidate wordBits table sets m (j + i) =
-          rw z at (regFrom-candidate table sets m (s + 1) (j + i) notes most (omega arith) (omega (arith, t .filters .before))) in
-          let w : word′ ≡ regFrom 32 (entryWord table sets) s (j + i + m - 2) = rw y at (taken .taken) in
-          sym c ∙ rw (← w) (ap (λ (q : ℕ). eqb (bit word′ q) 0) (sym (mod-eq-of-lt (omega arith)))) ∙ sym d
+module _ {table sets : List ℕ} {m j end : ℕ} (lent : Lent sets table m j end) {register k : ℕ} (t : Decides table sets m j end register k []) where
+  -- the end is reached
+  pub seek-end : end ≤ k → Seeks table sets m j end register k false
+  seek-end q = record { decides = t; more = omega (arith, lent .some) }
 
-      pub list-turn : (list′ : List ℕ) (at′ : ℕ) → at′ ≡ cond marked (at + 1) at → list′ ≡ cond marked (set list at (j + i)) list
-          → Listing table sets m j list₀ list′ word′ at′ (i + 1)
-      list-turn list′ at′ a l =
-          let y : j + i + m - 3 + 1 ≡ j + (i + 1) + m - 3 = omega arith in
-          let f : Filters table sets m word′ (j + (i + 1)) =
-          record { start = t .filters .start; before = omega (arith, t .filters .before); runs = rw y at taken } in
-          pick marked is-candidate a l f
-        where
-          pick : (b : Bool) → candidate wordBits table sets m (j + i) ≡ b → at′ ≡ cond b (at + 1) at → list′ ≡ cond b (set list at (j + i)) list
-              → Filters table sets m word′ (j + (i + 1)) → Listing table sets m j list₀ list′ word′ at′ (i + 1)
-          pick true k a l f =
-              let h : hits (candidate wordBits table sets m) (count j (i + 1)) ≡ hits (candidate wordBits table sets m) (count j i) ++ ((j + i) ∷ []) =
-              hits-more (candidate wordBits table sets m) j i ∙ rw k in
-              record {
-                listed =
-                    rw h (l ∙ rw (t .listed) (over-more list₀ (hits (candidate wordBits table sets m) (count j i)) 0 at (j + i) (sym (t .counted))
-                    (omega (arith, list-at))));
-                counted = rw h (omega (arith, a, t .counted, length-append (hits (candidate wordBits table sets m) (count j i)) ((j + i) ∷ [])));
-                filters = f;
-              }
-          pick false k a l f =
-              let h : hits (candidate wordBits table sets m) (count j (i + 1)) ≡ hits (candidate wordBits table sets m) (count j i) =
-              hits-more (candidate wordBits table sets m) j i ∙ rw k in
-              record { listed = rw h (l ∙ t .listed); counted = rw h (a ∙ t .counted); filters = f }
+  module _ (here : k < end) {register′ : ℕ} (e : register′ ≡ step wordBits register (entryWord table sets (k + m - 3)))
+      {marked : Bool} (d : marked ≡ eqb (bit register′ ((m - 2) % wordBits)) 0) where
+    -- column k is a candidate, or none
+    pub seek-found : marked ≡ true → Seeks table sets m j end register′ (k + 1) true
+    seek-found b =
+        let z : k + 1 - 1 ≡ k = omega arith in
+        record {
+          decides = rw z (rw b at (decide-append t (decide-one lent (t .goes-on) here e d)));
+          more = omega (arith, t .on);
+        }
+
+    pub seek-on : marked ≡ false → Decides table sets m j end register′ (k + 1) []
+    seek-on b = rw b at (decide-append t (decide-one lent (t .goes-on) here e d))
+
+-- ---- candidates are listed: those from column j up to column k
+
+pub record Listing (table sets : List ℕ) (m j end : ℕ) (list₀ list : List ℕ) (register k at : ℕ) : Type 0 where
+  pub candidates : List ℕ
+  pub decides : Decides table sets m j end register k candidates
+  pub counted : at ≡ length candidates
+  pub listed : list ≡ over list₀ candidates
+
+module _ {table sets : List ℕ} {m j end : ℕ} {list₀ : List ℕ} where
+  pub list-start : {register : ℕ} → j ≤ end → Filters table sets m register j → Listing table sets m j end list₀ list₀ register j 0
+  list-start q f = record { candidates = []; decides = decide-start q f; counted = refl; listed = refl }
+
+  module _ {list : List ℕ} {register k at : ℕ} (t : Listing table sets m j end list₀ list register k at) where
+    -- no more are listed than were decided
+    pub list-at : at ≤ k - j
+    list-at =
+        let keep : ℕ → Bool = candidate wordBits table sets m in
+        omega (arith, t .counted, ap length (t .decides .these), hits-le keep (count j (k - j)), count-length j (k - j))
+
+    pub list-long : at ≤ length list₀ → length list ≡ length list₀
+    list-long h = ap length (t .listed) ∙ over-length list₀ (t .candidates) (omega (arith, t .counted))
+
+    pub list-turn : {register′ k′ : ℕ} {marked : Bool} → Seeks table sets m k end register′ k′ marked → at < length list₀
+        → {list′ : List ℕ} {at′ : ℕ} → at′ ≡ cond marked (at + 1) at → list′ ≡ cond marked (set list at (k′ - 1)) list
+        → Listing table sets m j end list₀ list′ register′ k′ at′
+    list-turn {register′} {k′} {marked} s h {list′} {at′} a l = pick marked (decide-append (t .decides) (s .decides)) a l
+      where
+        pick : (b : Bool) → Decides table sets m j end register′ k′ (t .candidates ++ cond b ((k′ - 1) ∷ []) []) → at′ ≡ cond b (at + 1) at
+            → list′ ≡ cond b (set list at (k′ - 1)) list → Listing table sets m j end list₀ list′ register′ k′ at′
+        pick true d a l =
+            record {
+              candidates = t .candidates ++ ((k′ - 1) ∷ []);
+              decides = d;
+              counted = omega (arith, a, t .counted, length-append (t .candidates) ((k′ - 1) ∷ []));
+              listed = l ∙ rw (t .listed) (over-more list₀ (t .candidates) 0 at (k′ - 1) (sym (t .counted)) h);
+            }
+        pick false d a l =
+            record { candidates = t .candidates; decides = rw append-nil at d; counted = a ∙ t .counted; listed = l ∙ t .listed }
+
+    -- the end is reached, or as many are listed as are wanted
+    pub list-end : {wanted : ℕ} → j < end → 1 ≤ wanted → (ltb k end && ltb at wanted) ≡ false → at ≤ length list₀
+        → ListsCandidates table sets m j end list₀ register k at list
+    list-end {wanted} some one stop few =
+        record {
+          candidates = t .candidates;
+          decides = t .decides;
+          more = step (ltb k end) refl stop;
+          counted = t .counted;
+          few = few;
+          listed = t .listed;
+        }
+      where
+        step : (b : Bool) → ltb k end ≡ b → (b && ltb at wanted) ≡ false → j < k
+        step true e q = omega (arith, list-at, ltb-false at wanted q)
+        step false e q = omega (arith, ltb-false k end e)

@@ -1,98 +1,86 @@
--- `walking::register::list_candidates` meets its contract. The invariant is `Listing`: the candidates so far are listed. The measure is the
--- columns left. Assumes nothing.
+-- `walking::register::list_candidates` meets its contract. The invariant is `Listing`: the candidates before column j are listed. The measure
+-- is the columns left. Assumes nothing.
 use borrow.Author.Needs.{needs}
-use Prim.Native.Nat.{_-_, _≤_, zero-le}
+use borrow.Author.Tests.{ltb-true}
 use native.Mathlib.Omega.{arith}
-use Rattle.walking.proofs.register.Laws.{Listing, list-start, list-at, list-long, list-turn, list-end}
+use mathlib.Core.Path.{_≡_}
+use mathlib.Core.Bool.{Bool, true, false, cond}
+use Prim.Native.Nat.{ℕ, _+_, _-_, _≤_, _<_, zero-le}
+use lib.Dec.{ltb}
+use Rattle.walking.proofs.alive.Laws.{both-left, both-right}
+use Rattle.walking.proofs.register.Laws.{lent-on, Listing, list-start, list-at, list-long, list-turn, list-end}
 use Rattle.walking.proofs.register.list_candidates.Statement.{statement}
 use Rattle.walking.proofs.register.list_candidates.Tie as tie
 
 abbrev Inv-loop : tie.InvT-loop
-Inv-loop register sets table m first many list₀ top word₀ count₀ i₀ list word count i =
-    Listing table sets m first list₀ list word count i × (i ≤ many)
+Inv-loop register sets table m first end wanted list₀ word₀ j₀ count₀ list word j count =
+    Listing table sets m first end list₀ list word j count × (count ≤ wanted)
 
 abbrev μ-loop : tie.MeasureT-loop
-μ-loop register sets table m first many list₀ top word₀ count₀ i₀ list word count i = many - i
+μ-loop register sets table m first end wanted list₀ word₀ j₀ count₀ list word j count = end - j
 
--- what is known at entry, from the loop
+-- what is known at entry, from the loop; a column is left, and a candidate is wanted
 abbrev start : tie.At-loop Inv-loop μ-loop → tie.Start Inv-loop μ-loop
 start c = c .before .before .before .before
 
-sub-top : tie.Need-sub-top Inv-loop μ-loop
-sub-top c = c .before .before .before .pre .0 .notes
+more : (c : tie.In-loop Inv-loop μ-loop) → c .before .loop .j < start (c .before) .args .end
+more c = ltb-true _ _ (both-left _ _ (c .loop-test .taken))
 
-cast-top : tie.Need-cast-top Inv-loop μ-loop
-cast-top c = let s = c .before .before .before in omega (arith, s .pre .0 .notes-most)
+fewer : (c : tie.In-loop Inv-loop μ-loop) → c .before .loop .count < start (c .before) .args .wanted
+fewer c = ltb-true _ _ (both-right (ltb (c .before .loop .j) (start (c .before) .args .end)) _ (c .loop-test .taken))
+
+-- one more at most is listed
+counted : (b : Bool) {at at′ wanted : ℕ} → at′ ≡ cond b (at + 1) at → at < wanted → at′ ≤ wanted
+counted true e h = omega (arith, e)
+counted false e h = omega (arith, e)
 
 loop-holds : tie.Need-loop-holds Inv-loop μ-loop
-loop-holds c = let s = c .before .before .before in (list-start _ _ _ _ _ _ (s .pre .1 .0), zero-le)
+loop-holds c = let s = c .before .before .before in (list-start (omega (arith, s .pre .0 .some)) (s .pre .1 .0), zero-le)
 
-add-taken : tie.Need-add-taken Inv-loop μ-loop
-add-taken c = let s = start (c .before) in omega (arith, c .loop-test .taken, s .pre .0 .to-last, s .pre .0 .sets-few)
+seek-requires : tie.Need-seek-requires Inv-loop μ-loop
+seek-requires c κs =
+    let t = c .before .loop .inv .0 .decides in
+    (lent-on (start (c .before) .pre .0) (t .on) (more c), t .goes-on)
 
-add-taken-2 : tie.Need-add-taken-2 Inv-loop μ-loop
-add-taken-2 c = let s = start (c .before) in omega (arith, c .loop-test .taken, s .pre .0 .to-last, s .pre .0 .sets-few)
-
-sub-taken : tie.Need-sub-taken Inv-loop μ-loop
-sub-taken c = let s = start (c .before) in omega (arith, s .pre .0 .notes, s .pre .0 .from-first)
-
-taken-requires : tie.Need-taken-requires Inv-loop μ-loop
-taken-requires c κs =
-    let s = start (c .before) in
-    (omega (arith, c .loop-test .taken, s .pre .0 .to-last, s .pre .0 .notes, s .pre .0 .from-first), (s .pre .0 .table-long, s .pre .0 .sets-small))
-
-marks-requires : tie.Need-marks-requires Inv-loop μ-loop
-marks-requires c κs = tt
-
-add-noted : tie.Need-add-noted Inv-loop μ-loop
-add-noted c =
-    let l = c .before .before .before in
-    let s = start (l .before) in
-    omega (arith, l .loop-test .taken, s .pre .0 .to-last, s .pre .0 .sets-few)
+sub-noted : tie.Need-sub-noted Inv-loop μ-loop
+sub-noted c = omega (arith, c .before .seek .ensures .more)
 
 cast-noted : tie.Need-cast-noted Inv-loop μ-loop
 cast-noted c =
-    let l = c .before .before .before in
-    let s = start (l .before) in
-    omega (arith, l .loop-test .taken, s .pre .0 .to-last, s .pre .0 .notes, s .pre .0 .sets-few)
+    let s = start (c .before .before .before) in
+    omega (arith, c .before .seek .ensures .decides .to-end, s .pre .0 .to-last, s .pre .0 .sets-few)
 
 noted-requires : tie.Need-noted-requires Inv-loop μ-loop
 noted-requires c κs =
-    let l = c .before .before .before in
+    let l = c .before .before in
     let s = start (l .before) in
-    let t = l .before .loop .inv in
-    omega (
-      arith,
-      list-at _ _ _ _ _ _ _ _ _ (t .0),
-      list-long _ _ _ _ _ _ _ _ _ (t .0)
-          (omega (arith, l .loop-test .taken, s .pre .1 .1)),
-      l .loop-test .taken,
-      s .pre .1 .1,
-    )
-
-add-i : tie.Need-add-i Inv-loop μ-loop
-add-i c = omega (arith, c .before .before .before .before .before .before .loop-test .taken)
+    omega (arith, fewer l, s .pre .1 .1 .1, list-long (l .before .loop .inv .0) (omega (arith, fewer l, s .pre .1 .1 .1)))
 
 loop-less : tie.Need-loop-less Inv-loop μ-loop
-loop-less c = omega (arith, c .before .before .before .before .before .before .loop-test .taken)
+loop-less c =
+    let k = c .before .before .before .before in
+    omega (arith, k .seek .ensures .more, k .seek .ensures .decides .to-end)
 
 loop-again : tie.Need-loop-again Inv-loop μ-loop
 loop-again c =
-    let l = c .before .before .before .before .before .before in
-    let s = start (l .before) in
-    let n = c .before .before .noted .ensures in
-    let q = s .pre .0 in (
-      list-turn _ _ _ _ _ _ _ _ _ (l .before .loop .inv .0) (q .from-first) (q .notes) (q .notes-most)
-          (omega (arith, l .loop-test .taken, s .pre .1 .1)) _ (c .before .before .before .before .before .taken .ensures)
-          _ (c .before .before .before .before .marks .ensures) _ _ (n .0) (n .1),
-      omega (arith, l .loop-test .taken),
+    let n = c .before .before in
+    let k = n .before .before in
+    let l = k .before in
+    let s = start (l .before) in (
+      list-turn (l .before .loop .inv .0) (k .seek .ensures) (omega (arith, fewer l, s .pre .1 .1 .1)) (n .noted .ensures .0) (n .noted .ensures .1),
+      counted (k .seek .result .marked) (n .noted .ensures .0) (fewer l),
     )
 
 same-length : tie.Need-same-length Inv-loop μ-loop
-same-length c = let s = start (c .before) in list-long _ _ _ _ _ _ _ _ _ (c .before .loop .inv .0) (omega (arith, c .before .loop .inv .1, s .pre .1 .1))
+same-length c =
+    let s = start (c .before) in
+    list-long (c .before .loop .inv .0) (omega (arith, c .before .loop .inv .1, s .pre .1 .1 .1))
 
 returns : tie.Need-returns Inv-loop μ-loop
-returns c = list-end _ _ _ _ _ _ _ _ _ (c .before .loop .inv .0) _ (omega (arith, c .before .loop .inv .1, c .loop-test .left))
+returns c =
+    let s = start (c .before) in
+    let i = c .before .loop .inv in
+    list-end (i .0) (s .pre .0 .some) (s .pre .1 .1 .0) (c .loop-test .left) (omega (arith, i .1, s .pre .1 .1 .1))
 
 pub list-candidates-spec : {M : Type 1} → statement M
 list-candidates-spec =
@@ -100,18 +88,11 @@ list-candidates-spec =
     (tie.spec
     Inv-loop
     μ-loop
-    sub-top
-    cast-top
     loop-holds
-    add-taken
-    add-taken-2
-    sub-taken
-    taken-requires
-    marks-requires
-    add-noted
+    seek-requires
+    sub-noted
     cast-noted
     noted-requires
-    add-i
     loop-less
     loop-again
     same-length

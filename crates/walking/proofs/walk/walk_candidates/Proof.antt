@@ -1,123 +1,89 @@
 -- `walking::walk::walk_candidates` meets its contract. The invariant is `Walking` with the candidates kept, that the register has taken every
 -- entry before the one that decides column j, and that the words in the ring are right. The measure is the columns left. Assumes nothing.
 use borrow.Author.Needs.{needs}
-use mathlib.Core.Path.{_≡_, refl, sym, ap, _∙_}
-use Prim.Native.Nat.{_+_, _-_, _*_, _≤_, zero-le}
+use mathlib.Core.Path.{_≡_, refl, sym, _∙_}
+use mathlib.Core.Bool.{_&&_, false}
+use Prim.Native.Nat.{_-_, _≤_, _<_, zero-le}
 use native.Mathlib.Omega.{arith}
+use lib.Dec.{ltb}
 use lib.ListN.{length}
-use borrow.Author.Tests.{leb-true, lt-leb}
-use mir.Syntax.{w16}
-use mir.Val.{toZ, ofZ}
-use mir.Facts.{toZ-ofZ}
+use borrow.Author.Tests.{ltb-true, le-ltb}
 use Rattle.theory.specs.Pages.{from}
-use Rattle.score.specs.Score.{columnsIn, scoreOf}
-use Rattle.asking.specs.Way.{span, codeOf}
-use Rattle.asking.specs.Codes.{codeGiven}
-use Rattle.walking.specs.Starts.{key, starts}
+use Rattle.score.specs.Score.{scoreOf}
 use Rattle.filter.specs.Limits.{wordBits}
+use Rattle.walking.specs.Starts.{key}
 use Rattle.walking.specs.Candidates.{candidate, quickStarts}
-use Rattle.walking.specs.Scan.{Filters}
-use Rattle.walking.specs.Walk.{Ready}
+use Rattle.walking.specs.Scan.{Lent, Filters}
+use Rattle.walking.specs.Walk.{endOf, listed}
 use Rattle.walking.specs.Alive.{Cached}
-use Rattle.walking.proofs.Answers.{accepted-ready, asked-sets, asked-small, asked-lent, plain-code}
+use Rattle.walking.proofs.Answers.{accepted-ready, asked-sets, asked-small, asked-lent}
 use Rattle.walking.proofs.ring.Laws.{cached-none}
-use Rattle.walking.proofs.alive.Laws.{both-left}
+use Rattle.walking.proofs.alive.Laws.{both-left, both-right}
 use Rattle.walking.proofs.register.Laws.{warmed-filters}
-use Rattle.walking.proofs.walk.Walking.{Walking, quick-start, walk-asks, walk-bound, walk-turn, walk-over}
-use Rattle.walking.proofs.walk.Walking.{candidates-front, candidates-few, candidates-long}
+use Rattle.walking.proofs.walk.Walking.{Walking, spotKey, begun-key, begun-first, quick-start, turn-asks, turn-bound, turn-on, walk-over}
+use Rattle.walking.proofs.walk.Walking.{candidates-long, candidates-turn}
 use Rattle.walking.proofs.walk.walk_candidates.Statement.{statement}
 use Rattle.walking.proofs.walk.walk_candidates.Tie as tie
 
 abbrev Inv-loop : tie.InvT-loop
-Inv-loop cells h theme way sets table columns₀ shifts₀ n m ring₀ list₀ j₀ code₀ found₀ looks₀ register₀ columns shifts ring list j code found looks register =
+Inv-loop cells h theme way sets table columns₀ shifts₀ end m spot₀ j₀ looks₀ register₀ ring₀ list₀ columns shifts spot j looks register ring list =
     Walking (candidate wordBits table sets (length theme)) way cells h theme
-    (from key (j₀ * 256 + code₀) (quickStarts wordBits way (scoreOf cells h) theme table sets))
-    columns₀ shifts₀ columns shifts j code found looks
-    × Filters table sets (length theme) register j × Cached way cells h ring × (length list ≡ 64) × (j ≤ n + 1)
+    (from key (spotKey spot₀) (quickStarts wordBits way (scoreOf cells h) theme table sets)) columns₀ shifts₀ columns shifts spot looks
+    × (j ≡ spot .column .0) × Filters table sets (length theme) register j × Cached way cells h ring × (length list ≡ listed)
 
 abbrev μ-loop : tie.MeasureT-loop
-μ-loop cells h theme way sets table columns₀ shifts₀ n m ring₀ list₀ j₀ code₀ found₀ looks₀ register₀ columns shifts ring list j code found looks register =
-    n + 1 - j
+μ-loop cells h theme way sets table columns₀ shifts₀ end m spot₀ j₀ looks₀ register₀ ring₀ list₀ columns shifts spot j looks register ring list =
+    end - j
 
--- what is known at entry, and what the loop rests on
+-- what is known at entry, and from the loop on
 abbrev start : tie.At-loop Inv-loop μ-loop → tie.Start Inv-loop μ-loop
-start c = c .before .before .before .before .before .before .before .before .before .before .before .before
+start c = c .before .before .before .before .before .before .before .before .before .before .before
 
-abbrev ready : (c : tie.At-loop Inv-loop μ-loop) → Ready (start c .args .cells .now) (start c .args .h) (start c .args .theme .now)
-ready c = accepted-ready (start c .pre .plain .accepted)
+abbrev entered : tie.After-struct-known Inv-loop μ-loop → tie.Start Inv-loop μ-loop
+entered c = c .before .before .before .before .before .before .before .before
 
-n-is : (c : tie.At-loop Inv-loop μ-loop) → c .before .before .before .before .before .before .columns-in .result ≡ columnsIn (start c .args .cells .now) (start c .args .h)
-n-is c = c .before .before .before .before .before .before .columns-in .ensures
+abbrev at-loop : tie.After-some-of Inv-loop μ-loop → tie.At-loop Inv-loop μ-loop
+at-loop c = c .before .before .before .before
 
-abbrev turn : tie.After-struct-known2 Inv-loop μ-loop → tie.After-some-of Inv-loop μ-loop
-turn c = c .before .before .before .before .before .before .before .before .before .before .before .before .before .before
+abbrev listing : tie.After-ring Inv-loop μ-loop → tie.After-list-candidates Inv-loop μ-loop
+listing c = c .before .before .before .before .before .before
 
--- the bookmark's code
-coded : (c : tie.After-code-of Inv-loop μ-loop)
-    → let s = c .before .before .before .before .before .before .before .before .before .args in (c .code-of .result ≡ codeOf (s .way)
-    (s .bookmark .shift)) × (c .code-of .result ≤ span (s .way))
-coded c =
-    let s = c .before .before .before .before .before .before .before .before .before in
-    let z : toZ w16 (ofZ w16 (s .args .bookmark .shift)) ≡ s .args .bookmark .shift =
-    toZ-ofZ {w = w16} (record { sfits = c .before .struct-told .given .1 .0 .1 }) in
-    plain-code _ _ _ _ _ _ _ (s .pre .plain) _ (c .code-of .ensures ∙ ap (codeGiven (s .args .way)) z)
+abbrev tried : tie.After-struct-known4 Inv-loop μ-loop → tie.After-walk-along Inv-loop μ-loop
+tried c = c .before .before .before .before .before
 
--- a column is left, and how many are listed
-fits : (c : tie.In-loop Inv-loop μ-loop) → c .before .loop .j + length
-    (start (c .before) .args .theme .now) ≤ c .before .before .before .before .before .before .before .columns-in .result + 1
-fits c = leb-true _ _ (both-left _ _ (c .loop-test .taken))
+end-of-requires : tie.Need-end-of-requires Inv-loop μ-loop
+end-of-requires c κs = accepted-ready (c .before .before .before .before .before .pre .plain .accepted)
 
-some : (c : tie.After-some-of Inv-loop μ-loop) → let l = c .before .before in
-    l .loop .j + c .some-of .result + length (start l .args .theme .now) ≤ columnsIn (start l .args .cells .now) (start l .args .h) + 2
-some c = omega (arith, c .some-of .ensures .1, fits (c .before), n-is (c .before .before))
-
-columns-in-requires : tie.Need-columns-in-requires Inv-loop μ-loop
-columns-in-requires c κs = tt
+begin-requires : tie.Need-begin-requires Inv-loop μ-loop
+begin-requires c κs = tt
 
 cast-j : tie.Need-cast-j Inv-loop μ-loop
 cast-j c = search needs
 
-code-of-requires : tie.Need-code-of-requires Inv-loop μ-loop
-code-of-requires c κs = tt
-
-add-if1 : tie.Need-add-if1 Inv-loop μ-loop
-add-if1 c =
-    let s = c .before .before .before .before .before .before .before .before .before in
-    omega (arith, c .before .before .before .columns-in .ensures, s .pre .plain .accepted .columns-few)
-
-add-if1-2 : tie.Need-add-if1-2 Inv-loop μ-loop
-add-if1-2 c =
-    let s = c .before .before .before .before .before .before .before .before .before in
-    let p = s .pre .plain in
-    omega (arith, p .accepted .notes-few, c .before .before .before .columns-in .ensures, p .marked .to-end, p .accepted .columns-few)
-
 returns : tie.Need-returns Inv-loop μ-loop
 returns c =
-    let e = c .before in
-    let s = e .before .before .before .before .before .before .before .before .before in
-    let p = s .pre .plain in
-    let t =
-    quick-start _ _ _ _ _ _ (accepted-ready (p .accepted)) _ _ (p .marked .from-first) (coded e .1) (p .same-room) (s .args .table .now)
-    (s .args .sets .now) in
-    rw (← (coded e .0)) (walk-over _ _ _ _ _ _ _ _ (accepted-ready (p .accepted)) _ _ _ _ _ _ t _ (e .before .before .before .columns-in .ensures)
-    (rw (lt-leb _ _ (c .if1 .taken))))
+    let k = c .before in
+    let b = k .before in
+    let p = entered k .pre .plain in
+    let t = quick-start p (b .begin .ensures) (entered k .args .table .now) (entered k .args .sets .now) in
+    rw (← (begun-key p (b .begin .ensures))) (walk-over t refl (b .before .end-of .ensures) (rw (le-ltb _ _ (c .if1 .taken))))
 
 sub-warmed : tie.Need-sub-warmed Inv-loop μ-loop
-sub-warmed c = c .before .before .before .before .before .before .before .before .before .before .pre .plain .marked .from-first
+sub-warmed c = let s = c .before in begun-first (entered s .pre .plain) (s .before .begin .ensures)
 
 sub-warmed-2 : tie.Need-sub-warmed-2 Inv-loop μ-loop
-sub-warmed-2 c = c .before .before .before .before .before .before .before .before .before .before .pre .plain .accepted .notes-some
+sub-warmed-2 c = entered (c .before) .pre .plain .accepted .notes-some
 
 warmed-requires : tie.Need-warmed-requires Inv-loop μ-loop
 warmed-requires c κs =
-    let s = c .before .before .before .before .before .before .before .before .before .before in (
+    let k = c .before in
+    let s = entered k in (
       omega (
         arith,
         c .if1 .left,
-        c .before .before .before .before .columns-in .ensures,
-        asked-sets
-            (s .pre),
-        s .pre .plain .marked .from-first,
+        k .before .before .end-of .ensures,
+        asked-sets (s .pre),
+        begun-first (s .pre .plain) (k .before .begin .ensures),
         s .pre .plain .accepted .notes-some,
       ),
       (s .pre .table-long, asked-small (s .pre)),
@@ -125,35 +91,31 @@ warmed-requires c κs =
 
 loop-holds : tie.Need-loop-holds Inv-loop μ-loop
 loop-holds c =
-    let e = c .before .before in
-    let s = e .before .before .before .before .before .before .before .before .before in
-    let p = s .pre .plain in (
-      quick-start _ _ _ _ _ _ (accepted-ready (p .accepted)) _ _ (p .marked .from-first) (coded e .1) (p .same-room) _ _,
-      warmed-filters
-          _ _ _ _ _ (p .accepted .notes-some) (p .marked .from-first) (c .warmed .ensures),
+    let k = c .before .before in
+    let s = entered k in
+    let b = k .before .begin .ensures in (
+      quick-start (s .pre .plain) b _ _,
+      refl,
+      warmed-filters _ _ _ _ _ (s .pre .plain .accepted .notes-some) (begun-first (s .pre .plain) b) (c .warmed .ensures),
       cached-none _ _ _,
       refl,
-      omega
-          (arith, p .marked .to-end, c .before .before .before .before .before .columns-in .ensures),
     )
 
-add-loop : tie.Need-add-loop Inv-loop μ-loop
-add-loop c = omega (arith, c .loop .inv .4, n-is c, ready c .columns-most, ready c .notes-most)
+-- a column is left, and room
+left : (c : tie.Then2 Inv-loop μ-loop) → c .before .before .loop .j < c .before .before .before .before .before .before .before .end-of .result
+left c = ltb-true _ _ (both-left _ _ (c .if2 .taken))
 
-add-loop-2 : tie.Need-add-loop-2 Inv-loop μ-loop
-add-loop-2 c = omega (arith, n-is c, ready c .columns-most)
-
-add-some-of : tie.Need-add-some-of Inv-loop μ-loop
-add-some-of c = omega (arith, n-is (c .before), ready (c .before) .columns-most)
+room : (c : tie.Then2 Inv-loop μ-loop) → c .before .before .loop .spot .found < length (c .before .before .loop .columns)
+room c =
+    let l = c .before .before in
+    let e = l .before .before .before .before .before in
+    ltb-true _ _ (both-right (ltb (l .loop .j) (e .end-of .result)) _ (c .if2 .taken))
 
 sub-some-of : tie.Need-sub-some-of Inv-loop μ-loop
-sub-some-of c = omega (arith, fits c)
-
-sub-some-of-2 : tie.Need-sub-some-of-2 Inv-loop μ-loop
-sub-some-of-2 c = omega (arith, fits c)
+sub-some-of c = omega (arith, room (c .before))
 
 some-of-requires : tie.Need-some-of-requires Inv-loop μ-loop
-some-of-requires c κs = omega (arith, fits c)
+some-of-requires c κs = omega (arith, room (c .before))
 
 slice-aggregate-list-candidates : tie.Need-slice-aggregate-list-candidates Inv-loop μ-loop
 slice-aggregate-list-candidates c = search needs
@@ -161,11 +123,10 @@ slice-aggregate-list-candidates c = search needs
 list-candidates-requires : tie.Need-list-candidates-requires Inv-loop μ-loop
 list-candidates-requires c κs =
     let a = c .before in
-    let l = a .before .before in
-    (asked-lent (start l .pre) _ _ (l .loop .inv .0 .first) (some a), (l .loop .inv .1, omega (arith, a .some-of .ensures .2, l .loop .inv .3)))
-
-cast-t35 : tie.Need-cast-t35 Inv-loop μ-loop
-cast-t35 c = let a = c .before .before .before in omega (arith, some a, ready (a .before .before) .columns-most)
+    let l = at-loop a in
+    let e = l .before .before .before .before .before .end-of .ensures in
+    let lent = asked-lent (start l .pre) (omega (arith, l .loop .inv .0 .first, l .loop .inv .1)) (left (a .before .before)) e in
+    (lent, (l .loop .inv .2, (a .some-of .ensures .0, omega (arith, a .some-of .ensures .2, l .loop .inv .4))))
 
 sub-walk-along : tie.Need-sub-walk-along Inv-loop μ-loop
 sub-walk-along c = zero-le
@@ -175,69 +136,66 @@ part-walk-along-start c = search needs
 
 part-walk-along-end : tie.Need-part-walk-along-end Inv-loop μ-loop
 part-walk-along-end c =
-    let a = c .before .before .before .before in
-    let w = c .before .before .list-candidates .ensures in
-    let q = candidates-long w (omega (arith, a .some-of .ensures .2, a .before .before .loop .inv .3)) in
-    omega (arith, q, candidates-few w, a .some-of .ensures .2, a .before .before .loop .inv .3)
+    let l = c .before .before in
+    let i = at-loop (l .before .before) .loop .inv in
+    omega (arith, candidates-long (l .list-candidates .ensures), l .list-candidates .ensures .few, i .4)
 
 slice-aggregate-walk-along : tie.Need-slice-aggregate-walk-along Inv-loop μ-loop
 slice-aggregate-walk-along c = search needs
 
 walk-along-requires : tie.Need-walk-along-requires Inv-loop μ-loop
 walk-along-requires c κs =
-    let a = c .before .before .before .before .before .before .before .before in
-    let l = a .before .before in
-    let e = candidates-front (c .before .before .before .before .before .before .list-candidates .ensures) in
-    (ready l, (walk-asks _ _ _ _ _ _ _ _ (ready l) _ _ _ _ _ _ (l .loop .inv .0) _ (a .some-of .ensures .0) (some a) _ e, l .loop .inv .2))
+    let l = listing c in
+    let i = at-loop (l .before .before) in
+    let u = candidates-turn (l .list-candidates .ensures) (i .loop .inv .0) (i .loop .inv .1) (i .before .before .before .before .before .end-of .ensures) in
+    (i .loop .inv .0 .ready, (turn-asks u, i .loop .inv .3))
 
 add-looks : tie.Need-add-looks Inv-loop μ-loop
 add-looks c =
-    let a = turn c in
-    let l = a .before .before in
-    let e = candidates-front (c .before .before .before .before .before .before .before .before .before .before .before .before .list-candidates .ensures) in
-    record {
-      fits = walk-bound _ _ _ _ _ _ _ _ (ready l) _ _ _ _ _ _ (l .loop .inv .0) _ (a .some-of .ensures .0) (some a) _ e
-          _ _ _ _ (c .before .before .before .before .before .walk-along .ensures .0);
-    }
+    let w = tried c in
+    let l = listing (w .before) in
+    let i = at-loop (l .before .before) in
+    let u = candidates-turn (l .list-candidates .ensures) (i .loop .inv .0) (i .loop .inv .1) (i .before .before .before .before .before .end-of .ensures) in
+    record { fits = turn-bound u (w .walk-along .ensures .0) }
 
-add-j : tie.Need-add-j Inv-loop μ-loop
-add-j c =
-    let a = turn c in
-    omega (arith, some a, ready (a .before .before) .columns-most)
+go-on-requires : tie.Need-go-on-requires Inv-loop μ-loop
+go-on-requires c κs =
+    let l = listing (tried c .before) in
+    let i = at-loop (l .before .before) in
+    omega (arith, l .list-candidates .ensures .decides .to-end, i .before .before .before .before .before .end-of .ensures, i .loop .inv .0 .ready .columns-most)
 
 loop-less : tie.Need-loop-less Inv-loop μ-loop
 loop-less c =
-    let a = turn c in
-    omega (arith, a .some-of .ensures .0, fits (a .before), ready (a .before .before) .notes)
+    let l = listing (tried (c .before) .before) in
+    let d = l .list-candidates .ensures in
+    omega (arith, d .more, d .decides .to-end)
 
 loop-again : tie.Need-loop-again Inv-loop μ-loop
 loop-again c =
-    let a = turn c in
-    let l = a .before .before in
-    let w = c .before .before .before .before .before .before .before .before .before .before .before .before .list-candidates .ensures in
-    let t = c .before .before .before .before .before .walk-along .ensures in
-    let more = walk-turn _ _ _ _ _ _ _ _ (ready l) _ _ _ _ _ _ (l .loop .inv .0) _ (a .some-of .ensures .0) (some a) _ (candidates-front w) _ _ _ _ (t .0) in
-    let long = candidates-long w (omega (arith, a .some-of .ensures .2, l .loop .inv .3)) in (
-      more,
-      w .goes-on,
-      t .1,
-      long ∙ l .loop .inv .3,
-      omega
-          (arith, some a, ready l .notes, n-is l),
+    let w = tried (c .before) in
+    let l = listing (w .before) in
+    let d = l .list-candidates .ensures in
+    let i = at-loop (l .before .before) in
+    let u = candidates-turn (l .list-candidates .ensures) (i .loop .inv .0) (i .loop .inv .1) (i .before .before .before .before .before .end-of .ensures) in (
+      rw (c .go-on .ensures) (turn-on u (w .walk-along .ensures .0)),
+      rw (c .go-on .ensures) refl,
+      d .decides .goes-on,
+      w .walk-along .ensures .1,
+      candidates-long d ∙ i .loop .inv .4,
     )
 
 same-length : tie.Need-same-length Inv-loop μ-loop
-same-length c = c .before .loop .inv .0 .taking .long
+same-length c = c .before .before .loop .inv .0 .taking .long
 
 same-length-2 : tie.Need-same-length-2 Inv-loop μ-loop
-same-length-2 c = c .before .loop .inv .0 .taking .long-shifts ∙ sym (start (c .before) .pre .plain .same-room)
+same-length-2 c = c .before .before .loop .inv .0 .taking .long-shifts ∙ sym (start (c .before .before) .pre .plain .same-room)
 
 returns-2 : tie.Need-returns-2 Inv-loop μ-loop
 returns-2 c =
-    let l = c .before in
-    rw (← (coded (l .before .before .before) .0))
-    (walk-over _ _ _ _ _ _ _ _ (ready l) _ _ _ _ _ _ (l .loop .inv .0)
-    _ (n-is l) (c .loop-test .left))
+    let l = c .before .before in
+    let b = l .before .before .before .before in
+    rw (← (begun-key (start l .pre .plain) (b .begin .ensures)))
+    (walk-over (l .loop .inv .0) (l .loop .inv .1) (b .before .end-of .ensures) (c .if2 .left))
 
 pub walk-candidates-spec : {M : Type 1} → statement M
 walk-candidates-spec =
@@ -245,32 +203,25 @@ walk-candidates-spec =
     (tie.spec
     Inv-loop
     μ-loop
-    columns-in-requires
+    end-of-requires
+    begin-requires
     cast-j
-    code-of-requires
-    add-if1
-    add-if1-2
     returns
     sub-warmed
     sub-warmed-2
     warmed-requires
     loop-holds
-    add-loop
-    add-loop-2
-    add-some-of
     sub-some-of
-    sub-some-of-2
     some-of-requires
     slice-aggregate-list-candidates
     list-candidates-requires
-    cast-t35
     sub-walk-along
     part-walk-along-start
     part-walk-along-end
     slice-aggregate-walk-along
     walk-along-requires
     add-looks
-    add-j
+    go-on-requires
     loop-less
     loop-again
     same-length
