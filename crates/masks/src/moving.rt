@@ -2,8 +2,8 @@
 
 use crate::columns::word_of;
 use crate::word::Word;
-use asking::Way;
 use score::Pitch;
+use ways::Way;
 ghost use mathlib.Core.Path.{_≡_};
 ghost use Prim.Native.Nat.{_*_, _/_, _%_, _^_, _<_};
 ghost use Rattle.masks.specs.Masks.{value, columnWord, turnedWord, movedWord};

@@ -21,17 +21,17 @@ use Rattle.score.specs.Refusals.{Row, judge, verdict}
 use Rattle.score.proofs.Columns.{columns-whole}
 use Rattle.score.proofs.Judged.{Clear, judge-clear, judge-clear-of, judge-both, verdict-clear}
 use Rattle.score.proofs.Judging.{judge-away}
+use Rattle.ways.specs.declared.way.Way.{Way}
+use Rattle.ways.specs.declared.bookmark.Bookmark.{Bookmark}
+use Rattle.ways.specs.Way.{span, codeOf}
+use Rattle.ways.specs.Bookmarks.{keyOf}
+use Rattle.ways.specs.Codes.{codeGiven}
+use Rattle.ways.proofs.Shifts.{code-le}
+use Rattle.ways.proofs.Coding.{code-given}
 use Rattle.asking.specs.Limits.{mostNotes}
-use Rattle.asking.specs.declared.way.Way.{Way}
-use Rattle.asking.specs.declared.bookmark.Bookmark.{Bookmark}
-use Rattle.asking.specs.Way.{span, codeOf}
-use Rattle.asking.specs.Bookmarks.{keyOf}
 use Rattle.asking.specs.Asking.{Accepted, AcceptedSets, PlainAsks, QuickAsks}
 use Rattle.asking.specs.Refusals.{plainRows, quickRows}
 use Rattle.asking.proofs.Rows.{plain-clear, quick-clear}
-use Rattle.asking.specs.Codes.{codeGiven}
-use Rattle.asking.proofs.Shifts.{code-le}
-use Rattle.asking.proofs.Coding.{code-given}
 use Rattle.filter.specs.Limits.{wordBits}
 use Rattle.filter.specs.Table.{themeTable}
 use Rattle.walking.specs.declared.walked.Walked.{Walked}

@@ -12,11 +12,11 @@ use Rattle.theory.specs.Lists.{over, count, count as numbers, first, lower}
 use Rattle.theory.specs.Pages.{pageHits, pageLooks, from}
 use Rattle.score.specs.declared.quantities.Pitch.{Pitch}
 use Rattle.score.specs.Score.{pitch, columnAt, column, columnsIn, scoreOf}
-use Rattle.asking.specs.declared.way.Way.{Way}
-use Rattle.asking.specs.declared.way.Way.the-variants.{Exact, Octave}
-use Rattle.asking.specs.declared.bookmark.Bookmark.{Bookmark}
-use Rattle.asking.specs.Way.{span, holds}
-use Rattle.asking.specs.Bookmarks.{keyOf}
+use Rattle.ways.specs.declared.way.Way.{Way}
+use Rattle.ways.specs.declared.way.Way.the-variants.{Exact, Octave}
+use Rattle.ways.specs.declared.bookmark.Bookmark.{Bookmark}
+use Rattle.ways.specs.Way.{span, holds}
+use Rattle.ways.specs.Bookmarks.{keyOf}
 use Rattle.filter.specs.Limits.{wordBits}
 use Rattle.score.specs.Score.{note}
 use Rattle.walking.specs.declared.walked.Spot.{Spot}

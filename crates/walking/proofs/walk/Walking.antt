@@ -19,8 +19,8 @@ use Rattle.theory.proofs.Pages.{hits-le}
 use Rattle.theory.proofs.Looks.{page-looks-le, sum-hits, sum-from}
 use Rattle.score.specs.Score.{columnAt, columnsIn, scoreOf}
 use Rattle.score.proofs.Columns.{column-le, score-length}
-use Rattle.asking.specs.declared.way.Way.{Way}
-use Rattle.asking.specs.Way.{span}
+use Rattle.ways.specs.declared.way.Way.{Way}
+use Rattle.ways.specs.Way.{span}
 use Rattle.walking.specs.Starts.{Place, key, starts, hit, looks}
 use Rattle.filter.specs.Limits.{wordBits}
 use Rattle.walking.specs.Candidates.{candidate, quickStarts}

@@ -11,8 +11,8 @@ use mir.Val.{toZ, ofZ}
 use mir.Facts.{toZ-ofZ}
 use Rattle.theory.specs.Pages.{from}
 use Rattle.score.specs.Score.{columnsIn, scoreOf}
-use Rattle.asking.specs.Way.{span, codeOf}
-use Rattle.asking.specs.Codes.{codeGiven}
+use Rattle.ways.specs.Way.{span, codeOf}
+use Rattle.ways.specs.Codes.{codeGiven}
 use Rattle.walking.specs.Starts.{key, starts}
 use Rattle.filter.specs.Limits.{wordBits}
 use Rattle.walking.specs.Candidates.{candidate, quickStarts}
