@@ -1,5 +1,2 @@
--- Laws of this crate's definitions: `Shifts` and `Coding` (codes and shifts), `Holding` (a column and a note), `Rows` (refusals).
-pub mod Shifts
-pub mod Holding
+-- Laws of this crate's definitions: `Rows` (refusals).
 pub mod Rows
-pub mod Coding

@@ -1,32 +1,29 @@
 -- A row of the table does not apply exactly where what it asks for is there: row by row, as plain facts, and then all the
 -- rows of a call. Assumes nothing.
-use mathlib.Core.Path.{_≡_, refl, sym, subst}
-use mathlib.Core.Bool.{Bool, true, false, not, _||_, true≢false}
+use mathlib.Core.Path.{_≡_, refl}
+use mathlib.Core.Bool.{Bool, false, not, _||_}
 use mathlib.Core.Logic.{_↔_}
 use mathlib.Core.List.{List, [], _∷_, _++_}
 use Prim.Native.Nat.{ℕ, zero, suc, _+_, _-_, _%_, _≤_}
 use native.Mathlib.Omega.{arith}
-use lib.Dec.{eqb, ltb, T}
+use lib.Dec.{eqb, ltb}
 use lib.IntN.{ℤ, pos, _+ℤ_}
 use lib.ListN.{length}
-use lib.Signed.{ltZ, _≤ℤ_, ltZ-no, ltZ-yes, clashℤ}
+use lib.Signed.{ltZ, _≤ℤ_}
 use borrow.Author.Tests.{eq-eqb, ne-eqb, eqb-true, eqb-false, le-ltb, ltb-false, not-false}
 use Rattle.score.specs.Limits.{mostTracks, mostColumns, tableWords}
 use Rattle.score.specs.Score.{columnsIn}
 use Rattle.score.specs.Refusals.{Row, row1, row2, row6}
+use Rattle.ways.specs.declared.way.Way.{Way}
+use Rattle.ways.specs.declared.bookmark.Bookmark.{Bookmark}
+use Rattle.ways.specs.Way.{Range, rangeOf}
 use Rattle.asking.specs.Limits.{mostNotes}
-use Rattle.asking.specs.declared.way.Way.{Way}
-use Rattle.asking.specs.declared.bookmark.Bookmark.{Bookmark}
-use Rattle.asking.specs.Way.{Range, rangeOf}
 use Rattle.asking.specs.Refusals.{row4, row8, row9, row10, requestRows, setsRows, pageRows, plainRows, quickRows}
 use Rattle.asking.specs.Asking.{Accepted, AcceptedSets, InRange, PageAsks, PlainAsks, QuickAsks}
 use Rattle.score.proofs.Judged.{Clear, clear-append, clear-split}
+use Rattle.ways.proofs.Coding.{neither, not-overZ}
 
 -- ---- tests that fail
-
-pub neither : (a b : Bool) {P Q : Type 0} → (a ≡ false) ↔ P → (b ≡ false) ↔ Q → ((a || b) ≡ false) ↔ (P × Q)
-neither true b p q = (λ e. absurd (true≢false e), λ f. p .1 (f .0))
-neither false b p q = (λ e. (p .0 refl, q .0 e), λ f. q .1 (f .1))
 
 not-over : (a b : ℕ) → (ltb a b ≡ false) ↔ (b ≤ a)
 not-over a b = (ltb-false a b, le-ltb a b)
@@ -37,13 +34,6 @@ not-zero (suc n) = (λ e. omega arith, λ h. ne-eqb (suc n) 0 (λ e. omega arith
 
 equal : (a b : ℕ) → (not (eqb a b) ≡ false) ↔ (a ≡ b)
 equal a b = (λ e. eqb-true a b (not-false (eqb a b) e), λ e. rw (eq-eqb a b e))
-
-pub not-overZ : (a b : ℤ) → (ltZ a b ≡ false) ↔ (b ≤ℤ a)
-not-overZ a b = (λ e. ltZ-no (subst (λ (t : Bool). T (not t)) (sym e) tt), λ h. step (ltZ a b) refl h)
-  where
-    step : (t : Bool) → ltZ a b ≡ t → b ≤ℤ a → t ≡ false
-    step true e h = clashℤ (ltZ-yes (subst T (sym e) tt)) h
-    step false e h = refl
 
 -- ---- row by row; rows 3, 5 and 7 say themselves that some entry is bad
 

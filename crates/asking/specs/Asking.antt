@@ -11,10 +11,10 @@ use Rattle.theory.specs.Lists.{some}
 use Rattle.score.specs.Limits.{mostTracks, mostColumns, tableWords}
 use Rattle.score.specs.Score.{columnsIn}
 use Rattle.score.specs.Refusals.{badCell, badSet}
-use Rattle.asking.specs.declared.way.Way.{Way}
-use Rattle.asking.specs.declared.bookmark.Bookmark.{Bookmark}
+use Rattle.ways.specs.declared.way.Way.{Way}
+use Rattle.ways.specs.declared.bookmark.Bookmark.{Bookmark}
+use Rattle.ways.specs.Way.{Range, rangeOf}
 use Rattle.asking.specs.Limits.{mostNotes}
-use Rattle.asking.specs.Way.{Range, rangeOf}
 use Rattle.asking.specs.Refusals.{badNote}
 
 -- ---- what is accepted

@@ -1,8 +1,5 @@
--- What a search is asked for: how it matches, where it goes on, what is turned away and what is then accepted. What a word means stands
--- beside how it is computed: `Holds` (in integers) is the published definition, `holds` (by codes) the method. That they agree is proved.
+-- What a search is asked for, in reading order: the limits of a theme, what is turned away and what is then accepted. How a
+-- search matches and where it goes on is said in `ways`.
 pub mod Limits
-pub mod Way
-pub mod Codes
-pub mod Bookmarks
 pub mod Refusals
 pub mod Asking

@@ -11,10 +11,10 @@ use Rattle.theory.specs.Lists.{some, first}
 use Rattle.score.specs.Limits.{highestPitch, tableWords}
 use Rattle.score.specs.Score.{columnsIn}
 use Rattle.score.specs.Refusals.{Row, row, row1, row2, row3, row6, row7}
-use Rattle.asking.specs.declared.way.Way.{Way}
-use Rattle.asking.specs.declared.bookmark.Bookmark.{Bookmark}
+use Rattle.ways.specs.declared.way.Way.{Way}
+use Rattle.ways.specs.declared.bookmark.Bookmark.{Bookmark}
+use Rattle.ways.specs.Way.{Range, rangeOf}
 use Rattle.asking.specs.Limits.{mostNotes}
-use Rattle.asking.specs.Way.{Range, rangeOf}
 
 -- 4: theme under 2 or over `most` notes, which a call names: 32
 abbrev pub row4 : (most : ℕ) (theme : List ℕ) → Row

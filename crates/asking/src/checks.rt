@@ -1,10 +1,7 @@
 // What a search turns away besides the score: the theme, the table, the room and the bookmark; the checks that calls share,
 // and those of each call in order. Every check is total, and says what the rows of the table of refusals say.
 
-use crate::bookmark::Bookmark;
-use crate::codes::out_of_range;
 use crate::limits::MOST_NOTES;
-use crate::way::Way;
 use score::Column;
 use score::HIGHEST_PITCH;
 use score::Refusal;
@@ -13,6 +10,9 @@ use score::Verdict;
 use score::check_score;
 use score::check_sets;
 use score::columns_in;
+use ways::Bookmark;
+use ways::Way;
+use ways::out_of_range;
 ghost use mathlib.Core.Path.{_≡_};
 ghost use mathlib.Core.Bool.{_||_};
 ghost use mathlib.Core.List.{_++_};
@@ -21,8 +21,8 @@ ghost use lib.Dec.{eqb, ltb};
 ghost use Rattle.theory.specs.Lists.{some, first};
 ghost use Rattle.score.specs.Score.{columnsIn};
 ghost use Rattle.score.specs.Refusals.{verdict};
+ghost use Rattle.ways.specs.Way.{rangeOf};
 ghost use Rattle.asking.specs.Limits.{mostNotes};
-ghost use Rattle.asking.specs.Way.{rangeOf};
 ghost use Rattle.asking.specs.Refusals.{badNote, row10, themeRows, requestRows, setsRows, pageRows};
 
 // Refusals 1 to 5, for a score and a theme of `most` notes at most.

@@ -18,11 +18,11 @@ use Rattle.score.specs.Sets.{sets as setsOf}
 use Rattle.preparing.specs.declared.sets.Preparation.the-variants.{Prepared, Refused as Away}
 use Rattle.preparing.specs.Preparing.{Filled, prepared}
 use Rattle.score.proofs.Columns.{columns-whole}
+use Rattle.ways.specs.declared.way.Way.{Way}
+use Rattle.ways.specs.declared.bookmark.Bookmark.{Bookmark}
 use Rattle.asking.specs.Limits.{mostNotes}
-use Rattle.asking.specs.declared.way.Way.{Way}
-use Rattle.asking.specs.declared.bookmark.Bookmark.{Bookmark}
 use Rattle.walking.specs.Starts.{Place, looks}
-use Rattle.asking.specs.Way.{rangeOf}
+use Rattle.ways.specs.Way.{rangeOf}
 use Rattle.asking.specs.Refusals.{row4, row5, row8, badNote, pageRows}
 use Rattle.filter.specs.Limits.{wordBits}
 use Rattle.filter.specs.Table.{themeTable}

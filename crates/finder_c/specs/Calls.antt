@@ -8,7 +8,7 @@ use lib.IntN.{ℤ, pos}
 use lib.ListN.{length}
 use Rattle.score.specs.Score.{columnAt}
 use Rattle.preparing.specs.Preparing.{prepared}
-use Rattle.asking.specs.declared.bookmark.Bookmark.{Bookmark}
+use Rattle.ways.specs.declared.bookmark.Bookmark.{Bookmark}
 use Rattle.paging.specs.Lent.{Lent}
 use Rattle.paging.specs.Page.{Leaf}
 use Rattle.search.specs.Page.{plainPage, quickPage, quickTable}

@@ -12,8 +12,8 @@ use lib.ListN.{length}
 use borrow.Author.Tests.{le-leb, lt-leb}
 use Rattle.theory.proofs.Marks.{marks-zero, marks-ones}
 use Rattle.score.specs.declared.quantities.Pitch.{Pitch}
-use Rattle.asking.specs.declared.way.Way.{Way}
-use Rattle.asking.specs.declared.way.Way.the-variants.{Exact, Octave}
+use Rattle.ways.specs.declared.way.Way.{Way}
+use Rattle.ways.specs.declared.way.Way.the-variants.{Exact, Octave}
 use Rattle.masks.specs.Masks.{lowCode}
 use Rattle.hits.specs.Writing.{codesOf, wordCodes, startCodes, fitting, Puts}
 

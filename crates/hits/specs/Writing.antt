@@ -10,8 +10,8 @@ use lib.ListN.{length}
 use lib.Seq.{sets as stored}
 use Rattle.theory.specs.Marks.{marks}
 use Rattle.score.specs.declared.quantities.Pitch.{Pitch}
-use Rattle.asking.specs.declared.way.Way.{Way}
-use Rattle.asking.specs.Way.{shiftOf}
+use Rattle.ways.specs.declared.way.Way.{Way}
+use Rattle.ways.specs.Way.{shiftOf}
 use Rattle.masks.specs.Masks.{lowCode}
 
 -- ---- the codes

@@ -1,12 +1,12 @@
 // What is written into the two lent buffers: from a place on the numbers of columns in one, and the shifts in the other. Nothing
 // is written where not everything fits.
 
-use asking::Way;
-use asking::shift_of;
 use masks::Word;
 use score::Column;
 use score::HIGHEST_PITCH;
 use score::Pitch;
+use ways::Way;
+use ways::shift_of;
 ghost use mathlib.Core.Path.{_≡_};
 ghost use Prim.Native.Nat.{_+_, _≤_};
 ghost use lib.Count.{ones};

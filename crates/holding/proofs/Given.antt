@@ -6,8 +6,8 @@ use Prim.Native.Nat.{ℕ, _≤_, _<_}
 use native.Mathlib.Omega.{arith}
 use borrow.Author.Tests.{lt-ltb, le-ltb}
 use Rattle.score.specs.declared.quantities.Pitch.{Pitch}
-use Rattle.asking.specs.declared.way.Way.{Way}
-use Rattle.asking.specs.Way.{span}
+use Rattle.ways.specs.declared.way.Way.{Way}
+use Rattle.ways.specs.Way.{span}
 use Rattle.holding.specs.Next.{nextCode, nextGiven}
 
 module _ (way : Way) (p : Pitch) (column : List ℕ) (x : ℕ) where

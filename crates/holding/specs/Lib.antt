@@ -1,2 +1,2 @@
--- The next code at which a column holds a note. When it holds one is `asking`'s word, `holds`.
+-- The next code at which a column holds a note. When it holds one is `ways`'s word, `holds`.
 pub mod Next

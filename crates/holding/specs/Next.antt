@@ -7,9 +7,9 @@ use lib.Dec.{leb, ltb}
 use Rattle.theory.specs.Lists.{count, first, lower}
 use Rattle.score.specs.declared.quantities.Pitch.{Pitch}
 use Rattle.score.specs.Score.{pitch}
-use Rattle.asking.specs.declared.way.Way.{Way}
-use Rattle.asking.specs.declared.way.Way.the-variants.{Exact, Octave}
-use Rattle.asking.specs.Way.{span, holds}
+use Rattle.ways.specs.declared.way.Way.{Way}
+use Rattle.ways.specs.declared.way.Way.the-variants.{Exact, Octave}
+use Rattle.ways.specs.Way.{span, holds}
 
 -- the first code from x on at which the column holds p, or the span where there is none
 unfoldable pub nextCode : Way → Pitch → (column : List ℕ) → (x : ℕ) → ℕ

@@ -1,15 +1,15 @@
 // Whether a column holds a note moved by a code's shift.
 
-use asking::Way;
 use score::HIGHEST_PITCH;
 use score::Pitch;
+use ways::Way;
 ghost use mathlib.Core.Path.{_≡_};
 ghost use Prim.Native.Nat.{_%_, _≤_};
 ghost use mathlib.Core.Bool.{_&&_};
 ghost use lib.Dec.{leb, eqb};
 ghost use Rattle.theory.specs.Lists.{some};
 ghost use Rattle.score.specs.Score.{pitches};
-ghost use Rattle.asking.specs.Way.{holds};
+ghost use Rattle.ways.specs.Way.{holds};
 
 // Whether the column has this pitch.
 fn has_pitch(column: &[u8], p: Pitch) -> bool

@@ -1,12 +1,12 @@
 // The first code, from one on, at which a column holds a note: in one pass over its cells.
 
-use asking::Way;
-use asking::span_of;
 use score::HIGHEST_PITCH;
 use score::Pitch;
+use ways::Way;
+use ways::span_of;
 ghost use mathlib.Core.Path.{_≡_};
 ghost use Prim.Native.Nat.{_≤_};
-ghost use Rattle.asking.specs.Way.{span};
+ghost use Rattle.ways.specs.Way.{span};
 ghost use Rattle.holding.specs.Next.{codeBetween, lowered, nextCode, nextGiven};
 
 // The code at which the note p comes to stand on the pitch t.

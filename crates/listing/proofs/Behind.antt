@@ -11,8 +11,8 @@ use lib.Dec.{eqb}
 use lib.ListN.{length, take, drop, length-append, take-append-drop}
 use Rattle.listing.specs.Limits.{inputRoom}
 use Rattle.score.specs.Limits.{mostTracks, mostColumns, highestPitch, restCell}
-use Rattle.asking.specs.declared.way.Way.{Way}
-use Rattle.asking.specs.declared.way.Way.the-variants.{Exact, Octave}
+use Rattle.ways.specs.declared.way.Way.{Way}
+use Rattle.ways.specs.declared.way.Way.the-variants.{Exact, Octave}
 use Rattle.words.specs.Words.{Read, got, bad}
 use Rattle.reading.specs.Reading.{themeWord, chordWord, chordLine, Theme, themeLine}
 use Rattle.reading.specs.Request.{Chords, all, above, onChord, chords, withChords, withTheme, meaning}

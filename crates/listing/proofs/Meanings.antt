@@ -9,7 +9,7 @@ use lib.Seq.{take-at}
 use Rattle.theory.specs.Lists.{join}
 use Rattle.asking.specs.Limits.{mostNotes}
 use Rattle.score.specs.Limits.{mostTracks, mostColumns, mostCells}
-use Rattle.asking.specs.declared.way.Way.{Way}
+use Rattle.ways.specs.declared.way.Way.{Way}
 use Rattle.reading.specs.declared.request.Reading.{Reading}
 use Rattle.reading.specs.declared.request.Reading.the-variants.{Bad}
 use Rattle.reading.specs.Request.{Meaning}

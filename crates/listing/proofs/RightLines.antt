@@ -13,8 +13,8 @@ use borrow.Author.Tests.{leb-true, eqb-true}
 use Rattle.theory.specs.Lists.{join}
 use Rattle.asking.specs.Limits.{mostNotes}
 use Rattle.score.specs.Limits.{mostTracks}
-use Rattle.asking.specs.declared.way.Way.{Way}
-use Rattle.asking.specs.declared.way.Way.the-variants.{Exact, Octave}
+use Rattle.ways.specs.declared.way.Way.{Way}
+use Rattle.ways.specs.declared.way.Way.the-variants.{Exact, Octave}
 use Rattle.words.specs.Words.{Read, got, bad, next, begins}
 use Rattle.reading.specs.Reading.{themeWord, exactWord, octaveWord, chordWord, fields, counted, tracksRight, chordLine, Theme, notesOf, themeLine}
 use Rattle.reading.specs.Request.{Chords, all, fault, above, onChord, chords}

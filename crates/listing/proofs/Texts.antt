@@ -12,8 +12,8 @@ use borrow.Author.Tests.{le-leb, ltb-true, ltb-false, ne-eqb, eq-eqb}
 use Rattle.theory.specs.Lists.{join}
 use Rattle.asking.specs.Limits.{mostNotes}
 use Rattle.score.specs.Limits.{mostTracks, mostColumns, highestPitch, restCell}
-use Rattle.asking.specs.declared.way.Way.{Way}
-use Rattle.asking.specs.declared.way.Way.the-variants.{Exact, Octave}
+use Rattle.ways.specs.declared.way.Way.{Way}
+use Rattle.ways.specs.declared.way.Way.the-variants.{Exact, Octave}
 use Rattle.telling.specs.Text.{decimal}
 use Rattle.words.specs.Words.{got, bad, next, front, isDigit, moreDigits, number, cell}
 use Rattle.reading.specs.Reading.{fields, tracksRight, chordLine, Theme, themeLine}

@@ -5,8 +5,8 @@ use Prim.Native.Nat.{ℕ}
 use Rattle.theory.specs.Bits.{bit, number as numberOf}
 use Rattle.theory.specs.Register.{step, register}
 use Rattle.score.specs.Sets.{apart, intervalSet}
-use Rattle.asking.specs.declared.way.Way.the-variants.{Exact}
-use Rattle.asking.specs.Way.{holds}
+use Rattle.ways.specs.declared.way.Way.the-variants.{Exact}
+use Rattle.ways.specs.Way.{holds}
 use Rattle.walking.specs.Starts.{hit, looks}
 use Rattle.filter.specs.Table.{word, themeTable}
 use Rattle.walking.specs.Candidates.{candidate}

@@ -10,8 +10,8 @@ use lib.ListN.{length}
 use Rattle.theory.specs.Lists.{join}
 use Rattle.asking.specs.Limits.{mostNotes}
 use Rattle.score.specs.Limits.{mostTracks, mostColumns, highestPitch, restCell}
-use Rattle.asking.specs.declared.way.Way.{Way}
-use Rattle.asking.specs.declared.way.Way.the-variants.{Exact, Octave}
+use Rattle.ways.specs.declared.way.Way.{Way}
+use Rattle.ways.specs.declared.way.Way.the-variants.{Exact, Octave}
 use Rattle.reading.specs.Reading.{themeWord, exactWord, octaveWord, chordWord, Theme}
 use Rattle.reading.specs.Request.{Request}
 use Rattle.telling.specs.Text.{decimal}

@@ -16,7 +16,7 @@ use Rattle.theory.proofs.Bits.{bit-lt, bit-high, number-unique}
 use Rattle.theory.proofs.Masks.{put-same, put-other, one-shl}
 use Rattle.preparing.specs.Classes.{classSet}
 use Rattle.preparing.proofs.ClassSets.{present, present-lt}
-use Rattle.asking.specs.declared.way.Way.the-variants.{Exact, Octave}
+use Rattle.ways.specs.declared.way.Way.the-variants.{Exact, Octave}
 use Rattle.masks.specs.Masks.{has, columnWord}
 
 -- a cell's bit in its half, as code writes it

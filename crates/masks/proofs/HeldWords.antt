@@ -16,10 +16,10 @@ use Rattle.theory.proofs.Bits.{bit-lt, bit-or, bit-shr, bit-mod, bit-high, bit-
 use Rattle.score.specs.declared.quantities.Pitch.{Pitch}
 use Rattle.preparing.proofs.ClassSets.{present, present-lt}
 use Rattle.preparing.proofs.Turning.{turned-bit}
-use Rattle.asking.specs.declared.way.Way.{Way}
-use Rattle.asking.specs.declared.way.Way.the-variants.{Exact, Octave}
-use Rattle.asking.specs.Way.{holds}
-use Rattle.asking.proofs.Holding.{holds-exact, holds-below, holds-above, holds-octave}
+use Rattle.ways.specs.declared.way.Way.{Way}
+use Rattle.ways.specs.declared.way.Way.the-variants.{Exact, Octave}
+use Rattle.ways.specs.Way.{holds}
+use Rattle.ways.proofs.Holding.{holds-exact, holds-below, holds-above, holds-octave}
 use Rattle.masks.specs.Masks.{value, width, has, columnWord, lowCode, heldWord, allStarts, turnedWord, shiftedWord, movedWord}
 use Rattle.masks.proofs.Halves.{value-few, value-full}
 

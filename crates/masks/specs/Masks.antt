@@ -10,9 +10,9 @@ use Rattle.theory.specs.Bits.{bit, number}
 use Rattle.theory.specs.Lists.{some}
 use Rattle.score.specs.declared.quantities.Pitch.{Pitch}
 use Rattle.score.specs.Score.{pitches}
-use Rattle.asking.specs.declared.way.Way.{Way}
-use Rattle.asking.specs.declared.way.Way.the-variants.{Exact, Octave}
-use Rattle.asking.specs.Way.{holds}
+use Rattle.ways.specs.declared.way.Way.{Way}
+use Rattle.ways.specs.declared.way.Way.the-variants.{Exact, Octave}
+use Rattle.ways.specs.Way.{holds}
 
 -- the number that has these halves: the lower 64 bits, and those above
 unfoldable pub value : (low high : ℕ) → ℕ

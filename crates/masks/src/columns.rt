@@ -1,8 +1,8 @@
 // The word of a column: in exact a bit is a pitch, in octave the twelve lowest are the classes.
 
 use crate::word::Word;
-use asking::Way;
 use preparing::classes_of;
+use ways::Way;
 ghost use mathlib.Core.Path.{_≡_};
 ghost use Prim.Native.Nat.{_%_, _^_};
 ghost use Rattle.masks.specs.Masks.{value, columnWord};

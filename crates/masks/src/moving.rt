@@ -1,8 +1,8 @@
 // A word moved by a note: in exact by its distance from the theme's first note, in octave round about by its class.
 
 use crate::word::Word;
-use asking::Way;
 use score::Pitch;
+use ways::Way;
 ghost use mathlib.Core.Path.{_≡_};
 ghost use Prim.Native.Nat.{_*_, _/_, _%_, _^_, _<_};
 ghost use Rattle.masks.specs.Masks.{value, turnedWord, movedWord};

@@ -1,6 +1,6 @@
 // A word of 128 bits, which the contracts say as one number.
 
-use asking::Way;
+use ways::Way;
 ghost use mathlib.Core.Path.{_≡_};
 ghost use Rattle.masks.specs.Masks.{value, width, allStarts};
 

@@ -8,7 +8,7 @@ use Prim.Native.Nat.{ℕ}
 use Rattle.score.specs.declared.refusals.Refusal.{Refusal}
 use Rattle.score.specs.Refusals.{Row, distinct, GivenBy, placeBy}
 use Rattle.score.proofs.Judged.{Clear, judge-clear, judge-clear-of, answer-refused, answer-kept}
-use Rattle.asking.specs.declared.bookmark.Bookmark.{Bookmark}
+use Rattle.ways.specs.declared.bookmark.Bookmark.{Bookmark}
 use Rattle.paging.specs.declared.page.Turn.{Turn}
 use Rattle.paging.specs.declared.page.Page.{Page}
 use Rattle.paging.specs.declared.page.Page.the-variants.{Turned, Refused}

@@ -12,14 +12,14 @@ use lib.Signed.{leZ, ltZ, _≤ℤ_, _<ℤ_, ltZ-yes, ltZ-no, ≤ℤ-refl, <ℤ-�
 use borrow.Author.Tests.{lt-ltb, le-ltb, eq-eqb}
 use Rattle.theory.proofs.Integers.{leℤ-trans, one-more-le, le-one-more}
 use Rattle.score.specs.Score.{columnAt}
-use Rattle.asking.specs.declared.way.Way.{Way}
-use Rattle.asking.specs.declared.way.Way.the-variants.{Exact, Octave}
-use Rattle.asking.specs.declared.bookmark.Pair.{Pair}
-use Rattle.asking.specs.declared.bookmark.Bookmark.{Bookmark}
-use Rattle.asking.specs.Way.{Range, shiftOf, codeOf}
-use Rattle.asking.specs.Bookmarks.{firstBookmark, afterPair, finishedBookmark, keyOf}
+use Rattle.ways.specs.declared.way.Way.{Way}
+use Rattle.ways.specs.declared.way.Way.the-variants.{Exact, Octave}
+use Rattle.ways.specs.declared.bookmark.Pair.{Pair}
+use Rattle.ways.specs.declared.bookmark.Bookmark.{Bookmark}
+use Rattle.ways.specs.Way.{Range, shiftOf, codeOf}
+use Rattle.ways.specs.Bookmarks.{firstBookmark, afterPair, finishedBookmark, keyOf}
+use Rattle.ways.proofs.Shifts.{code-shift, shift-code}
 use Rattle.asking.specs.Asking.{InRange}
-use Rattle.asking.proofs.Shifts.{code-shift, shift-code}
 use Rattle.paging.specs.Order.{Within, atOrAfter}
 use Rattle.paging.specs.Search.{Narrow}
 use Rattle.paging.specs.OnePage.{raised}

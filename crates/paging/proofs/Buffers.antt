@@ -7,7 +7,7 @@ use lib.IntN.{ℤ}
 use lib.ListN.{length, drop, length-map}
 use Rattle.theory.proofs.Lists.{over-length, over-behind}
 use Rattle.score.specs.Score.{columnAt}
-use Rattle.asking.specs.declared.bookmark.Pair.{Pair}
+use Rattle.ways.specs.declared.bookmark.Pair.{Pair}
 use Rattle.paging.specs.Lent.{Lent, Room, written, behind, readPairs}
 
 pub read-front : (pairs : List Pair) (columns : List ℕ) (shifts : List ℤ)

@@ -14,9 +14,9 @@ use Rattle.theory.proofs.Thin.{Thin, thin-filter, thin-hits, thin-looks}
 use Rattle.score.specs.Score.{columnAt}
 use Rattle.score.specs.Refusals.{Row}
 use Rattle.score.proofs.Judged.{judge-both}
-use Rattle.asking.specs.declared.bookmark.Pair.{Pair}
-use Rattle.asking.specs.declared.bookmark.Bookmark.{Bookmark}
-use Rattle.asking.specs.Bookmarks.{afterPair, finishedBookmark}
+use Rattle.ways.specs.declared.bookmark.Pair.{Pair}
+use Rattle.ways.specs.declared.bookmark.Bookmark.{Bookmark}
+use Rattle.ways.specs.Bookmarks.{afterPair, finishedBookmark}
 use Rattle.paging.specs.Lent.{Lent, written}
 use Rattle.paging.specs.Order.{atOrAfter}
 use Rattle.paging.specs.Search.{Search, Right, only, listed, allLooks, left, found}

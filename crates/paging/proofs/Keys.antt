@@ -13,13 +13,13 @@ use lib.Signed.{leZ, ltZ, _≤ℤ_, _<ℤ_}
 use borrow.Author.Tests.{le-leb, lt-leb, leb-true, leb-false, ltb-true, ltb-false, eqb-true, eqb-false}
 use Rattle.theory.proofs.Integers.{not-leb, not-leZ, ltℤ-trans}
 use Rattle.score.specs.Score.{columnAt}
-use Rattle.asking.specs.declared.way.Way.{Way}
-use Rattle.asking.specs.declared.way.Way.the-variants.{Exact, Octave}
-use Rattle.asking.specs.declared.bookmark.Pair.{Pair}
-use Rattle.asking.specs.declared.bookmark.Bookmark.{Bookmark}
-use Rattle.asking.specs.Way.{lowest, highest, span, shiftOf, codeOf}
-use Rattle.asking.specs.Bookmarks.{keyOf}
-use Rattle.asking.proofs.Shifts.{shift-code, shift-rises, code-le, code-lt}
+use Rattle.ways.specs.declared.way.Way.{Way}
+use Rattle.ways.specs.declared.way.Way.the-variants.{Exact, Octave}
+use Rattle.ways.specs.declared.bookmark.Pair.{Pair}
+use Rattle.ways.specs.declared.bookmark.Bookmark.{Bookmark}
+use Rattle.ways.specs.Way.{lowest, highest, span, shiftOf, codeOf}
+use Rattle.ways.specs.Bookmarks.{keyOf}
+use Rattle.ways.proofs.Shifts.{shift-code, shift-rises, code-le, code-lt}
 use Rattle.paging.specs.Order.{Before, atOrAfter}
 
 -- every code is below 256, and so is a bookmark's, which may be the span itself

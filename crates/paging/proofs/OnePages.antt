@@ -13,8 +13,8 @@ use Rattle.theory.proofs.Pages.{page-take}
 use Rattle.theory.proofs.Looks.{sum-hits, page-looks-le}
 use Rattle.theory.proofs.Hits.{hits-hits, hits-map, take-map}
 use Rattle.score.specs.Score.{columnAt}
-use Rattle.asking.specs.declared.bookmark.Pair.{Pair}
-use Rattle.asking.specs.declared.bookmark.Bookmark.{Bookmark}
+use Rattle.ways.specs.declared.bookmark.Pair.{Pair}
+use Rattle.ways.specs.declared.bookmark.Bookmark.{Bookmark}
 use Rattle.asking.specs.Asking.{InRange}
 use Rattle.paging.specs.Lent.{Lent, Room, behind}
 use Rattle.paging.specs.Order.{atOrAfter}

@@ -9,7 +9,7 @@ use lib.Signed.{<ℤ-irrefl}
 use Rattle.theory.specs.Pages.{hits}
 use Rattle.theory.proofs.Integers.{ltℤ-trans}
 use Rattle.theory.proofs.Members.{in-hits}
-use Rattle.asking.specs.declared.bookmark.Pair.{Pair}
+use Rattle.ways.specs.declared.bookmark.Pair.{Pair}
 use Rattle.paging.specs.Order.{Before, Ordered, none, one, more}
 
 pub before-trans : (a b c : Pair) → Before a b → Before b c → Before a c

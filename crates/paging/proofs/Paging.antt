@@ -17,11 +17,11 @@ use Rattle.theory.proofs.Bookmarks.{from-next}
 use Rattle.theory.proofs.Members.{in-hits, in-page, last-in}
 use Rattle.theory.proofs.Hits.{from-keys, hits-all, hits-same, last-map}
 use Rattle.score.specs.Score.{columnAt}
-use Rattle.asking.specs.declared.way.Way.the-variants.{Exact}
-use Rattle.asking.specs.declared.bookmark.Pair.{Pair}
-use Rattle.asking.specs.declared.bookmark.Bookmark.{Bookmark}
+use Rattle.ways.specs.declared.way.Way.the-variants.{Exact}
+use Rattle.ways.specs.declared.bookmark.Pair.{Pair}
+use Rattle.ways.specs.declared.bookmark.Bookmark.{Bookmark}
+use Rattle.ways.specs.Bookmarks.{firstBookmark, afterPair, finishedBookmark, keyOf}
 use Rattle.asking.specs.Asking.{InRange}
-use Rattle.asking.specs.Bookmarks.{firstBookmark, afterPair, finishedBookmark, keyOf}
 use Rattle.paging.specs.declared.page.Turn.{Turn}
 use Rattle.paging.specs.declared.page.Page.{Page}
 use Rattle.paging.specs.declared.page.Page.the-variants.{Turned, Refused}

@@ -15,10 +15,10 @@ use Rattle.theory.proofs.Either.{either}
 use Rattle.theory.proofs.Pages.{rest-less}
 use Rattle.theory.proofs.Lists.{join-map}
 use Rattle.theory.proofs.Readings.{Reading as Walk, last as walk-last, more as walk-more, reading-join, reading-count, reading-looks}
-use Rattle.asking.specs.declared.bookmark.Pair.{Pair}
-use Rattle.asking.specs.declared.bookmark.Bookmark.{Bookmark}
+use Rattle.ways.specs.declared.bookmark.Pair.{Pair}
+use Rattle.ways.specs.declared.bookmark.Bookmark.{Bookmark}
+use Rattle.ways.specs.Bookmarks.{firstBookmark}
 use Rattle.asking.specs.Asking.{InRange}
-use Rattle.asking.specs.Bookmarks.{firstBookmark}
 use Rattle.paging.specs.declared.page.Turn.{Turn}
 use Rattle.paging.specs.Lent.{Lent, Room}
 use Rattle.paging.specs.Search.{Search, listed, allLooks, left, found, spent}

@@ -18,10 +18,10 @@ use Rattle.score.specs.declared.refusals.Refusal.{Refusal}
 use Rattle.score.specs.Score.{columnAt}
 use Rattle.score.specs.Refusals.{Row}
 use Rattle.score.proofs.Judged.{Clear}
-use Rattle.asking.specs.declared.bookmark.Pair.{Pair}
-use Rattle.asking.specs.declared.bookmark.Bookmark.{Bookmark}
-use Rattle.asking.specs.Way.{Range}
-use Rattle.asking.specs.Bookmarks.{finishedBookmark}
+use Rattle.ways.specs.declared.bookmark.Pair.{Pair}
+use Rattle.ways.specs.declared.bookmark.Bookmark.{Bookmark}
+use Rattle.ways.specs.Way.{Range}
+use Rattle.ways.specs.Bookmarks.{finishedBookmark}
 use Rattle.paging.specs.declared.page.Turn.{Turn}
 use Rattle.paging.specs.declared.page.Page.the-variants.{Turned, Refused}
 use Rattle.paging.specs.Lent.{Lent, Room, written}

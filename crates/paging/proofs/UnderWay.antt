@@ -15,9 +15,9 @@ use Rattle.theory.proofs.Pages.{page-take, rest-drop, rest-nil, length-last, re
 use Rattle.theory.proofs.Looks.{looks-split}
 use Rattle.theory.proofs.Going.{page-le}
 use Rattle.score.specs.declared.refusals.Refusal.{Refusal}
-use Rattle.asking.specs.declared.bookmark.Pair.{Pair}
-use Rattle.asking.specs.declared.bookmark.Bookmark.{Bookmark}
-use Rattle.asking.specs.Bookmarks.{firstBookmark}
+use Rattle.ways.specs.declared.bookmark.Pair.{Pair}
+use Rattle.ways.specs.declared.bookmark.Bookmark.{Bookmark}
+use Rattle.ways.specs.Bookmarks.{firstBookmark}
 use Rattle.asking.specs.Asking.{InRange}
 use Rattle.paging.specs.declared.page.Turn.{Turn}
 use Rattle.paging.specs.declared.page.Page.{Page}

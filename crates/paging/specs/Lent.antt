@@ -7,7 +7,7 @@ use lib.IntN.{ℤ}
 use lib.ListN.{length, drop}
 use Rattle.theory.specs.Lists.{over}
 use Rattle.score.specs.Score.{columnAt}
-use Rattle.asking.specs.declared.bookmark.Pair.{Pair}
+use Rattle.ways.specs.declared.bookmark.Pair.{Pair}
 
 pub record Lent : Type 0 where
   pub columns : List ℕ

@@ -6,8 +6,8 @@ use Prim.Native.Nat.{ℕ, suc, _+_, _/_, _≤_}
 use lib.ListN.{length}
 use Rattle.theory.specs.Lists.{sum, join}
 use Rattle.score.specs.declared.refusals.Refusal.{Refusal}
-use Rattle.asking.specs.declared.bookmark.Pair.{Pair}
-use Rattle.asking.specs.declared.bookmark.Bookmark.{Bookmark}
+use Rattle.ways.specs.declared.bookmark.Pair.{Pair}
+use Rattle.ways.specs.declared.bookmark.Bookmark.{Bookmark}
 use Rattle.paging.specs.declared.page.Turn.{Turn}
 use Rattle.paging.specs.declared.page.Page.{Page}
 use Rattle.paging.specs.declared.page.Page.the-variants.{Turned, Refused}

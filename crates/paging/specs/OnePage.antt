@@ -8,9 +8,9 @@ use lib.IntN.{pos, _+ℤ_}
 use lib.ListN.{length, take}
 use Rattle.theory.specs.Pages.{hits}
 use Rattle.score.specs.Score.{columnAt}
-use Rattle.asking.specs.declared.bookmark.Pair.{Pair}
-use Rattle.asking.specs.declared.bookmark.Bookmark.{Bookmark}
-use Rattle.asking.specs.Way.{Range}
+use Rattle.ways.specs.declared.bookmark.Pair.{Pair}
+use Rattle.ways.specs.declared.bookmark.Bookmark.{Bookmark}
+use Rattle.ways.specs.Way.{Range}
 use Rattle.paging.specs.declared.page.Turn.{Turn}
 use Rattle.paging.specs.declared.page.Page.the-variants.{Turned}
 use Rattle.paging.specs.Lent.{Lent, behind, readPairs}

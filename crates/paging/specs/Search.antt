@@ -8,9 +8,9 @@ use lib.IntN.{pos, negsuc}
 use lib.Signed.{_≤ℤ_}
 use Rattle.theory.specs.Lists.{sum}
 use Rattle.theory.specs.Pages.{hits, pageHits, pageLooks}
-use Rattle.asking.specs.declared.bookmark.Pair.{Pair}
-use Rattle.asking.specs.declared.bookmark.Bookmark.{Bookmark}
-use Rattle.asking.specs.Way.{Range}
+use Rattle.ways.specs.declared.bookmark.Pair.{Pair}
+use Rattle.ways.specs.declared.bookmark.Bookmark.{Bookmark}
+use Rattle.ways.specs.Way.{Range}
 use Rattle.paging.specs.Order.{Ordered, Within, atOrAfter}
 
 -- a search over starts of any kind

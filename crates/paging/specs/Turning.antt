@@ -5,8 +5,8 @@ use lib.Dec.{ltb, eqb}
 use lib.IntN.{pos}
 use lib.ListN.{length, getD}
 use Rattle.score.specs.Score.{columnAt}
-use Rattle.asking.specs.declared.bookmark.Bookmark.{Bookmark}
-use Rattle.asking.specs.Bookmarks.{afterPair}
+use Rattle.ways.specs.declared.bookmark.Bookmark.{Bookmark}
+use Rattle.ways.specs.Bookmarks.{afterPair}
 use Rattle.paging.specs.declared.page.Turn.{Turn}
 use Rattle.paging.specs.Lent.{Lent}
 

@@ -1,9 +1,9 @@
 // The answer of a page call, and how it is read off the buffers that a search has written.
 
-use asking::Bookmark;
-use asking::Pair;
 use score::Column;
 use score::Refusal;
+use ways::Bookmark;
+use ways::Pair;
 ghost use mathlib.Core.Path.{_≡_};
 ghost use mathlib.Core.Bool.{_||_};
 ghost use lib.Dec.{eqb, ltb};

@@ -11,8 +11,8 @@ use lib.Seq.{drop-drop, length-take-le}
 use borrow.Author.Tests.{le-leb, lt-leb}
 use Rattle.asking.specs.Limits.{mostNotes}
 use Rattle.score.specs.Limits.{mostTracks}
-use Rattle.asking.specs.declared.way.Way.{Way}
-use Rattle.asking.specs.declared.way.Way.the-variants.{Exact, Octave}
+use Rattle.ways.specs.declared.way.Way.{Way}
+use Rattle.ways.specs.declared.way.Way.the-variants.{Exact, Octave}
 use Rattle.reading.specs.declared.lines.Line.{Line}
 use Rattle.reading.specs.declared.lines.Line.the-variants.{Read as Lined, Bad}
 use Rattle.reading.specs.declared.lines.ThemeLine.{ThemeLine}

@@ -15,7 +15,7 @@ use Rattle.asking.specs.Limits.{mostNotes}
 use Rattle.score.specs.Limits.{mostTracks, mostColumns, mostCells}
 use Rattle.score.specs.Score.{cut}
 use Rattle.score.proofs.Columns.{cut-length, column-length}
-use Rattle.asking.specs.declared.way.Way.{Way}
+use Rattle.ways.specs.declared.way.Way.{Way}
 use Rattle.reading.specs.declared.request.Reading.{Reading}
 use Rattle.reading.specs.declared.request.Reading.the-variants.{Right, Bad, Short}
 use Rattle.reading.specs.Request.{Request, Meaning, right, faulty, meaning}

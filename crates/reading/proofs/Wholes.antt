@@ -8,7 +8,7 @@ use lib.ListN.{length, take, drop}
 use Rattle.asking.specs.Limits.{mostNotes}
 use Rattle.score.specs.Limits.{mostTracks, mostColumns}
 use Rattle.score.specs.Score.{cut}
-use Rattle.asking.specs.declared.way.Way.{Way}
+use Rattle.ways.specs.declared.way.Way.{Way}
 use Rattle.reading.specs.declared.lines.ThemeLine.{ThemeLine}
 use Rattle.reading.specs.declared.lines.ThemeLine.the-variants as ThemeLine
 use Rattle.reading.specs.declared.lines.ChordLines.{ChordLines}

@@ -14,7 +14,7 @@ use Rattle.reading.specs.declared.lines.ChordLines.{ChordLines}
 use Rattle.reading.specs.declared.lines.ChordLines.the-variants as ChordLines
 use Rattle.reading.specs.declared.request.Reading.{Reading}
 use Rattle.reading.specs.declared.request.Reading.the-variants as Reading
-use Rattle.asking.specs.declared.way.Way.{Way}
+use Rattle.ways.specs.declared.way.Way.{Way}
 use Rattle.score.specs.Score.{cut}
 use Rattle.words.specs.Words.{Read, got, bad}
 use Rattle.reading.specs.Reading.{Theme}

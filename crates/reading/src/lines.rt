@@ -1,9 +1,9 @@
 // Theme and chord lines at a place of the input.
 
 use asking::MOST_NOTES;
-use asking::Way;
 use score::MOST_COLUMNS;
 use score::MOST_TRACKS;
+use ways::Way;
 use words::Numeral;
 use words::cell;
 use words::stands;

@@ -26,12 +26,12 @@ use Rattle.score.specs.Limits.{tableWords}
 use Rattle.score.specs.Score.{columnsIn, scoreOf}
 use Rattle.score.specs.Sets.{sets}
 use Rattle.score.proofs.Columns.{score-length, column-le}
+use Rattle.ways.specs.declared.way.Way.{Way}
+use Rattle.ways.specs.declared.bookmark.Pair.{Pair}
+use Rattle.ways.specs.declared.bookmark.Bookmark.{Bookmark}
+use Rattle.ways.specs.Way.{rangeOf}
+use Rattle.ways.specs.Bookmarks.{firstBookmark}
 use Rattle.asking.specs.Limits.{mostNotes}
-use Rattle.asking.specs.declared.way.Way.{Way}
-use Rattle.asking.specs.declared.bookmark.Pair.{Pair}
-use Rattle.asking.specs.declared.bookmark.Bookmark.{Bookmark}
-use Rattle.asking.specs.Way.{rangeOf}
-use Rattle.asking.specs.Bookmarks.{firstBookmark}
 use Rattle.asking.specs.Asking.{Accepted, AcceptedSets, InRange, PlainAsks}
 use Rattle.filter.specs.Limits.{wordBits}
 use Rattle.filter.specs.Table.{themeTable}

@@ -22,10 +22,10 @@ use Rattle.score.specs.Score.{pitch, pitches, columnAt, onward}
 use Rattle.score.specs.Sets.{interval, sets, Apart}
 use Rattle.score.proofs.Intervals.{interval-lt, interval-from}
 use Rattle.score.proofs.IntervalSets.{set-bit, sets-at, sets-lt}
-use Rattle.asking.specs.declared.way.Way.{Way}
-use Rattle.asking.specs.declared.way.Way.the-variants.{Exact, Octave}
-use Rattle.asking.specs.declared.bookmark.Pair.{Pair}
-use Rattle.asking.specs.Way.{holds}
+use Rattle.ways.specs.declared.way.Way.{Way}
+use Rattle.ways.specs.declared.way.Way.the-variants.{Exact, Octave}
+use Rattle.ways.specs.declared.bookmark.Pair.{Pair}
+use Rattle.ways.specs.Way.{holds}
 use Rattle.score.specs.Score.{note}
 use Rattle.search.specs.Definition.{Stands}
 use Rattle.walking.specs.Starts.{Place, starts, hit}

@@ -15,9 +15,9 @@ use lib.Seq.{getD-drop}
 use Rattle.theory.specs.Pages.{hits, Rising}
 use Rattle.theory.proofs.Members.{in-hits, hits-in}
 use Rattle.score.specs.Score.{pitch, columnAt, onward}
-use Rattle.asking.specs.declared.way.Way.{Way}
-use Rattle.asking.specs.declared.bookmark.Pair.{Pair}
-use Rattle.asking.specs.Way.{lowest, codeOf}
+use Rattle.ways.specs.declared.way.Way.{Way}
+use Rattle.ways.specs.declared.bookmark.Pair.{Pair}
+use Rattle.ways.specs.Way.{lowest, codeOf}
 use Rattle.score.specs.Score.{note}
 use Rattle.search.specs.Definition.{Stands}
 use Rattle.walking.specs.Starts.{Place, place, key, starts, hit}
@@ -25,8 +25,8 @@ use Rattle.paging.specs.Order.{Before, Ordered, none, one, more}
 use Rattle.paging.proofs.Orders.{ordered-hits}
 use Rattle.search.specs.Pairs.{pairAt, pairs}
 use Rattle.walking.proofs.Order.{span-lt, Start, in-starts, starts-in, starts-rising}
-use Rattle.asking.proofs.Shifts.{shift-rises, shift-above, shift-below, shift-code, code-lt}
-use Rattle.asking.proofs.Holding.{holds-true, true-holds}
+use Rattle.ways.proofs.Shifts.{shift-rises, shift-above, shift-below, shift-code, code-lt}
+use Rattle.ways.proofs.Holding.{holds-true, true-holds}
 use Rattle.search.proofs.Notes.{Each, hit-each, each-hit}
 
 -- where a pair stands

@@ -9,8 +9,8 @@ use native.Mathlib.Omega.{arith}
 use lib.ListN.{length, getD, drop}
 use lib.Seq.{getD-drop}
 use Rattle.score.specs.Score.{pitch, columnAt, onward}
-use Rattle.asking.specs.declared.way.Way.{Way}
-use Rattle.asking.specs.Way.{holds}
+use Rattle.ways.specs.declared.way.Way.{Way}
+use Rattle.ways.specs.Way.{holds}
 use Rattle.score.specs.Score.{note}
 use Rattle.walking.specs.Starts.{Place, follows, hit}
 

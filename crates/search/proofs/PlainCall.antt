@@ -9,8 +9,8 @@ use Rattle.theory.specs.Lists.{some, first}
 use Rattle.score.specs.declared.refusals.Refusal.{Refusal}
 use Rattle.score.specs.Score.{scoreOf}
 use Rattle.score.specs.Refusals.{badCell, row1, row2, GivenBy, placeBy}
-use Rattle.asking.specs.declared.way.Way.{Way}
-use Rattle.asking.specs.declared.bookmark.Bookmark.{Bookmark}
+use Rattle.ways.specs.declared.way.Way.{Way}
+use Rattle.ways.specs.declared.bookmark.Bookmark.{Bookmark}
 use Rattle.asking.specs.Asking.{PlainAsks}
 use Rattle.asking.proofs.Rows.{plain-clear}
 use Rattle.paging.specs.declared.page.Turn.{Turn}

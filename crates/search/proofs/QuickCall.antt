@@ -8,8 +8,8 @@ use Rattle.score.specs.declared.refusals.Refusal.{Refusal}
 use Rattle.score.specs.Score.{scoreOf}
 use Rattle.score.specs.Refusals.{GivenBy, placeBy}
 use Rattle.score.proofs.Judged.{judge-clear, judge-both}
-use Rattle.asking.specs.declared.way.Way.{Way}
-use Rattle.asking.specs.declared.bookmark.Bookmark.{Bookmark}
+use Rattle.ways.specs.declared.way.Way.{Way}
+use Rattle.ways.specs.declared.bookmark.Bookmark.{Bookmark}
 use Rattle.asking.specs.Asking.{QuickAsks}
 use Rattle.asking.proofs.Rows.{quick-clear}
 use Rattle.filter.specs.Limits.{wordBits}

@@ -18,11 +18,11 @@ use Rattle.score.specs.Refusals.{Row, badSet}
 use Rattle.score.proofs.Columns.{score-length}
 use Rattle.score.proofs.IntervalSets.{sets-length, sets-lt}
 use Rattle.score.proofs.Judged.{clear-append, judge-skip}
+use Rattle.ways.specs.declared.way.Way.{Way}
+use Rattle.ways.specs.declared.bookmark.Pair.{Pair}
+use Rattle.ways.specs.declared.bookmark.Bookmark.{Bookmark}
+use Rattle.ways.specs.Way.{rangeOf}
 use Rattle.asking.specs.Limits.{mostNotes}
-use Rattle.asking.specs.declared.way.Way.{Way}
-use Rattle.asking.specs.declared.bookmark.Pair.{Pair}
-use Rattle.asking.specs.declared.bookmark.Bookmark.{Bookmark}
-use Rattle.asking.specs.Way.{rangeOf}
 use Rattle.asking.specs.Refusals.{badNote, requestRows, setsRows, pageRows}
 use Rattle.asking.specs.Asking.{Accepted, AcceptedSets}
 use Rattle.asking.proofs.Rows.{accepted-clear, sets-clear}

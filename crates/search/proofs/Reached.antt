@@ -13,11 +13,11 @@ use Rattle.theory.specs.Lists.{over}
 use Rattle.theory.specs.Pages.{hits, pageHits, Rising, from}
 use Rattle.theory.proofs.Hits.{from-keys, hits-same}
 use Rattle.theory.proofs.Members.{in-hits, rising-hits}
-use Rattle.asking.specs.declared.way.Way.{Way}
-use Rattle.asking.specs.declared.bookmark.Pair.{Pair}
-use Rattle.asking.specs.declared.bookmark.Bookmark.{Bookmark}
-use Rattle.asking.specs.Way.{span, rangeOf, shiftOf}
-use Rattle.asking.specs.Bookmarks.{keyOf}
+use Rattle.ways.specs.declared.way.Way.{Way}
+use Rattle.ways.specs.declared.bookmark.Pair.{Pair}
+use Rattle.ways.specs.declared.bookmark.Bookmark.{Bookmark}
+use Rattle.ways.specs.Way.{span, rangeOf, shiftOf}
+use Rattle.ways.specs.Bookmarks.{keyOf}
 use Rattle.asking.specs.Asking.{InRange}
 use Rattle.paging.specs.Lent.{Lent, lent, written}
 use Rattle.paging.specs.Order.{atOrAfter}

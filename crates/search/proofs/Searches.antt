@@ -10,14 +10,14 @@ use lib.Signed.{leZ-yes}
 use Rattle.score.specs.Limits.{tableWords}
 use Rattle.score.specs.Score.{scoreOf}
 use Rattle.score.proofs.Columns.{score-length}
+use Rattle.ways.specs.declared.way.Way.{Way}
+use Rattle.ways.specs.declared.way.Way.the-variants.{Exact, Octave}
+use Rattle.ways.specs.declared.bookmark.Bookmark.{Bookmark}
+use Rattle.ways.specs.Way.{rangeOf}
+use Rattle.ways.proofs.Shifts.{shift-above, shift-below}
 use Rattle.asking.specs.Limits.{mostNotes}
-use Rattle.asking.specs.declared.way.Way.{Way}
-use Rattle.asking.specs.declared.way.Way.the-variants.{Exact, Octave}
-use Rattle.asking.specs.declared.bookmark.Bookmark.{Bookmark}
-use Rattle.asking.specs.Way.{rangeOf}
 use Rattle.asking.specs.Asking.{Accepted, AcceptedSets, InRange, PlainAsks, QuickAsks}
 use Rattle.asking.proofs.Rows.{plain-clear, quick-clear}
-use Rattle.asking.proofs.Shifts.{shift-above, shift-below}
 use Rattle.filter.specs.Limits.{wordBits}
 use Rattle.filter.specs.Table.{themeTable}
 use Rattle.paging.specs.Lent.{Lent, Room}

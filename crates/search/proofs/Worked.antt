@@ -5,7 +5,7 @@ use mathlib.Core.List.{map}
 use Rattle.theory.specs.Bits.{bit, number}
 use Rattle.theory.specs.Register.{step, register}
 use Rattle.score.specs.Sets.{apart, intervalSet}
-use Rattle.asking.specs.Way.{holds}
+use Rattle.ways.specs.Way.{holds}
 use Rattle.walking.specs.Starts.{hit, looks}
 use Rattle.filter.specs.Table.{word, themeTable}
 use Rattle.walking.specs.Candidates.{candidate}

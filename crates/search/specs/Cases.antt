@@ -9,11 +9,11 @@ use Rattle.theory.specs.Lists.{count}
 use Rattle.theory.specs.Pages.{hits}
 use Rattle.score.specs.Score.{columnAt, scoreOf}
 use Rattle.score.specs.Sets.{sets as setsOf}
-use Rattle.asking.specs.declared.way.Way.{Way}
-use Rattle.asking.specs.Way.{rangeOf}
-use Rattle.asking.specs.declared.way.Way.the-variants.{Exact, Octave}
-use Rattle.asking.specs.declared.bookmark.Pair.{Pair}
-use Rattle.asking.specs.declared.bookmark.Bookmark.{Bookmark}
+use Rattle.ways.specs.declared.way.Way.{Way}
+use Rattle.ways.specs.Way.{rangeOf}
+use Rattle.ways.specs.declared.way.Way.the-variants.{Exact, Octave}
+use Rattle.ways.specs.declared.bookmark.Pair.{Pair}
+use Rattle.ways.specs.declared.bookmark.Bookmark.{Bookmark}
 use Rattle.paging.specs.declared.page.Page.{Page}
 use Rattle.paging.specs.declared.page.Page.the-variants.{Turned, Refused}
 use Rattle.paging.specs.Lent.{Lent, lent, readPairs}
@@ -21,7 +21,7 @@ use Rattle.paging.specs.Page.{Leaf}
 use Rattle.filter.specs.Limits.{wordBits}
 use Rattle.filter.specs.Table.{themeTable}
 use Rattle.walking.specs.Candidates.{candidate}
-use Rattle.asking.specs.Bookmarks.{firstBookmark}
+use Rattle.ways.specs.Bookmarks.{firstBookmark}
 use Rattle.search.specs.Page.{plainPage, quickPage}
 
 -- a page as it is read: its pairs, the next bookmark, whether it is finished, its looks

@@ -5,9 +5,9 @@ use Prim.Native.Nat.{ℕ, _+_, _-_, _≤_}
 use lib.ListN.{length, getD}
 use lib.Signed.{_≤ℤ_}
 use Rattle.score.specs.Score.{onward, note}
-use Rattle.asking.specs.declared.way.Way.{Way}
-use Rattle.asking.specs.declared.bookmark.Pair.{Pair}
-use Rattle.asking.specs.Way.{Holds, lowest, highest}
+use Rattle.ways.specs.declared.way.Way.{Way}
+use Rattle.ways.specs.declared.bookmark.Pair.{Pair}
+use Rattle.ways.specs.Way.{Holds, lowest, highest}
 
 -- 1 <= j <= n - m + 1; c is a shift of the way; and for each i from 1 to m the i-th column from j on, which is column
 -- j + i - 1, holds the i-th note moved by c. Each note may come from any track

@@ -5,8 +5,8 @@ use Prim.Native.Nat.{ℕ, _+_, _-_, _*_}
 use lib.ListN.{length}
 use Rattle.theory.specs.Pages.{hits}
 use Rattle.score.specs.Score.{columnsIn}
-use Rattle.asking.specs.declared.way.Way.{Way}
-use Rattle.asking.specs.declared.bookmark.Pair.{Pair}
+use Rattle.ways.specs.declared.way.Way.{Way}
+use Rattle.ways.specs.declared.bookmark.Pair.{Pair}
 use Rattle.filter.specs.Limits.{wordBits}
 use Rattle.filter.specs.Table.{themeTable}
 use Rattle.paging.specs.Search.{allLooks}

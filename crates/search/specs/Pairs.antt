@@ -4,9 +4,9 @@ use mathlib.Core.List.{List}
 use Prim.Native.Nat.{ℕ}
 use lib.ListN.{length}
 use Rattle.score.specs.Score.{columnAt}
-use Rattle.asking.specs.declared.way.Way.{Way}
-use Rattle.asking.specs.declared.bookmark.Pair.{Pair}
-use Rattle.asking.specs.Way.{shiftOf, rangeOf}
+use Rattle.ways.specs.declared.way.Way.{Way}
+use Rattle.ways.specs.declared.bookmark.Pair.{Pair}
+use Rattle.ways.specs.Way.{shiftOf, rangeOf}
 use Rattle.paging.specs.Search.{Search, only, listed}
 use Rattle.walking.specs.Starts.{Place, starts, hit, looks}
 use Rattle.walking.specs.Candidates.{candidate}

@@ -2,10 +2,10 @@
 
 pub mod page;
 
-pub use asking::Bookmark;
-pub use asking::Pair;
-pub use asking::Way;
 pub use page::plain_page;
 pub use page::quick_page;
 pub use paging::Page;
 pub use paging::Turn;
+pub use ways::Bookmark;
+pub use ways::Pair;
+pub use ways::Way;

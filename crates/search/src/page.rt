@@ -1,7 +1,5 @@
 // The two page calls: plain, which reaches every start, and quick, which reaches the starts at candidates.
 
-use asking::Bookmark;
-use asking::Way;
 use paging::Page;
 use paging::turned;
 use score::Column;
@@ -10,11 +8,13 @@ use walking::Walk;
 use walking::Walked;
 use walking::walk_plain;
 use walking::walk_quick;
+use ways::Bookmark;
+use ways::Way;
 ghost use mathlib.Core.Path.{_≡_};
 ghost use Prim.Native.Nat.{_<_};
 ghost use Rattle.score.specs.Score.{columnAt};
-ghost use Rattle.asking.specs.Way.{rangeOf};
-ghost use Rattle.asking.specs.Bookmarks.{finishedBookmark};
+ghost use Rattle.ways.specs.Way.{rangeOf};
+ghost use Rattle.ways.specs.Bookmarks.{finishedBookmark};
 ghost use Rattle.paging.specs.Lent.{lent};
 ghost use Rattle.paging.specs.Turning.{readTurn};
 ghost use Rattle.search.specs.Page.{PlainPages, QuickPages};

@@ -22,16 +22,16 @@ use Rattle.score.proofs.Judged.{judge-clear}
 use Rattle.asking.specs.Limits.{mostNotes}
 use Rattle.asking.proofs.Rows.{accepted-clear, row6-clear}
 use Rattle.score.proofs.Columns.{score-length, column-le}
-use Rattle.asking.specs.declared.way.Way.{Way}
-use Rattle.asking.specs.declared.bookmark.Pair.{Pair}
-use Rattle.asking.specs.declared.bookmark.Bookmark.{Bookmark}
-use Rattle.asking.specs.Way.{span, rangeOf}
+use Rattle.ways.specs.declared.way.Way.{Way}
+use Rattle.ways.specs.declared.bookmark.Pair.{Pair}
+use Rattle.ways.specs.declared.bookmark.Bookmark.{Bookmark}
+use Rattle.ways.specs.Way.{span, rangeOf}
 use Rattle.walking.specs.Starts.{Place, starts, hit}
 use Rattle.search.specs.Pairs.{pairAt, quickSearch, pairs}
 use Rattle.search.specs.Page.{quickPage}
 use Rattle.filter.specs.Limits.{wordBits}
 use Rattle.filter.specs.Table.{themeTable}
-use Rattle.asking.specs.Bookmarks.{firstBookmark}
+use Rattle.ways.specs.Bookmarks.{firstBookmark}
 use Rattle.asking.specs.Asking.{Accepted, AcceptedSets}
 use Rattle.paging.specs.Lent.{Lent}
 use Rattle.paging.specs.Search.{Search, listed}

@@ -20,8 +20,8 @@ use Rattle.score.specs.Score.{scoreOf}
 use Rattle.score.specs.Refusals.{verdict, GivenBy, placeBy}
 use Rattle.score.proofs.Judging.{judge-away}
 use Rattle.score.proofs.Judged.{judge-either, judge-clear, judge-clear-of, verdict-clear, answer-refused}
+use Rattle.ways.specs.declared.way.Way.{Way}
 use Rattle.asking.specs.Limits.{mostNotes}
-use Rattle.asking.specs.declared.way.Way.{Way}
 use Rattle.asking.specs.Refusals.{requestRows}
 use Rattle.asking.specs.Asking.{Accepted}
 use Rattle.asking.proofs.Rows.{accepted-clear}

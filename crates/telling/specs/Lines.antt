@@ -7,8 +7,8 @@ use lib.ListN.{length}
 use Rattle.theory.specs.Lists.{join}
 use Rattle.score.specs.Score.{columnAt}
 use Rattle.score.specs.Sets.{sets}
-use Rattle.asking.specs.declared.way.Way.{Way}
-use Rattle.asking.specs.declared.bookmark.Pair.{Pair}
+use Rattle.ways.specs.declared.way.Way.{Way}
+use Rattle.ways.specs.declared.bookmark.Pair.{Pair}
 use Rattle.search.specs.Pairs.{pairs}
 use Rattle.search.specs.Demands.{candidateLooks}
 use Rattle.telling.specs.Text.{hitWord, endWord, refusedWord, decimal, signed, line}

@@ -9,8 +9,8 @@ use lib.ListN.{length}
 use Rattle.theory.specs.Lists.{over}
 use Rattle.score.specs.Score.{scoreOf}
 use Rattle.score.specs.Refusals.{judge}
+use Rattle.ways.specs.declared.way.Way.{Way}
 use Rattle.asking.specs.Limits.{mostNotes}
-use Rattle.asking.specs.declared.way.Way.{Way}
 use Rattle.asking.specs.Refusals.{requestRows}
 use Rattle.telling.specs.declared.calls.Telling.{Telling}
 use Rattle.telling.specs.declared.calls.Telling.the-variants.{Told, Refused, Short}

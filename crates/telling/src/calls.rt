@@ -4,10 +4,10 @@ use crate::limits::ROOM;
 use crate::pages::search_lines;
 use crate::writing::refused_line;
 use asking::MOST_NOTES;
-use asking::Way;
 use asking::check_request;
 use score::Refusal;
 use score::Verdict;
+use ways::Way;
 ghost use Rattle.telling.specs.Lines.{refusedLine};
 ghost use Rattle.telling.specs.Telling.{told, searchTold, Tells};
 

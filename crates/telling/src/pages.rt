@@ -3,14 +3,14 @@
 use crate::limits::PAGE_PAIRS;
 use crate::writing::end_line;
 use crate::writing::hit_lines;
-use asking::Bookmark;
-use asking::Way;
 use preparing::prepare;
 use score::MOST_COLUMNS;
 use score::TABLE_WORDS;
 use score::columns_in;
 use search::Page;
 use search::quick_page;
+use ways::Bookmark;
+use ways::Way;
 ghost use Prim.Native.Nat.{_≤_};
 ghost use lib.ListN.{length};
 ghost use Rattle.score.specs.Score.{scoreOf};

@@ -21,10 +21,10 @@ use Rattle.score.specs.Refusals.{Row, judge, verdict}
 use Rattle.score.proofs.Columns.{columns-whole}
 use Rattle.score.proofs.Judged.{Clear, judge-clear, judge-clear-of, judge-both, verdict-clear}
 use Rattle.score.proofs.Judging.{judge-away}
+use Rattle.ways.specs.declared.way.Way.{Way}
+use Rattle.ways.specs.declared.bookmark.Bookmark.{Bookmark}
+use Rattle.ways.specs.Bookmarks.{keyOf}
 use Rattle.asking.specs.Limits.{mostNotes}
-use Rattle.asking.specs.declared.way.Way.{Way}
-use Rattle.asking.specs.declared.bookmark.Bookmark.{Bookmark}
-use Rattle.asking.specs.Bookmarks.{keyOf}
 use Rattle.asking.specs.Asking.{Accepted, AcceptedSets, PlainAsks, QuickAsks}
 use Rattle.asking.specs.Refusals.{plainRows, quickRows}
 use Rattle.asking.proofs.Rows.{plain-clear, quick-clear}

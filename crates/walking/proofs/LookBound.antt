@@ -18,9 +18,9 @@ use Rattle.score.specs.declared.quantities.Pitch.{Pitch}
 use Rattle.score.specs.Limits.{mostTracks, mostColumns}
 use Rattle.asking.specs.Limits.{mostNotes}
 use Rattle.score.specs.Score.{pitch, pitches, columnAt, onward}
-use Rattle.asking.specs.declared.way.Way.{Way}
-use Rattle.asking.specs.declared.way.Way.the-variants.{Exact, Octave}
-use Rattle.asking.specs.Way.{holds}
+use Rattle.ways.specs.declared.way.Way.{Way}
+use Rattle.ways.specs.declared.way.Way.the-variants.{Exact, Octave}
+use Rattle.ways.specs.Way.{holds}
 use Rattle.score.specs.Score.{note}
 use Rattle.walking.specs.Starts.{Place, place, codes, startsIn, starts, looked, looks}
 

@@ -15,8 +15,8 @@ use Rattle.theory.specs.Lists.{over}
 use Rattle.theory.specs.Pages.{pageHits, pageLooks}
 use Rattle.theory.proofs.Lists.{sets-append, over-sets}
 use Rattle.theory.proofs.Going.{Going, Made, page-le, looks-append, going-start, going-part, going-full, going-end}
-use Rattle.asking.specs.declared.way.Way.{Way}
-use Rattle.asking.specs.Way.{span, shiftOf}
+use Rattle.ways.specs.declared.way.Way.{Way}
+use Rattle.ways.specs.Way.{span, shiftOf}
 use Rattle.walking.specs.declared.walked.Spot.{Spot}
 use Rattle.walking.specs.Starts.{Place, hit, looks}
 use Rattle.walking.specs.Found.{columnsOf, shiftsOf}

@@ -7,7 +7,7 @@ use lib.ListN.{length, getD, take, drop}
 use Rattle.theory.specs.Lists.{sum}
 use Rattle.theory.specs.Pages.{hits}
 use Rattle.score.specs.Score.{columnAt, column, note}
-use Rattle.asking.specs.declared.way.Way.{Way}
+use Rattle.ways.specs.declared.way.Way.{Way}
 use Rattle.masks.specs.Masks.{value, width, columnWord}
 use Rattle.hits.specs.Writing.{codesOf}
 use Rattle.walking.specs.Starts.{place, codes, hit, looks}

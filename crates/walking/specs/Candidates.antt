@@ -8,7 +8,7 @@ use lib.ListN.{length, getD}
 use Rattle.theory.specs.Bits.{bit}
 use Rattle.theory.specs.Pages.{hits}
 use Rattle.theory.specs.Register.{register}
-use Rattle.asking.specs.declared.way.Way.{Way}
+use Rattle.ways.specs.declared.way.Way.{Way}
 use Rattle.walking.specs.Starts.{Place, starts}
 
 -- column j is a candidate of a theme of m notes: bit m - 2 of the register of w bits is zero after entry j + m - 2

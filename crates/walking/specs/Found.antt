@@ -9,10 +9,10 @@ use Rattle.theory.specs.Lists.{over}
 use Rattle.theory.specs.Pages.{pageHits, pageLooks, from}
 use Rattle.score.specs.Score.{scoreOf}
 use Rattle.score.specs.Refusals.{Row, judge}
-use Rattle.asking.specs.declared.way.Way.{Way}
-use Rattle.asking.specs.declared.bookmark.Bookmark.{Bookmark}
-use Rattle.asking.specs.Way.{shiftOf}
-use Rattle.asking.specs.Bookmarks.{keyOf}
+use Rattle.ways.specs.declared.way.Way.{Way}
+use Rattle.ways.specs.declared.bookmark.Bookmark.{Bookmark}
+use Rattle.ways.specs.Way.{shiftOf}
+use Rattle.ways.specs.Bookmarks.{keyOf}
 use Rattle.asking.specs.Refusals.{plainRows, quickRows}
 use Rattle.filter.specs.Limits.{wordBits}
 use Rattle.filter.specs.Table.{themeTable}

@@ -13,13 +13,13 @@ use Rattle.theory.specs.Pages.{pageHits, pageLooks, from}
 use Rattle.score.specs.declared.quantities.Pitch.{Pitch}
 use Rattle.score.specs.Score.{pitch, columnAt, column, columnsIn, scoreOf}
 use Rattle.score.specs.Limits.{mostTracks, mostColumns, highestPitch}
+use Rattle.ways.specs.declared.way.Way.{Way}
+use Rattle.ways.specs.declared.way.Way.the-variants.{Exact, Octave}
+use Rattle.ways.specs.declared.bookmark.Bookmark.{Bookmark}
+use Rattle.ways.specs.Way.{span, holds}
+use Rattle.ways.specs.Codes.{codeGiven}
+use Rattle.ways.specs.Bookmarks.{keyOf}
 use Rattle.asking.specs.Limits.{mostNotes}
-use Rattle.asking.specs.declared.way.Way.{Way}
-use Rattle.asking.specs.declared.way.Way.the-variants.{Exact, Octave}
-use Rattle.asking.specs.declared.bookmark.Bookmark.{Bookmark}
-use Rattle.asking.specs.Way.{span, holds}
-use Rattle.asking.specs.Codes.{codeGiven}
-use Rattle.asking.specs.Bookmarks.{keyOf}
 use Rattle.filter.specs.Limits.{wordBits}
 use Rattle.score.specs.Score.{note}
 use Rattle.walking.specs.declared.walked.Spot.{Spot}

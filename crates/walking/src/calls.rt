@@ -3,13 +3,13 @@
 use crate::walk::walk_candidates;
 use crate::walk::walk_every;
 use crate::walked::Walked;
-use asking::Bookmark;
-use asking::Way;
 use asking::check_plain;
 use asking::check_quick;
 use filter::fill_table;
 use score::Refusal;
 use score::Verdict;
+use ways::Bookmark;
+use ways::Way;
 ghost use Rattle.walking.specs.Found.{PlainWalks, QuickWalks};
 
 // What a walk comes to: how far it came, or why it is turned away.

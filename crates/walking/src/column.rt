@@ -3,11 +3,11 @@
 use crate::starts::try_start;
 use crate::walked::Spot;
 use crate::walked::Walked;
-use asking::Way;
-use asking::span_of;
 use hits::keep;
 use holding::next_code;
 use score::Pitch;
+use ways::Way;
+use ways::span_of;
 ghost use lib.ListN.{length};
 ghost use Rattle.score.specs.Score.{columnsIn};
 ghost use Rattle.walking.specs.Walk.{Ready, Stands, TriesColumn};

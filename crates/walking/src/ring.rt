@@ -1,9 +1,9 @@
 // The words of columns, kept from column to column: a ring of places, each with the word of a column and the number of that
 // column.
 
-use asking::Way;
 use masks::Word;
 use masks::word_of;
+use ways::Way;
 ghost use mathlib.Core.Path.{_≡_};
 ghost use Prim.Native.Nat.{_+_, _*_, _≤_, _<_};
 ghost use lib.ListN.{length, take, drop};

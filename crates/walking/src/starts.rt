@@ -1,9 +1,9 @@
 // Starts: the places whose first note is present, and what is looked at from there.
 
-use asking::Way;
 use holding::holds_at;
 use score::Column;
 use score::Pitch;
+use ways::Way;
 ghost use Prim.Native.Nat.{_≤_};
 ghost use lib.ListN.{length};
 ghost use Rattle.score.specs.Score.{columnsIn, scoreOf};

@@ -1,9 +1,9 @@
 // Where a walk stands, and how far it has come.
 
-use asking::Bookmark;
-use asking::Way;
-use asking::code_of;
 use score::Column;
+use ways::Bookmark;
+use ways::Way;
+use ways::code_of;
 ghost use mathlib.Core.Path.{_≡_};
 ghost use Prim.Native.Nat.{_≤_};
 ghost use Rattle.walking.specs.Walk.{begun, goneOn, atColumn};

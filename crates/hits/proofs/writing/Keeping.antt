@@ -8,8 +8,8 @@ use lib.Dec.{leb}
 use lib.IntN.{ℤ}
 use lib.ListN.{length, set}
 use borrow.Author.Tests.{le-leb, lt-leb}
-use Rattle.asking.specs.declared.way.Way.{Way}
-use Rattle.asking.specs.Way.{shiftOf}
+use Rattle.ways.specs.declared.way.Way.{Way}
+use Rattle.ways.specs.Way.{shiftOf}
 use Rattle.hits.specs.Writing.{startCodes, fitting, Puts}
 use Rattle.hits.proofs.Fitting.{fitting-nil, fitting-all, fitting-none, fitting-cond, puts-nil}
 

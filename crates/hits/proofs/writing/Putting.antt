@@ -19,8 +19,8 @@ use Rattle.theory.proofs.Marks.{marks-zero, marks-ones, Lowest, marks-lowest}
 use Rattle.theory.proofs.Masks.{one-shl}
 use Rattle.theory.proofs.Lists.{sets-more, sets-append}
 use Rattle.score.specs.declared.quantities.Pitch.{Pitch}
-use Rattle.asking.specs.declared.way.Way.{Way}
-use Rattle.asking.specs.Way.{shiftOf}
+use Rattle.ways.specs.declared.way.Way.{Way}
+use Rattle.ways.specs.Way.{shiftOf}
 use Rattle.masks.specs.Masks.{value, lowCode}
 use Rattle.masks.proofs.Halves.{Halves, value-lt, value-ones, value-none, marks-value}
 use Rattle.hits.specs.Writing.{codesOf, wordCodes, fitting, Puts}

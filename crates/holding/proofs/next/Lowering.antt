@@ -14,10 +14,10 @@ use Rattle.theory.specs.Lists.{some, lower, lowest}
 use Rattle.theory.proofs.Lowest.{lowest-first, first-agree}
 use Rattle.score.specs.declared.quantities.Pitch.{Pitch}
 use Rattle.score.specs.Score.{pitch, pitches}
-use Rattle.asking.specs.declared.way.Way.{Way}
-use Rattle.asking.specs.declared.way.Way.the-variants.{Exact, Octave}
-use Rattle.asking.specs.Way.{span, holds}
-use Rattle.asking.proofs.Holding.{eqb-same, some-agree}
+use Rattle.ways.specs.declared.way.Way.{Way}
+use Rattle.ways.specs.declared.way.Way.the-variants.{Exact, Octave}
+use Rattle.ways.specs.Way.{span, holds}
+use Rattle.ways.proofs.Holding.{eqb-same, some-agree}
 use Rattle.holding.specs.Next.{codeBetween, lowered, nextCode}
 
 -- ---- what holds says, by codes

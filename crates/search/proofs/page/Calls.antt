@@ -13,10 +13,10 @@ use Rattle.score.specs.Refusals.{Row}
 use Rattle.score.proofs.Columns.{score-length}
 use Rattle.score.proofs.Judging.{judge-away}
 use Rattle.score.proofs.Judged.{Clear}
-use Rattle.asking.specs.declared.way.Way.{Way}
-use Rattle.asking.specs.declared.bookmark.Bookmark.{Bookmark}
-use Rattle.asking.specs.Way.{rangeOf}
-use Rattle.asking.specs.Bookmarks.{keyOf, finishedBookmark}
+use Rattle.ways.specs.declared.way.Way.{Way}
+use Rattle.ways.specs.declared.bookmark.Bookmark.{Bookmark}
+use Rattle.ways.specs.Way.{rangeOf}
+use Rattle.ways.specs.Bookmarks.{keyOf, finishedBookmark}
 use Rattle.asking.specs.Asking.{InRange, PlainAsks, QuickAsks}
 use Rattle.asking.proofs.Rows.{plain-clear, quick-clear}
 use Rattle.filter.specs.Limits.{wordBits}

@@ -16,8 +16,8 @@ use Rattle.theory.proofs.Hits.{hits-map}
 use Rattle.theory.proofs.Pages.{page-take, page-last, rest-nil}
 use Rattle.theory.proofs.Looks.{looks-split}
 use Rattle.score.specs.Score.{columnAt, column}
-use Rattle.asking.specs.declared.way.Way.{Way}
-use Rattle.asking.specs.Way.{shiftOf}
+use Rattle.ways.specs.declared.way.Way.{Way}
+use Rattle.ways.specs.Way.{shiftOf}
 use Rattle.hits.specs.Writing.{codesOf, wordCodes, fitting, Puts}
 use Rattle.hits.proofs.Fitting.{puts-word}
 use Rattle.score.specs.Score.{note}

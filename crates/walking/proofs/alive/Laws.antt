@@ -27,10 +27,10 @@ use Rattle.theory.proofs.Hits.{hits-part, hits-all}
 use Rattle.theory.proofs.Looks.{sum-part, sum-none}
 use Rattle.score.specs.declared.quantities.Pitch.{Pitch}
 use Rattle.score.specs.Score.{pitch, columnAt, column, columnsIn, scoreOf}
-use Rattle.asking.specs.declared.way.Way.{Way}
-use Rattle.asking.specs.declared.way.Way.the-variants.{Exact, Octave}
-use Rattle.asking.specs.Way.{holds}
-use Rattle.asking.proofs.Holding.{holds-below, holds-above}
+use Rattle.ways.specs.declared.way.Way.{Way}
+use Rattle.ways.specs.declared.way.Way.the-variants.{Exact, Octave}
+use Rattle.ways.specs.Way.{holds}
+use Rattle.ways.proofs.Holding.{holds-below, holds-above}
 use Rattle.masks.specs.Masks.{value, width, lowCode, allStarts, heldWord}
 use Rattle.masks.proofs.Halves.{Halves, value-and, value-ones}
 use Rattle.masks.proofs.HeldWords.{width-le, held-bit, all-lt}

@@ -13,8 +13,8 @@ use Rattle.theory.specs.Pages.{hits, pageHits, pageLooks}
 use Rattle.theory.proofs.Lowest.{hits-first, hits-none}
 use Rattle.score.specs.Score.{pitch, columnAt, column, columnsIn, scoreOf}
 use Rattle.score.proofs.Columns.{cut-at}
-use Rattle.asking.specs.declared.way.Way.{Way}
-use Rattle.asking.specs.Way.{span, holds, shiftOf}
+use Rattle.ways.specs.declared.way.Way.{Way}
+use Rattle.ways.specs.Way.{span, holds, shiftOf}
 use Rattle.hits.specs.Writing.{startCodes, fitting, Puts}
 use Rattle.hits.proofs.Fitting.{puts-hit, puts-miss}
 use Rattle.score.specs.Score.{note}

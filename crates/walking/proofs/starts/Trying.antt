@@ -11,8 +11,8 @@ use lib.ListN.{length, getD, take, drop, drop-of-length-le}
 use lib.Seq.{drop-cons, drop-drop, getD-drop}
 use Rattle.score.specs.Score.{pitch, columnsIn, scoreOf}
 use Rattle.score.proofs.Columns.{cut-at}
-use Rattle.asking.specs.declared.way.Way.{Way}
-use Rattle.asking.specs.Way.{holds}
+use Rattle.ways.specs.declared.way.Way.{Way}
+use Rattle.ways.specs.Way.{holds}
 use Rattle.walking.specs.Starts.{follows, looked, hit, looks}
 use Rattle.walking.specs.Walk.{Ready, Fits, Trial}
 

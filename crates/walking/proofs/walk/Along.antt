@@ -18,8 +18,8 @@ use Rattle.theory.proofs.Bookmarks.{Below, none, one, below-up, from-past, from
 use Rattle.theory.proofs.Members.{in-count, in-hits, rising-count, rising-hits, rising-map, rising-add}
 use Rattle.score.specs.declared.quantities.Pitch.{Pitch}
 use Rattle.score.specs.Score.{columnAt, column}
-use Rattle.asking.specs.declared.way.Way.{Way}
-use Rattle.asking.specs.Way.{span, holds}
+use Rattle.ways.specs.declared.way.Way.{Way}
+use Rattle.ways.specs.Way.{span, holds}
 use Rattle.score.specs.Score.{note}
 use Rattle.walking.specs.Starts.{Place, place, key, codes, startsIn, starts}
 use Rattle.walking.specs.Walk.{Fits, columnStarts, listStarts}

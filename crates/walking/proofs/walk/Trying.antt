@@ -11,8 +11,8 @@ use lib.ListN.{length, getD, drop}
 use lib.Seq.{drop-cons, drop-nil}
 use borrow.Author.Tests.{ltb-false}
 use Rattle.theory.specs.Pages.{pageLooks}
-use Rattle.asking.specs.declared.way.Way.{Way}
-use Rattle.asking.specs.Way.{span}
+use Rattle.ways.specs.declared.way.Way.{Way}
+use Rattle.ways.specs.Way.{span}
 use Rattle.walking.specs.declared.walked.Spot.{Spot}
 use Rattle.walking.specs.Starts.{Place, hit, looks}
 use Rattle.walking.specs.Walk.{Fits, columnStarts, atColumn, listStarts, Stands, Tries}

@@ -18,14 +18,14 @@ use Rattle.theory.proofs.Lists.{count-length, over-length}
 use Rattle.theory.proofs.Looks.{page-looks-le, sum-hits, sum-from}
 use Rattle.score.specs.Score.{columnsIn, scoreOf}
 use Rattle.score.proofs.Columns.{column-le, score-length}
-use Rattle.asking.specs.declared.way.Way.{Way}
-use Rattle.asking.specs.declared.bookmark.Bookmark.{Bookmark}
-use Rattle.asking.specs.Way.{span, codeOf}
-use Rattle.asking.specs.Codes.{codeGiven}
-use Rattle.asking.specs.Bookmarks.{keyOf}
+use Rattle.ways.specs.declared.way.Way.{Way}
+use Rattle.ways.specs.declared.bookmark.Bookmark.{Bookmark}
+use Rattle.ways.specs.Way.{span, codeOf}
+use Rattle.ways.specs.Codes.{codeGiven}
+use Rattle.ways.specs.Bookmarks.{keyOf}
+use Rattle.ways.proofs.Shifts.{code-le}
+use Rattle.ways.proofs.Coding.{code-given}
 use Rattle.asking.specs.Asking.{PlainAsks}
-use Rattle.asking.proofs.Shifts.{code-le}
-use Rattle.asking.proofs.Coding.{code-given}
 use Rattle.walking.specs.declared.walked.Spot.{Spot}
 use Rattle.walking.specs.Starts.{Place, key, starts, hit, looks}
 use Rattle.filter.specs.Limits.{wordBits}

@@ -2,8 +2,8 @@
 -- nothing.
 use borrow.Author.Needs.{needs}
 use Rattle.score.specs.Score.{columnsIn}
+use Rattle.ways.specs.Way.{rangeOf}
 use Rattle.asking.specs.Limits.{mostNotes}
-use Rattle.asking.specs.Way.{rangeOf}
 use Rattle.asking.specs.Refusals.{requestRows, pageRows}
 use Rattle.asking.proofs.checks.Laws.{turned-away, gone-on}
 use Rattle.asking.proofs.checks.check_plain.Statement.{statement}

@@ -3,8 +3,8 @@
 use borrow.Author.Needs.{needs}
 use mathlib.Core.List.{_++_}
 use Rattle.score.specs.Score.{columnsIn}
+use Rattle.ways.specs.Way.{rangeOf}
 use Rattle.asking.specs.Limits.{mostNotes}
-use Rattle.asking.specs.Way.{rangeOf}
 use Rattle.asking.specs.Refusals.{requestRows, setsRows, pageRows}
 use Rattle.asking.proofs.checks.Laws.{turned-away, sets-away, sets-on, table-away, table-on}
 use Rattle.asking.proofs.checks.check_quick.Statement.{statement}

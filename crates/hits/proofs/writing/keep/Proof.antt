@@ -5,7 +5,7 @@ use native.Mathlib.Omega.{arith}
 use borrow.Author.Tests.{not-true, not-false}
 use mir.Syntax.{w16}
 use mir.Facts.{toZ-ofZ}
-use Rattle.asking.proofs.Coding.{shift-given}
+use Rattle.ways.proofs.Coding.{shift-given}
 use Rattle.hits.proofs.writing.Keeping.{keep-miss, keep-high, keep-columns, keep-shifts, keep-hit}
 use Rattle.hits.proofs.writing.keep.Statement.{statement}
 use Rattle.hits.proofs.writing.keep.Tie as tie

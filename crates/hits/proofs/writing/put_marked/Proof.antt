@@ -8,7 +8,7 @@ use lib.Count.{ones}
 use lib.ListN.{length}
 use mir.Syntax.{w16}
 use mir.Facts.{toZ-ofZ}
-use Rattle.asking.proofs.Coding.{shift-given}
+use Rattle.ways.proofs.Coding.{shift-given}
 use Rattle.hits.proofs.writing.Putting.{Putting, put-start, put-end, put-room, put-within, put-there, put-less, put-turn}
 use Rattle.hits.proofs.writing.put_marked.Statement.{statement}
 use Rattle.hits.proofs.writing.put_marked.Tie as tie

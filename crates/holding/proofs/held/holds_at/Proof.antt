@@ -1,7 +1,7 @@
 -- `holding::held::holds_at` meets its contract: exact seeks a pitch, if the moved note is one; octave seeks its class. Assumes nothing.
 use borrow.Author.Needs.{needs}
 use mathlib.Core.Path.{sym, _∙_}
-use Rattle.asking.proofs.Holding.{holds-below, holds-above, holds-exact, holds-octave}
+use Rattle.ways.proofs.Holding.{holds-below, holds-above, holds-exact, holds-octave}
 use Rattle.holding.proofs.held.holds_at.Statement.{statement}
 use Rattle.holding.proofs.held.holds_at.Tie as tie
 

@@ -4,7 +4,7 @@ use borrow.Author.Needs.{needs}
 use mathlib.Core.Path.{refl, sym, _∙_}
 use Prim.Native.Nat.{_<_, _-_}
 use native.Mathlib.Omega.{arith}
-use Rattle.asking.specs.Way.{span}
+use Rattle.ways.specs.Way.{span}
 use Rattle.walking.proofs.Order.{span-lt}
 use Rattle.walking.proofs.starts.Trying.{cells-within}
 use Rattle.walking.proofs.column.Filling.{Filling, fill-start, fill-none, fill-full, fill-further, fill-bound, fill-turn}

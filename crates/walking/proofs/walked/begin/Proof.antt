@@ -4,7 +4,7 @@ use mathlib.Core.Path.{_≡_, ap, _∙_}
 use mir.Syntax.{w16}
 use mir.Val.{toZ, ofZ}
 use mir.Facts.{toZ-ofZ}
-use Rattle.asking.specs.Codes.{codeGiven}
+use Rattle.ways.specs.Codes.{codeGiven}
 use Rattle.walking.proofs.walked.begin.Statement.{statement}
 use Rattle.walking.proofs.walked.begin.Tie as tie
 

@@ -1,0 +1,78 @@
+// The shifts of a way, which may be below zero, and their codes, which count from the lowest. No other module of a search knows a
+// shift's sign.
+
+use crate::way::Way;
+ghost use mathlib.Core.Path.{_≡_};
+ghost use mathlib.Core.Bool.{cond};
+ghost use lib.IntN.{pos, _+ℤ_};
+ghost use lib.Signed.{ltZ};
+ghost use Rattle.ways.specs.Way.{lowest, span};
+ghost use Rattle.ways.specs.Codes.{outside, outOfRange, codeGiven, shiftGiven};
+
+// How many shifts the way has.
+pub fn span_of(way: Way) -> u16
+    ensures { λ r. ⌜ r ≡ span way ⌝ }
+{
+    match way {
+        Way::Exact => 255,
+        Way::Octave => 12,
+    }
+}
+
+// The lowest shift of the way.
+pub fn lowest_of(way: Way) -> i16
+    ensures { λ r. ⌜ r ≡ lowest way ⌝ }
+{
+    match way {
+        Way::Exact => -127,
+        Way::Octave => 0,
+    }
+}
+
+// A shift raised by one. The highest number of 16 bits stays.
+pub fn raised(shift: i16) -> i16
+    ensures { λ r. ⌜ r ≡ cond (ltZ shift (pos 32767)) (shift +ℤ pos 1) (pos 32767) ⌝ }
+{
+    if shift < 32767 { shift + 1 } else { 32767 }
+}
+
+// Whether the shift lies outside low to high.
+fn outside(shift: i16, low: i16, high: i16) -> bool
+    ensures { λ r. ⌜ r ≡ outside shift low high ⌝ }
+{
+    if shift < low {
+        return true;
+    }
+    high < shift
+}
+
+// Whether a bookmark may not have this shift: one below the way's lowest, or more than one above its highest.
+pub fn out_of_range(way: Way, shift: i16) -> bool
+    ensures { λ r. ⌜ r ≡ outOfRange way shift ⌝ }
+{
+    match way {
+        Way::Exact => outside(shift, -127, 128),
+        Way::Octave => outside(shift, 0, 12),
+    }
+}
+
+// The code of a shift. One that no bookmark may have gives 0.
+pub fn code_of(way: Way, shift: i16) -> u16
+    ensures { λ r. ⌜ r ≡ codeGiven way shift ⌝ }
+{
+    if out_of_range(way, shift) {
+        return 0;
+    }
+    (shift - lowest_of(way)) as u16
+}
+
+// The shift that a code stands for. A code above 255, which no bookmark has, gives the way's lowest.
+pub fn shift_of(way: Way, code: u16) -> i16
+    ensures { λ r. ⌜ r ≡ shiftGiven way code ⌝ }
+{
+    let lowest = lowest_of(way);
+    if 255 < code {
+        return lowest;
+    }
+    code as i16 + lowest
+}

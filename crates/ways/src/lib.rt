@@ -1,0 +1,16 @@
+// Ways of matching, their shifts, and where a search goes on.
+//
+// A `way` is how notes are matched; `codes` are the shifts of a way counted from its lowest. A found place is a pair, and a
+// `bookmark` the first pair to consider.
+
+pub mod bookmark;
+mod codes;
+pub mod way;
+
+pub use bookmark::Bookmark;
+pub use bookmark::Pair;
+pub use codes::code_of;
+pub use codes::out_of_range;
+pub use codes::shift_of;
+pub use codes::span_of;
+pub use way::Way;
