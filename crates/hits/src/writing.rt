@@ -5,6 +5,7 @@ use masks::Word;
 use score::Column;
 use score::HIGHEST_PITCH;
 use score::Pitch;
+use ways::HIGHEST_CODE;
 use ways::Way;
 use ways::shift_of;
 ghost use mathlib.Core.Path.{_≡_};
@@ -109,7 +110,7 @@ pub fn keep(
     if !hit {
         return at;
     }
-    if 255 < code {
+    if HIGHEST_CODE < code {
         return at;
     }
     if columns.len() <= at {

@@ -1,6 +1,13 @@
 // The shifts of a way, which may be below zero, and their codes, which count from the lowest. No other module of a search knows a
 // shift's sign.
 
+use crate::limits::EXACT_LOWEST;
+use crate::limits::EXACT_PAST;
+use crate::limits::EXACT_SHIFTS;
+use crate::limits::HIGHEST_CODE;
+use crate::limits::OCTAVE_LOWEST;
+use crate::limits::OCTAVE_PAST;
+use crate::limits::OCTAVE_SHIFTS;
 use crate::way::Way;
 ghost use mathlib.Core.Path.{_≡_};
 ghost use mathlib.Core.Bool.{cond};
@@ -14,8 +21,8 @@ pub fn span_of(way: Way) -> u16
     ensures { λ r. ⌜ r ≡ span way ⌝ }
 {
     match way {
-        Way::Exact => 255,
-        Way::Octave => 12,
+        Way::Exact => EXACT_SHIFTS,
+        Way::Octave => OCTAVE_SHIFTS,
     }
 }
 
@@ -24,8 +31,8 @@ pub fn lowest_of(way: Way) -> i16
     ensures { λ r. ⌜ r ≡ lowest way ⌝ }
 {
     match way {
-        Way::Exact => -127,
-        Way::Octave => 0,
+        Way::Exact => EXACT_LOWEST,
+        Way::Octave => OCTAVE_LOWEST,
     }
 }
 
@@ -51,8 +58,8 @@ pub fn out_of_range(way: Way, shift: i16) -> bool
     ensures { λ r. ⌜ r ≡ outOfRange way shift ⌝ }
 {
     match way {
-        Way::Exact => outside(shift, -127, 128),
-        Way::Octave => outside(shift, 0, 12),
+        Way::Exact => outside(shift, EXACT_LOWEST, EXACT_PAST),
+        Way::Octave => outside(shift, OCTAVE_LOWEST, OCTAVE_PAST),
     }
 }
 
@@ -71,7 +78,7 @@ pub fn shift_of(way: Way, code: u16) -> i16
     ensures { λ r. ⌜ r ≡ shiftGiven way code ⌝ }
 {
     let lowest = lowest_of(way);
-    if 255 < code {
+    if HIGHEST_CODE < code {
         return lowest;
     }
     code as i16 + lowest

@@ -1,0 +1,19 @@
+// The shifts of each way, and the codes. `specs/Way` has the same numbers.
+
+// The lowest shift of exact, and the one above its highest, which a bookmark may have.
+pub const EXACT_LOWEST: i16 = -127;
+
+pub const EXACT_PAST: i16 = 128;
+
+// How many shifts exact has.
+pub const EXACT_SHIFTS: u16 = 255;
+
+// The same of octave.
+pub const OCTAVE_LOWEST: i16 = 0;
+
+pub const OCTAVE_PAST: i16 = 12;
+
+pub const OCTAVE_SHIFTS: u16 = 12;
+
+// The highest code that a bookmark has.
+pub const HIGHEST_CODE: u16 = 255;
