@@ -26,7 +26,7 @@ use Rattle.search.specs.Pairs.{pairs}
 use Rattle.search.specs.Page.{QuickPages}
 use Rattle.search.specs.Demands.{candidateLooks}
 use Rattle.telling.specs.Lines.{hitLines, endLine, linesOf}
-use Rattle.telling.specs.Limits.{room, pagePairs}
+use Rattle.telling.specs.Limits.{room, pagePairs, mostPairs}
 use Rattle.telling.specs.Steps.{Wrote}
 use Rattle.telling.proofs.Puts.{wrote-then, wrote-room}
 use Rattle.telling.proofs.Searching.{searchOf, lines-append, pairs-few, looks-few, lines-few, Paging, own-list, callOf, calls}
@@ -61,7 +61,7 @@ module _ (cells : List ℕ) (h : ℕ) (theme : List ℕ) (way : Way) (lent out�
           length-append (hitLines done) (hitLines after),
         )
 
-    done-few : {c : Bookmark} {on : Bool} {done : List Pair} {paid : ℕ} → UnderWay S c on done paid → length done ≤ 32752
+    done-few : {c : Bookmark} {on : Bool} {done : List Pair} {paid : ℕ} → UnderWay S c on done paid → length done ≤ mostPairs
     done-few u =
         omega (
           arith,
@@ -106,7 +106,7 @@ module _ (cells : List ℕ) (h : ℕ) (theme : List ℕ) (way : Way) (lent out�
               length-append (hitLines (p .done)) (hitLines read),
             ))
 
-        pub turn-found : found + t .written ≤ 32752
+        pub turn-found : found + t .written ≤ mostPairs
         turn-found = omega (arith, done-few p next, length-append (p .done) read, counts, p .counted)
 
         pub turn-looks : spent + t .looks < 2 ^ 32
@@ -141,7 +141,7 @@ module _ (cells : List ℕ) (h : ℕ) (theme : List ℕ) (way : Way) (lent out�
     end-spent : spent ≡ candidateLooks way (scoreOf cells h) theme (setsOf (scoreOf cells h))
     end-spent = under-way-paid S (p .under-way) ∙ ap (λ (l : List ℕ). candidateLooks way (scoreOf cells h) theme l) (p .own)
 
-    pub end-few : found ≤ 32752
+    pub end-few : found ≤ mostPairs
     end-few = omega (arith, end-found, pairs-few cells h theme way (p .accepted))
 
     end-lines : hitLines (p .done) ++ endLine found spent ≡ linesOf way (scoreOf cells h) theme

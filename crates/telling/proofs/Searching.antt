@@ -45,7 +45,7 @@ use Rattle.search.proofs.Searches.{quick-calls}
 use Rattle.search.proofs.Quicker.{own-sets, own-listed}
 use Rattle.search.proofs.Demands.{all-looks-le, candidate-looks-le}
 use Rattle.telling.specs.Lines.{hitLine, hitLines, endLine, linesOf}
-use Rattle.telling.specs.Limits.{room, pagePairs}
+use Rattle.telling.specs.Limits.{room, pagePairs, mostPairs, mostAllLooks}
 use Rattle.telling.specs.Steps.{Wrote, Room}
 use Rattle.telling.proofs.Puts.{wrote-nil}
 use Rattle.telling.proofs.Widths.{lines-le, end-le}
@@ -77,7 +77,7 @@ lines-append a b = ap join (map-append hitLine a b) ∙ join-append (map hitLine
 -- ---- bounds
 
 module _ (cells : List ℕ) (h : ℕ) (theme : List ℕ) (way : Way) (a : Accepted mostNotes cells h theme) where
-  pub pairs-few : length (pairs way (scoreOf cells h) theme) ≤ 32752
+  pub pairs-few : length (pairs way (scoreOf cells h) theme) ≤ mostPairs
   pairs-few =
       omega (
         arith,
@@ -88,7 +88,7 @@ module _ (cells : List ℕ) (h : ℕ) (theme : List ℕ) (way : Way) (a : Accept
             (omega (arith, score-length cells h, a .columns-few, a .notes-some)) (a .tracks-few),
       )
 
-  pub looks-few : (lent : List ℕ) → candidateLooks way (scoreOf cells h) theme lent ≤ 1015312
+  pub looks-few : (lent : List ℕ) → candidateLooks way (scoreOf cells h) theme lent ≤ mostAllLooks
   looks-few lent =
       omega (
         arith,
