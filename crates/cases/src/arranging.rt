@@ -1,6 +1,5 @@
 // A job put into the lent buffers: its score, the sets of that score or of another one, its theme, and the changes to them.
 
-use crate::answers::ask_prepare;
 use crate::buffers::Cells;
 use crate::buffers::Sets;
 use crate::buffers::Theme;
@@ -14,6 +13,7 @@ use crate::random::fill_theme;
 use crate::worked::load;
 use crate::worked::load_theme;
 use crate::worlds::spell;
+use judging::answers::ask_prepare;
 use second::asks::Ask;
 
 // Puts a score into the lent buffer.

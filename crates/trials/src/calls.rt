@@ -1,11 +1,11 @@
 // The library's pages, each on the part of the lent buffers that is asked for, with the answer as plain numbers.
 
-use cases::answers::Got;
-use cases::answers::Lengths;
-use cases::answers::part;
-use cases::answers::refused;
-use cases::answers::too_short;
-use cases::answers::unasked;
+use judging::answers::Got;
+use judging::answers::Lengths;
+use judging::answers::part;
+use judging::answers::refused;
+use judging::answers::too_short;
+use judging::answers::unasked;
 use score::Column;
 use search::Bookmark;
 use search::Page;

@@ -2,7 +2,6 @@
 mod attempts;
 mod calls;
 mod lists;
-mod report;
 mod turns;
 
 use attempts::attempt;
@@ -15,7 +14,7 @@ use cases::buffers::Tally;
 use cases::buffers::Theme;
 use cases::families::job;
 use cases::families::jobs;
-use report::totals;
+use reporting::lines::totals;
 
 fn main() {
     let mut cells = [0u8; 34000];

@@ -1,10 +1,10 @@
--- `cases::marks::mark_sets` meets its contract: it is safe, and the measure is what is left of its range. Assumes nothing.
+-- `judging::marks::mark_sets` meets its contract: it is safe, and the measure is what is left of its range. Assumes nothing.
 use Prim.Native.Nat.{_-_}
 use borrow.Author.Needs.{needs}
 use lib.ListN.{length}
 use mathlib.Core.Path.{_≡_}
-use Rattle.cases.proofs.marks.mark_sets.Statement.{statement}
-use Rattle.cases.proofs.marks.mark_sets.Tie as tie
+use Rattle.judging.proofs.marks.mark_sets.Statement.{statement}
+use Rattle.judging.proofs.marks.mark_sets.Tie as tie
 
 abbrev Inv-loop : tie.InvT-loop
 Inv-loop s₀ many i₀ s i = length s ≡ length s₀

@@ -1,8 +1,8 @@
--- `cases::compare::follow` meets its contract: it is safe, and the measure is what is left of its range. Assumes nothing.
+-- `judging::compare::follow` meets its contract: it is safe, and the measure is what is left of its range. Assumes nothing.
 use Prim.Native.Nat.{_-_}
 use borrow.Author.Needs.{needs}
-use Rattle.cases.proofs.compare.follow.Statement.{statement}
-use Rattle.cases.proofs.compare.follow.Tie as tie
+use Rattle.judging.proofs.compare.follow.Statement.{statement}
+use Rattle.judging.proofs.compare.follow.Tie as tie
 
 abbrev Inv-loop : tie.InvT-loop
 Inv-loop cells theme sets columns shifts a call got column₀ c₀ looks₀ k₀ k-end column c looks k = Unit {0}

@@ -1,8 +1,8 @@
--- `trials::report::sets` meets its contract: it is safe, and the measure is what is left of its range. Assumes nothing.
+-- `reporting::pieces::sets` meets its contract: it is safe, and the measure is what is left of its range. Assumes nothing.
 use Prim.Native.Nat.{_-_}
 use borrow.Author.Needs.{needs}
-use Rattle.trials.proofs.report.sets.Statement.{statement}
-use Rattle.trials.proofs.report.sets.Tie as tie
+use Rattle.reporting.proofs.pieces.sets.Statement.{statement}
+use Rattle.reporting.proofs.pieces.sets.Tie as tie
 
 abbrev Inv-loop : tie.InvT-loop
 Inv-loop s many i₀ i = Unit {0}

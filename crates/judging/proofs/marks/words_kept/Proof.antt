@@ -1,8 +1,8 @@
--- `cases::marks::sets_kept` meets its contract: it is safe, and the measure is what is left of its range. Assumes nothing.
+-- `judging::marks::words_kept` meets its contract: it is safe, and the measure is what is left of its range. Assumes nothing.
 use Prim.Native.Nat.{_-_}
 use borrow.Author.Needs.{needs}
-use Rattle.cases.proofs.marks.sets_kept.Statement.{statement}
-use Rattle.cases.proofs.marks.sets_kept.Tie as tie
+use Rattle.judging.proofs.marks.words_kept.Statement.{statement}
+use Rattle.judging.proofs.marks.words_kept.Tie as tie
 
 abbrev Inv-loop : tie.InvT-loop
 Inv-loop s from to i₀ i = Unit {0}
@@ -13,14 +13,14 @@ abbrev μ-loop : tie.MeasureT-loop
 loop-holds : tie.Need-loop-holds Inv-loop μ-loop
 loop-holds c = search needs
 
-set-requires : tie.Need-set-requires Inv-loop μ-loop
-set-requires c κs = search needs
+word-requires : tie.Need-word-requires Inv-loop μ-loop
+word-requires c κs = search needs
 
-set-mark-requires : tie.Need-set-mark-requires Inv-loop μ-loop
-set-mark-requires c κs = search needs
+word-mark-requires : tie.Need-word-mark-requires Inv-loop μ-loop
+word-mark-requires c κs = search needs
 
-size16-requires : tie.Need-size16-requires Inv-loop μ-loop
-size16-requires c κs = search needs
+size32-requires : tie.Need-size32-requires Inv-loop μ-loop
+size32-requires c κs = search needs
 
 returns : tie.Need-returns Inv-loop μ-loop
 returns c = search needs
@@ -37,16 +37,16 @@ loop-again c = search needs
 returns-2 : tie.Need-returns-2 Inv-loop μ-loop
 returns-2 c = search needs
 
-pub sets-kept-spec : {M : Type 1} → statement M
-sets-kept-spec =
+pub words-kept-spec : {M : Type 1} → statement M
+words-kept-spec =
     tie.close
     (tie.spec
     Inv-loop
     μ-loop
     loop-holds
-    set-requires
-    set-mark-requires
-    size16-requires
+    word-requires
+    word-mark-requires
+    size32-requires
     returns
     add-i
     loop-less

@@ -1,25 +1,25 @@
--- `cases::marks::mark_shifts` meets its contract: it is safe, and the measure is what is left of its range. Assumes nothing.
+-- `judging::marks::mark_words` meets its contract: it is safe, and the measure is what is left of its range. Assumes nothing.
 use Prim.Native.Nat.{_-_}
 use borrow.Author.Needs.{needs}
 use lib.ListN.{length}
 use mathlib.Core.Path.{_≡_}
-use Rattle.cases.proofs.marks.mark_shifts.Statement.{statement}
-use Rattle.cases.proofs.marks.mark_shifts.Tie as tie
+use Rattle.judging.proofs.marks.mark_words.Statement.{statement}
+use Rattle.judging.proofs.marks.mark_words.Tie as tie
 
 abbrev Inv-loop : tie.InvT-loop
-Inv-loop s₀ many i₀ s i = length s ≡ length s₀
+Inv-loop s₀ from to i₀ s i = length s ≡ length s₀
 
 abbrev μ-loop : tie.MeasureT-loop
-μ-loop s₀ many i₀ s i = many - i
+μ-loop s₀ from to i₀ s i = to - i
 
 loop-holds : tie.Need-loop-holds Inv-loop μ-loop
 loop-holds c = search needs
 
-shift-mark-requires : tie.Need-shift-mark-requires Inv-loop μ-loop
-shift-mark-requires c κs = search needs
+word-mark-requires : tie.Need-word-mark-requires Inv-loop μ-loop
+word-mark-requires c κs = search needs
 
-put-shift-requires : tie.Need-put-shift-requires Inv-loop μ-loop
-put-shift-requires c κs = search needs
+put-word-requires : tie.Need-put-word-requires Inv-loop μ-loop
+put-word-requires c κs = search needs
 
 add-i : tie.Need-add-i Inv-loop μ-loop
 add-i c = search needs
@@ -36,15 +36,15 @@ same-length c = search needs
 returns : tie.Need-returns Inv-loop μ-loop
 returns c = search needs
 
-pub mark-shifts-spec : {M : Type 1} → statement M
-mark-shifts-spec =
+pub mark-words-spec : {M : Type 1} → statement M
+mark-words-spec =
     tie.close
     (tie.spec
     Inv-loop
     μ-loop
     loop-holds
-    shift-mark-requires
-    put-shift-requires
+    word-mark-requires
+    put-word-requires
     add-i
     loop-less
     loop-again

@@ -1,8 +1,8 @@
--- `trials::report::pairs` meets its contract: it is safe, and the measure is what is left of its range. Assumes nothing.
+-- `reporting::pieces::pairs` meets its contract: it is safe, and the measure is what is left of its range. Assumes nothing.
 use Prim.Native.Nat.{_-_}
 use borrow.Author.Needs.{needs}
-use Rattle.trials.proofs.report.pairs.Statement.{statement}
-use Rattle.trials.proofs.report.pairs.Tie as tie
+use Rattle.reporting.proofs.pieces.pairs.Statement.{statement}
+use Rattle.reporting.proofs.pieces.pairs.Tie as tie
 
 abbrev Inv-loop : tie.InvT-loop
 Inv-loop columns shifts many i₀ i = Unit {0}

@@ -1,8 +1,8 @@
--- `cases::marks::shifts_kept` meets its contract: it is safe, and the measure is what is left of its range. Assumes nothing.
+-- `judging::marks::sets_kept` meets its contract: it is safe, and the measure is what is left of its range. Assumes nothing.
 use Prim.Native.Nat.{_-_}
 use borrow.Author.Needs.{needs}
-use Rattle.cases.proofs.marks.shifts_kept.Statement.{statement}
-use Rattle.cases.proofs.marks.shifts_kept.Tie as tie
+use Rattle.judging.proofs.marks.sets_kept.Statement.{statement}
+use Rattle.judging.proofs.marks.sets_kept.Tie as tie
 
 abbrev Inv-loop : tie.InvT-loop
 Inv-loop s from to i₀ i = Unit {0}
@@ -13,11 +13,14 @@ abbrev μ-loop : tie.MeasureT-loop
 loop-holds : tie.Need-loop-holds Inv-loop μ-loop
 loop-holds c = search needs
 
-shift-requires : tie.Need-shift-requires Inv-loop μ-loop
-shift-requires c κs = search needs
+set-requires : tie.Need-set-requires Inv-loop μ-loop
+set-requires c κs = search needs
 
-shift-mark-requires : tie.Need-shift-mark-requires Inv-loop μ-loop
-shift-mark-requires c κs = search needs
+set-mark-requires : tie.Need-set-mark-requires Inv-loop μ-loop
+set-mark-requires c κs = search needs
+
+size16-requires : tie.Need-size16-requires Inv-loop μ-loop
+size16-requires c κs = search needs
 
 returns : tie.Need-returns Inv-loop μ-loop
 returns c = search needs
@@ -34,15 +37,16 @@ loop-again c = search needs
 returns-2 : tie.Need-returns-2 Inv-loop μ-loop
 returns-2 c = search needs
 
-pub shifts-kept-spec : {M : Type 1} → statement M
-shifts-kept-spec =
+pub sets-kept-spec : {M : Type 1} → statement M
+sets-kept-spec =
     tie.close
     (tie.spec
     Inv-loop
     μ-loop
     loop-holds
-    shift-requires
-    shift-mark-requires
+    set-requires
+    set-mark-requires
+    size16-requires
     returns
     add-i
     loop-less

@@ -1,9 +1,9 @@
--- `cases::answers::ask_prepare` meets its contract: it is safe and ends, since `part` stays within its buffer. Assumes nothing.
+-- `judging::answers::ask_prepare` meets its contract: it is safe and ends, since `part` stays within its buffer. Assumes nothing.
 use borrow.Author.Needs.{needs}
 use lib.Seq.{length-take-le}
 use mathlib.Core.Path.{sym}
-use Rattle.cases.proofs.answers.ask_prepare.Statement.{statement}
-use Rattle.cases.proofs.answers.ask_prepare.Tie as tie
+use Rattle.judging.proofs.answers.ask_prepare.Statement.{statement}
+use Rattle.judging.proofs.answers.ask_prepare.Tie as tie
 
 pub ask-prepare-spec : {M : Type 1} → statement M
 ask-prepare-spec =

@@ -1,8 +1,8 @@
--- `cases::marks::words_kept` meets its contract: it is safe, and the measure is what is left of its range. Assumes nothing.
+-- `judging::marks::shifts_kept` meets its contract: it is safe, and the measure is what is left of its range. Assumes nothing.
 use Prim.Native.Nat.{_-_}
 use borrow.Author.Needs.{needs}
-use Rattle.cases.proofs.marks.words_kept.Statement.{statement}
-use Rattle.cases.proofs.marks.words_kept.Tie as tie
+use Rattle.judging.proofs.marks.shifts_kept.Statement.{statement}
+use Rattle.judging.proofs.marks.shifts_kept.Tie as tie
 
 abbrev Inv-loop : tie.InvT-loop
 Inv-loop s from to i₀ i = Unit {0}
@@ -13,14 +13,11 @@ abbrev μ-loop : tie.MeasureT-loop
 loop-holds : tie.Need-loop-holds Inv-loop μ-loop
 loop-holds c = search needs
 
-word-requires : tie.Need-word-requires Inv-loop μ-loop
-word-requires c κs = search needs
+shift-requires : tie.Need-shift-requires Inv-loop μ-loop
+shift-requires c κs = search needs
 
-word-mark-requires : tie.Need-word-mark-requires Inv-loop μ-loop
-word-mark-requires c κs = search needs
-
-size32-requires : tie.Need-size32-requires Inv-loop μ-loop
-size32-requires c κs = search needs
+shift-mark-requires : tie.Need-shift-mark-requires Inv-loop μ-loop
+shift-mark-requires c κs = search needs
 
 returns : tie.Need-returns Inv-loop μ-loop
 returns c = search needs
@@ -37,16 +34,15 @@ loop-again c = search needs
 returns-2 : tie.Need-returns-2 Inv-loop μ-loop
 returns-2 c = search needs
 
-pub words-kept-spec : {M : Type 1} → statement M
-words-kept-spec =
+pub shifts-kept-spec : {M : Type 1} → statement M
+shifts-kept-spec =
     tie.close
     (tie.spec
     Inv-loop
     μ-loop
     loop-holds
-    word-requires
-    word-mark-requires
-    size32-requires
+    shift-requires
+    shift-mark-requires
     returns
     add-i
     loop-less

@@ -1,8 +1,8 @@
--- `trials::report::bytes` meets its contract: it is safe, and the measure is what is left of its range. Assumes nothing.
+-- `reporting::pieces::bytes` meets its contract: it is safe, and the measure is what is left of its range. Assumes nothing.
 use Prim.Native.Nat.{_-_}
 use borrow.Author.Needs.{needs}
-use Rattle.trials.proofs.report.bytes.Statement.{statement}
-use Rattle.trials.proofs.report.bytes.Tie as tie
+use Rattle.reporting.proofs.pieces.bytes.Statement.{statement}
+use Rattle.reporting.proofs.pieces.bytes.Tie as tie
 
 abbrev Inv-loop : tie.InvT-loop
 Inv-loop s many i₀ i = Unit {0}
