@@ -1,7 +1,7 @@
 -- What both walks keep: of the page over `whole`, all starts that a walk goes along, those before a spot are tried, and the starts kept from
 -- there on are left. Which columns are kept is any choice. Laws: start; of a turn, in which some columns are listed: asks (what trying them
 -- asks for), bound and on (they are tried); over. Then where each walk begins, and what each lists. Assumes nothing.
-use mathlib.Core.Path.{_≡_, refl, sym, ap, _∙_}
+use mathlib.Core.Path.{_≡_, refl, sym, ap, _∙_, subst}
 use mathlib.Core.Bool.{Bool, true, false, cond, _&&_}
 use mathlib.Core.List.{List, _∷_, _++_}
 use Prim.Native.Nat.{ℕ, zero, suc, _+_, _-_, _*_, _^_, _≤_, _<_, zero-le}
@@ -164,8 +164,10 @@ module _ {keep : ℕ → Bool} {way : Way} {cells : List ℕ} {h : ℕ} {theme :
         pub turn-bound : spent + costs < 2 ^ 32
         turn-bound = omega (arith, few-here, tries .costs)
 
-        pub turn-on : Walking keep way cells h theme whole columns₀ shifts₀ columns′ shifts′ (goneOn j found′) (spent + costs)
-        turn-on =
+        pub turn-on : {next : Spot} → next ≡ goneOn j found′
+            → Walking keep way cells h theme whole columns₀ shifts₀ columns′ shifts′ next (spent + costs)
+        turn-on e =
+            subst (λ (s : Spot). Walking keep way cells h theme whole columns₀ shifts₀ columns′ shifts′ s (spent + costs)) (sym e)
             record {
               ready = t .ready;
               taking = take-part _ _ _ _ _ _ _ _ _ _ _ here (keptFrom way (scoreOf cells h) theme keep j 0) split _ _ _ _ tries;

@@ -1,7 +1,7 @@
 -- `walking::walk::walk_candidates` meets its contract. The invariant is `Walking` with the candidates kept, that the register has taken every
 -- entry before the one that decides column j, and that the words in the ring are right. The measure is the columns left. Assumes nothing.
 use borrow.Author.Needs.{needs}
-use mathlib.Core.Path.{_≡_, refl, sym, _∙_}
+use mathlib.Core.Path.{_≡_, refl, sym, ap, _∙_}
 use mathlib.Core.Bool.{_&&_, false}
 use Prim.Native.Nat.{_-_, _≤_, _<_, zero-le}
 use native.Mathlib.Omega.{arith}
@@ -11,6 +11,7 @@ use borrow.Author.Tests.{ltb-true, le-ltb}
 use Rattle.theory.specs.Pages.{from}
 use Rattle.score.specs.Score.{scoreOf}
 use Rattle.filter.specs.Limits.{wordBits}
+use Rattle.walking.specs.declared.walked.Spot.{Spot}
 use Rattle.walking.specs.Starts.{key}
 use Rattle.walking.specs.Candidates.{candidate, quickStarts}
 use Rattle.walking.specs.Scan.{Lent, Filters}
@@ -177,8 +178,8 @@ loop-again c =
     let d = l .list-candidates .ensures in
     let i = at-loop (l .before .before) in
     let u = candidates-turn (l .list-candidates .ensures) (i .loop .inv .0) (i .loop .inv .1) (i .before .before .before .before .before .end-of .ensures) in (
-      rw (c .go-on .ensures) (turn-on u (w .walk-along .ensures .0)),
-      rw (c .go-on .ensures) refl,
+      turn-on u (w .walk-along .ensures .0) (c .go-on .ensures),
+      sym (ap (λ (s : Spot). s .column .0) (c .go-on .ensures)),
       d .decides .goes-on,
       w .walk-along .ensures .1,
       candidates-long d ∙ i .loop .inv .4,

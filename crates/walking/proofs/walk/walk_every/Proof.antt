@@ -128,8 +128,8 @@ loop-again c =
     let a = l .before .before in
     let i = at-loop a .loop .inv in
     let u = every-turn (l .list-every .ensures) (i .0) (i .1) (a .some-of .ensures .0) (within a) in (
-      rw (c .go-on .ensures) (turn-on u (w .walk-along .ensures .0)),
-      rw (c .go-on .ensures) refl,
+      turn-on u (w .walk-along .ensures .0) (c .go-on .ensures),
+      sym (ap (λ (s : Spot). s .column .0) (c .go-on .ensures)),
       w .walk-along .ensures .1,
       every-long (l .list-every .ensures) (omega (arith, a .some-of .ensures .2, i .3)) ∙ i .3,
     )
