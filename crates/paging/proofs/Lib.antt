@@ -6,6 +6,7 @@ pub mod Buffers
 pub mod Paging
 pub mod Readings
 pub mod OnePages
+pub mod Finished
 pub mod Fewer
 pub mod Answers
 pub mod Turnings

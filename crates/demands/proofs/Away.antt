@@ -1,0 +1,73 @@
+-- Demand 1: each call, over its promise. The idea: an answer that meets the promise is the defined one, whose refusals are known. Assumes
+-- nothing.
+use mathlib.Core.Path.{_≡_, refl, sym, _∙_}
+use mathlib.Core.Logic.{_↔_}
+use mathlib.Core.List.{List, [], _∷_, map}
+use Prim.Native.Nat.{ℕ}
+use Rattle.score.specs.declared.refusals.Refusal.{Refusal}
+use Rattle.score.specs.declared.refusals.Verdict.the-variants.{Accepted as Passed, Refused as Away}
+use Rattle.score.specs.Refusals.{Row, verdict, GivenBy, placeBy}
+use Rattle.score.proofs.Judged.{Clear, judge-clear, verdict-clear}
+use Rattle.preparing.specs.declared.sets.Preparation.{Preparation}
+use Rattle.preparing.specs.declared.sets.Preparation.the-variants.{Prepared, Refused as Unprepared}
+use Rattle.preparing.specs.Preparing.{prepareRows, Prepares}
+use Rattle.preparing.proofs.Prepared.{prepare-accepted, prepare-refused, prepare-kept}
+use Rattle.ways.specs.declared.way.Way.{Way}
+use Rattle.ways.specs.declared.bookmark.Bookmark.{Bookmark}
+use Rattle.asking.proofs.Rows.{plain-clear, quick-clear}
+use Rattle.paging.specs.declared.page.Turn.{Turn}
+use Rattle.paging.specs.declared.page.Page.{Page}
+use Rattle.paging.specs.declared.page.Page.the-variants.{Turned, Refused}
+use Rattle.paging.specs.Lent.{Lent}
+use Rattle.search.specs.Page.{rowsOfPlain, PlainPages, rowsOfQuick, QuickPages}
+use Rattle.search.proofs.PlainCall.{plain-turned, plain-refused, plain-kept}
+use Rattle.search.proofs.QuickCall.{quick-turned, quick-refused, quick-kept}
+use Rattle.demands.specs.Demands.{TurnsAway}
+
+-- no row applies exactly where the verdict accepts
+clear-verdict : (rows : List Row) → Clear rows ↔ (verdict rows ≡ Passed)
+clear-verdict rows = (λ c. judge-clear Away Passed rows c, λ e. verdict-clear rows e)
+
+pub prepares-away : (cells : List ℕ) (h : ℕ) (lent : List ℕ) {answer : Preparation} {after : List ℕ} → Prepares cells h lent answer after
+    → TurnsAway (1 ∷ 2 ∷ 3 ∷ 6 ∷ []) (prepareRows cells h lent) (λ r. answer ≡ Unprepared r) (answer ≡ Prepared) (after ≡ lent)
+prepares-away cells h lent p =
+    let v = clear-verdict (prepareRows cells h lent) in
+    let a = prepare-accepted cells h lent in
+    record {
+      order = refl;
+      exactly = λ k q. let e = prepare-refused cells h lent k q in (λ x. e .0 (sym (p .answers) ∙ x), λ x. p .answers ∙ e .1 x);
+      otherwise = (λ x. v .0 (a .0 (sym (p .answers) ∙ x)), λ x. p .answers ∙ a .1 (v .1 x));
+      unwritten = λ r x. p .fills ∙ prepare-kept cells h lent r (sym (p .answers) ∙ x);
+    }
+
+pub plain-away : (cells : List ℕ) (h : ℕ) (theme : List ℕ) (way : Way) (b : Bookmark) (buffers : Lent) {answer : Page} {after : Lent}
+    → PlainPages cells h theme way b buffers answer after
+    → TurnsAway (1 ∷ 2 ∷ 3 ∷ 4 ∷ 5 ∷ 9 ∷ 10 ∷ []) (rowsOfPlain cells h theme way b buffers)
+    (λ r. answer ≡ Refused r) ((t : Turn) × (answer ≡ Turned t)) (after ≡ buffers)
+plain-away cells h theme way b buffers p =
+    let e = p .pages .answers in
+    let v = clear-verdict (rowsOfPlain cells h theme way b buffers) in
+    let a = plain-turned cells h theme way b buffers in
+    let c = plain-clear cells h theme way b (buffers .columns) (buffers .shifts) in
+    record {
+      order = refl;
+      exactly = λ k q. let f = plain-refused cells h theme way b buffers k q in (λ x. f .0 (sym e ∙ x), λ x. e ∙ f .1 x);
+      otherwise = (λ x. v .0 (c .0 (a .0 (x .0, sym e ∙ x .1))), λ x. let t = a .1 (c .1 (v .1 x)) in (t .0, e ∙ t .1));
+      unwritten = λ r x. p .pages .writes ∙ plain-kept cells h theme way b buffers r (sym e ∙ x);
+    }
+
+pub quick-away : (cells : List ℕ) (h : ℕ) (theme : List ℕ) (way : Way) (b : Bookmark) (sets table : List ℕ) (buffers : Lent)
+    {answer : Page} {table′ : List ℕ} {after : Lent} → QuickPages cells h theme way b sets table buffers answer table′ after
+    → TurnsAway (1 ∷ 2 ∷ 3 ∷ 4 ∷ 5 ∷ 6 ∷ 7 ∷ 8 ∷ 9 ∷ 10 ∷ []) (rowsOfQuick cells h theme way b sets table buffers)
+    (λ r. answer ≡ Refused r) ((t : Turn) × (answer ≡ Turned t)) ((after ≡ buffers) × (table′ ≡ table))
+quick-away cells h theme way b sets table buffers p =
+    let e = p .pages .answers in
+    let v = clear-verdict (rowsOfQuick cells h theme way b sets table buffers) in
+    let a = quick-turned cells h theme way b sets table buffers in
+    let c = quick-clear cells h theme way b sets table (buffers .columns) (buffers .shifts) in
+    record {
+      order = refl;
+      exactly = λ k q. let f = quick-refused cells h theme way b sets table buffers k q in (λ x. f .0 (sym e ∙ x), λ x. e ∙ f .1 x);
+      otherwise = (λ x. v .0 (c .0 (a .0 (x .0, sym e ∙ x .1))), λ x. let t = a .1 (c .1 (v .1 x)) in (t .0, e ∙ t .1));
+      unwritten = λ r x. let k = quick-kept cells h theme way b sets table buffers r (sym e ∙ x) in (p .pages .writes ∙ k .0, p .fills-table ∙ k .1);
+    }

@@ -1,0 +1,130 @@
+-- When a list is trusted: three demands, each a record over what the calls promise and over no method. `Demand1`: what is turned away, and
+-- that nothing is then written. `Demand2`: what is listed and what is prepared is true. `Demand3`: pages joined are the whole list, and
+-- quick pages are the plain ones. That all three hold is `proofs/Demands`. Assumes nothing.
+use mathlib.Core.Path.{_≡_}
+use mathlib.Core.Logic.{_↔_}
+use mathlib.Core.List.{List, [], _∷_, map, List·Memᴰ as In}
+use Prim.Native.Nat.{ℕ, _+_, _-_, _/_, _≤_, _<_}
+use lib.ListN.{length, getD}
+use Rattle.theory.specs.Lists.{sum, join}
+use Rattle.theory.specs.Bits.{bit}
+use Rattle.score.specs.Limits.{tableWords}
+use Rattle.score.specs.declared.quantities.Interval.{Interval}
+use Rattle.score.specs.declared.refusals.Refusal.{Refusal}
+use Rattle.score.specs.declared.refusals.Verdict.the-variants.{Accepted as Passed}
+use Rattle.score.specs.Score.{columnAt, column, scoreOf}
+use Rattle.score.specs.Sets.{Apart}
+use Rattle.score.specs.Refusals.{Row, verdict, GivenBy, placeBy}
+use Rattle.preparing.specs.declared.sets.Preparation.{Preparation}
+use Rattle.preparing.specs.declared.sets.Preparation.the-variants.{Prepared, Refused as Unprepared}
+use Rattle.preparing.specs.Preparing.{prepareRows, Prepares}
+use Rattle.ways.specs.declared.way.Way.{Way}
+use Rattle.ways.specs.declared.bookmark.Pair.{Pair}
+use Rattle.ways.specs.declared.bookmark.Bookmark.{Bookmark}
+use Rattle.ways.specs.Way.{rangeOf}
+use Rattle.ways.specs.Bookmarks.{firstBookmark}
+use Rattle.asking.specs.Limits.{mostNotes}
+use Rattle.asking.specs.Asking.{Accepted}
+use Rattle.paging.specs.declared.page.Turn.{Turn}
+use Rattle.paging.specs.declared.page.Page.{Page}
+use Rattle.paging.specs.declared.page.Page.the-variants.{Turned, Refused}
+use Rattle.paging.specs.Lent.{Lent, Room, readPairs}
+use Rattle.paging.specs.Order.{Ordered}
+use Rattle.paging.specs.Page.{Leaf}
+use Rattle.paging.specs.Reading.{Reading}
+use Rattle.paging.specs.Listing.{Read}
+use Rattle.search.specs.Definition.{Stands}
+use Rattle.search.specs.Page.{rowsOfPlain, PlainPages, rowsOfQuick, QuickPages}
+use Rattle.search.specs.Demands.{mostLooks}
+
+-- ---- demand 1: every call is defined for all that it may be given. What is bad gets its refusal and its place, exactly on its row, and then
+-- nothing lent is written
+
+-- a call that is judged by these rows, which have these numbers in this order. `Refuses r` says that its answer is refusal r, `Accepts` that
+-- it is none, and `Untouched` that every lent buffer is what it was
+pub record TurnsAway (numbers : List ℕ) (rows : List Row) (Refuses : Refusal → Type 0) (Accepts Untouched : Type 0) : Type 0 where
+  pub order : map (λ (row : Row). row .given .number) rows ≡ numbers
+  -- number k and place p are given exactly where row k is the first that applies, and p is the place that it names
+  pub exactly : (k p : ℕ) → Refuses (record { number = k; place = p }) ↔ (GivenBy rows k × (p ≡ placeBy rows k))
+  -- and the call is accepted exactly where no row applies
+  pub otherwise : Accepts ↔ (verdict rows ≡ Passed)
+  pub unwritten : (r : Refusal) → Refuses r → Untouched
+
+pub record Demand1 : Type 0 where
+  pub preparation : (cells : List ℕ) (h : ℕ) (lent : List ℕ) {answer : Preparation} {after : List ℕ} → Prepares cells h lent answer after
+      → TurnsAway (1 ∷ 2 ∷ 3 ∷ 6 ∷ []) (prepareRows cells h lent) (λ r. answer ≡ Unprepared r) (answer ≡ Prepared) (after ≡ lent)
+  pub plain : (cells : List ℕ) (h : ℕ) (theme : List ℕ) (way : Way) (b : Bookmark) (buffers : Lent) {answer : Page} {after : Lent}
+      → PlainPages cells h theme way b buffers answer after
+      → TurnsAway (1 ∷ 2 ∷ 3 ∷ 4 ∷ 5 ∷ 9 ∷ 10 ∷ []) (rowsOfPlain cells h theme way b buffers)
+      (λ r. answer ≡ Refused r) ((t : Turn) × (answer ≡ Turned t)) (after ≡ buffers)
+  pub quick : (cells : List ℕ) (h : ℕ) (theme : List ℕ) (way : Way) (b : Bookmark) (sets table : List ℕ) (buffers : Lent)
+      {answer : Page} {table′ : List ℕ} {after : Lent} → QuickPages cells h theme way b sets table buffers answer table′ after
+      → TurnsAway (1 ∷ 2 ∷ 3 ∷ 4 ∷ 5 ∷ 6 ∷ 7 ∷ 8 ∷ 9 ∷ 10 ∷ []) (rowsOfQuick cells h theme way b sets table buffers)
+      (λ r. answer ≡ Refused r) ((t : Turn) × (answer ≡ Turned t)) ((after ≡ buffers) × (table′ ≡ table))
+
+-- ---- demand 2: a pair is listed only if it stands by the published definition, whatever sets were lent; prepared sets are exactly the
+-- intervals between neighbouring columns, mod 12
+
+-- entry k, from 1, belongs to columns k and k + 1: its bit d, 0 to 11, is 0 exactly where they have pitches d apart, and it has no other bits
+pub record IntervalsOf (score : List (List ℕ)) (sets : List ℕ) : Type 0 where
+  pub one-less : length sets ≡ length score - 1
+  pub each : (k : ℕ) → 1 ≤ k → k < length score → (d : Interval) → d .0 < 12
+      → (bit (getD sets (k - 1) 0) (d .0) ≡ 0) ↔ Apart (column score (columnAt k)) (column score (columnAt (k + 1))) d
+  pub no-other : (k q : ℕ) → 12 ≤ q → bit (getD sets k 0) q ≡ 0
+
+pub record Demand2 : Type 0 where
+  pub plain : (cells : List ℕ) (h : ℕ) (theme : List ℕ) (way : Way) (b : Bookmark) (buffers : Lent) {t : Turn} {after : Lent}
+      → PlainPages cells h theme way b buffers (Turned t) after
+      → {pair : Pair} → In pair (readPairs (t .written) after) → Stands way (scoreOf cells h) theme pair
+  pub quick : (cells : List ℕ) (h : ℕ) (theme : List ℕ) (way : Way) (b : Bookmark) (sets table : List ℕ) (buffers : Lent)
+      {t : Turn} {table′ : List ℕ} {after : Lent} → QuickPages cells h theme way b sets table buffers (Turned t) table′ after
+      → {pair : Pair} → In pair (readPairs (t .written) after) → Stands way (scoreOf cells h) theme pair
+  pub prepared : (cells : List ℕ) (h : ℕ) (lent : List ℕ) {after : List ℕ} → Prepares cells h lent Prepared after → IntervalsOf (scoreOf cells h) after
+
+-- ---- demand 3: plain pages from the first bookmark, each going on from the one last returned, up to the first that is finished, joined give
+-- every such pair once, by column and then shift; quick pages with the score's own sets are the same; L pairs need L / r + 1 pages
+
+-- any call that promises what a plain or a quick call does, at every bookmark and for whatever buffers it is lent. A quick call is lent these
+-- sets, and at each call any table of 4,096 places
+abbrev pub PlainCall : (cells : List ℕ) (h : ℕ) (theme : List ℕ) → Way → (Bookmark → Lent → Leaf) → Type 0
+PlainCall cells h theme way call = (b : Bookmark) (buffers : Lent) → PlainPages cells h theme way b buffers (call b buffers .answer) (call b buffers .buffers)
+
+pub record QuickCall (cells : List ℕ) (h : ℕ) (theme : List ℕ) (way : Way) (sets : List ℕ) (call : Bookmark → Lent → Leaf) : Type 0 where
+  pub table : Bookmark → Lent → List ℕ
+  pub table′ : Bookmark → Lent → List ℕ
+  pub long : (b : Bookmark) (buffers : Lent) → length (table b buffers) ≡ tableWords
+  pub promises : (b : Bookmark) (buffers : Lent)
+      → QuickPages cells h theme way b sets (table b buffers) buffers (call b buffers .answer) (table′ b buffers) (call b buffers .buffers)
+
+-- with room r and from the first bookmark: whatever buffers are lent there is a reading; and of every reading the pages, joined, hold exactly the
+-- pairs that stand, in order and so each once; there are L / r + 1 of them; and their looks are within the bound
+pub record ListsAll (cells : List ℕ) (h : ℕ) (theme : List ℕ) (way : Way) (r : ℕ) (call : Bookmark → Lent → Leaf) : Type 0 where
+  pub read : (supply : ℕ → Lent) → ((i : ℕ) → Room r (supply i)) → Read supply call r 0 (firstBookmark (rangeOf way))
+  pub exactly : {pages : List (List Pair)} {turns : List Turn} → Reading call r (firstBookmark (rangeOf way)) pages turns
+      → (pair : Pair) → In pair (join pages) ↔ Stands way (scoreOf cells h) theme pair
+  pub ordered : {pages : List (List Pair)} {turns : List Turn} → Reading call r (firstBookmark (rangeOf way)) pages turns → Ordered (join pages)
+  pub counted : {pages : List (List Pair)} {turns : List Turn} → Reading call r (firstBookmark (rangeOf way)) pages turns
+      → length pages ≡ length (join pages) / r + 1
+  pub looked : {pages : List (List Pair)} {turns : List Turn} → Reading call r (firstBookmark (rangeOf way)) pages turns
+      → sum (map (λ (t : Turn). t .looks) turns) ≤ mostLooks cells h theme
+
+-- page by page the same count, the same bookmark and the same end, with no more looks
+pub data NoDearer : (quick plain : List Turn) → Type 0 where
+  none : NoDearer [] []
+  more : {t u : Turn} {ts us : List Turn} → t .written ≡ u .written → t .next ≡ u .next → t .finished ≡ u .finished → t .looks ≤ u .looks
+      → NoDearer ts us → NoDearer (t ∷ ts) (u ∷ us)
+
+pub record Demand3 : Type 0 where
+  pub plain : (cells : List ℕ) (h : ℕ) (theme : List ℕ) (way : Way) → Accepted mostNotes cells h theme → (r : ℕ) → 1 ≤ r
+      → {call : Bookmark → Lent → Leaf} → PlainCall cells h theme way call → ListsAll cells h theme way r call
+  -- with the sets that a preparation left for that same score
+  pub quick : (cells : List ℕ) (h : ℕ) (theme : List ℕ) (way : Way) → Accepted mostNotes cells h theme → (r : ℕ) → 1 ≤ r
+      → (lent : List ℕ) {sets : List ℕ} → Prepares cells h lent Prepared sets
+      → {call : Bookmark → Lent → Leaf} → QuickCall cells h theme way sets call → ListsAll cells h theme way r call
+  -- and then every page is the plain one
+  pub same : (cells : List ℕ) (h : ℕ) (theme : List ℕ) (way : Way) → Accepted mostNotes cells h theme → (r : ℕ) → 1 ≤ r
+      → (lent : List ℕ) {sets : List ℕ} → Prepares cells h lent Prepared sets
+      → {plainly quickly : Bookmark → Lent → Leaf} → PlainCall cells h theme way plainly → QuickCall cells h theme way sets quickly
+      → {pages pages′ : List (List Pair)} {turns turns′ : List Turn}
+      → Reading plainly r (firstBookmark (rangeOf way)) pages turns → Reading quickly r (firstBookmark (rangeOf way)) pages′ turns′
+      → (pages′ ≡ pages) × NoDearer turns′ turns

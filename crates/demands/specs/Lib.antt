@@ -1,0 +1,2 @@
+-- When a list is trusted: the three demands, and nothing else.
+pub mod Demands
