@@ -58,7 +58,7 @@ module _ {Start : Type 0} {S : Search Start} {r : ℕ} {call : Bookmark → Lent
       (ap not f, rw (f, lt-ltb (S .columns) 65535 (calls .right .few)))
 
   module _ (i : InRange (S .range) (S .columns) b) (buffers : Lent) (room : Room r buffers) where
-    pub call-page : PageOf (listed S) (S .range) (S .columns) b buffers (call b buffers)
+    pub call-page : PageOf (listed S) (S .range) (S .columns) (spent S (length (buffers .columns)) b) b buffers (call b buffers)
     call-page =
         let e = call-leaf calls b i buffers room in
         let p : firstPairs (length (buffers .columns)) b (listed S) ≡ found S r b =
@@ -69,6 +69,7 @@ module _ {Start : Type 0} {S : Search Start} {r : ℕ} {call : Bookmark → Lent
           count = sym (ap length p);
           front = call-read calls b i buffers room ∙ sym p;
           kept = ap (λ (l : Leaf). behind (length (found S r b)) (l .buffers)) e ∙ kept-behind buffers (found S r b);
+          looked = ap (λ (k : ℕ). spent S k b) (sym (room .of-columns));
           goes-on = λ f. let g = goes (f ∙ room .of-columns) in (g .0, g .1 ∙ ap (λ (l : List Pair). raised (lastPair l)) (sym p));
           ends = λ h. stops (omega (arith, h, room .of-columns));
         }

@@ -25,14 +25,16 @@ firstPairs r b list = take r (hits (atOrAfter b) list)
 abbrev pub raised : Pair → Bookmark
 raised pair = record { column = pair .column; shift = pair .shift +ℤ pos 1 }
 
--- a page of the list, in a score of n columns, from the bookmark b, in buffers that held this: the call's answer, and what they hold then
-pub record PageOf (list : List Pair) (range : Range) (n : ℕ) (b : Bookmark) (buffers : Lent) (leaf : Leaf) : Type 0 where
+-- a page of the list, in a score of n columns, from the bookmark b, in buffers that held this: the call's answer, and what they hold then. The
+-- looks are those of every start from the bookmark on, up to the one that fills the page (`spent` of a search)
+pub record PageOf (list : List Pair) (range : Range) (n looks : ℕ) (b : Bookmark) (buffers : Lent) (leaf : Leaf) : Type 0 where
   pub turn : Turn
   pub answered : leaf .answer ≡ Turned turn
   -- the pairs are written from the front; places behind them keep their contents
   pub count : turn .written ≡ length (firstPairs (length (buffers .columns)) b list)
   pub front : readPairs (turn .written) (leaf .buffers) ≡ firstPairs (length (buffers .columns)) b list
   pub kept : behind (turn .written) (leaf .buffers) ≡ behind (turn .written) buffers
+  pub looked : turn .looks ≡ looks
   -- if r pairs were written, the next bookmark is the last pair with its shift raised by one, and it is not finished
   pub goes-on : turn .written ≡ length (buffers .columns)
       → (turn .finished ≡ false) × (turn .next ≡ raised (lastPair (firstPairs (length (buffers .columns)) b list)))

@@ -37,6 +37,7 @@ use Rattle.filter.specs.Limits.{wordBits}
 use Rattle.filter.specs.Table.{themeTable}
 use Rattle.paging.specs.Lent.{Lent, Room}
 use Rattle.paging.specs.Search.{allLooks, spent}
+use Rattle.paging.specs.Page.{Leaf}
 use Rattle.paging.specs.OnePage.{PageOf}
 use Rattle.paging.specs.Listing.{Lists}
 use Rattle.paging.proofs.Fewer.{only-looks}
@@ -113,15 +114,26 @@ module _ (cells : List ℕ) (h : ℕ) (theme : List ℕ) (way : Way) (b : Bookma
   of-room : Room (length (buffers .columns)) buffers
   of-room = record { of-columns = refl; of-shifts = a .same-room }
 
-  pub plain-page : PageOf (pairs way (scoreOf cells h) theme) (rangeOf way) (columnsIn cells h) b buffers (plainPage cells h theme way b buffers)
+  -- the looks of a page of the plain search, and of the quick search by these sets
+  abbrev pub plainSpent : ℕ
+  plainSpent = spent (plainSearch way (scoreOf cells h) theme) (length (buffers .columns)) b
+
+  abbrev pub quickSpent : (lent : List ℕ) → ℕ
+  quickSpent lent = spent (quickSearch wordBits way (scoreOf cells h) theme (themeTable wordBits theme) lent) (length (buffers .columns)) b
+
+  pub plain-page : PageOf (pairs way (scoreOf cells h) theme) (rangeOf way) (columnsIn cells h) plainSpent b buffers (plainPage cells h theme way b buffers)
   plain-page =
-      subst (λ (n : ℕ). PageOf (pairs way (scoreOf cells h) theme) (rangeOf way) n b buffers (plainPage cells h theme way b buffers)) (score-length cells h)
+      subst (λ (n : ℕ). PageOf (pairs way (scoreOf cells h) theme) (rangeOf way) n plainSpent b buffers (plainPage cells h theme way b buffers))
+      (score-length cells h)
       (call-page (plain-calls cells h theme way (a .accepted) (length (buffers .columns)) (a .room)) b in-score buffers of-room)
 
   pub quick-page : (lent table : List ℕ) → AcceptedSets cells h lent → length table ≡ tableWords
-      → PageOf (candidatePairs way (scoreOf cells h) theme lent) (rangeOf way) (columnsIn cells h) b buffers (quickPage cells h theme way b lent table buffers)
+      → PageOf (candidatePairs way (scoreOf cells h) theme lent) (rangeOf way) (columnsIn cells h) (quickSpent lent) b buffers
+      (quickPage cells h theme way b lent table buffers)
   quick-page lent table s e =
-      subst (λ (n : ℕ). PageOf (candidatePairs way (scoreOf cells h) theme lent) (rangeOf way) n b buffers (quickPage cells h theme way b lent table buffers)) (score-length cells h)
-      (subst (λ (list : List Pair). PageOf list (rangeOf way) (length (scoreOf cells h)) b buffers (quickPage cells h theme way b lent table buffers))
+      let page : Leaf = quickPage cells h theme way b lent table buffers in
+      subst (λ (n : ℕ). PageOf (candidatePairs way (scoreOf cells h) theme lent) (rangeOf way) n (quickSpent lent) b buffers page) (score-length cells h)
+      (subst (λ (list : List Pair). PageOf list (rangeOf way) (length (scoreOf cells h)) (quickSpent lent) b buffers page)
       (quick-pairs way (scoreOf cells h) theme lent)
-      (call-page (quick-calls cells h theme way (a .accepted) (length (buffers .columns)) (a .room) lent s (λ b buffers. table) (λ b buffers. e)) b in-score buffers of-room))
+      (call-page (quick-calls cells h theme way (a .accepted) (length (buffers .columns)) (a .room) lent s (λ b buffers. table) (λ b buffers. e)) b in-score
+      buffers of-room))

@@ -2,6 +2,7 @@
 -- whatever sets were lent. Looks: an answer's looks are at most the bound. Then sentences that follow from the definition: a theme longer than the score has no
 -- pairs, no pair passes over a column of rests, and a finished bookmark gives the same finished page. Assumes nothing.
 use mathlib.Core.Path.{_≡_, sym, ap, _∙_, subst}
+use mathlib.Core.Bool.{true}
 use mathlib.Core.List.{List, [], _∷_, List·Memᴰ as In, List·Memᴰ·head as at-head, List·Memᴰ·tail as in-tail, List·Memᴰ·not-nil as not-nil}
 use Prim.Native.Nat.{ℕ, zero, suc, _-_, _≤_, _<_}
 use native.Mathlib.Nat.{le-trans, le-of-eq}
@@ -12,29 +13,33 @@ use Rattle.theory.specs.Pages.{hits}
 use Rattle.theory.proofs.Members.{in-hits}
 use Rattle.score.specs.Limits.{tableWords}
 use Rattle.score.specs.declared.quantities.Pitch.{Pitch}
-use Rattle.score.specs.Score.{scoreOf, onward, pitches, note}
+use Rattle.score.specs.Score.{columnAt, scoreOf, onward, pitches, note}
 use Rattle.ways.specs.declared.way.Way.{Way}
 use Rattle.ways.specs.declared.way.Way.the-variants.{Exact, Octave}
 use Rattle.ways.specs.declared.bookmark.Pair.{Pair}
 use Rattle.ways.specs.declared.bookmark.Bookmark.{Bookmark}
-use Rattle.ways.specs.Way.{Holds}
-use Rattle.asking.specs.Asking.{AcceptedSets, PlainAsks}
+use Rattle.ways.specs.Way.{Holds, rangeOf}
+use Rattle.ways.specs.Bookmarks.{finishedBookmark}
+use Rattle.asking.specs.Limits.{mostNotes}
+use Rattle.asking.specs.Asking.{Accepted, AcceptedSets, PlainAsks}
 use Rattle.filter.specs.Limits.{wordBits}
 use Rattle.filter.specs.Table.{themeTable}
 use Rattle.paging.specs.declared.page.Turn.{Turn}
 use Rattle.paging.specs.declared.page.Page.{Page}
 use Rattle.paging.specs.declared.page.Page.the-variants.{Turned, Refused}
-use Rattle.paging.specs.Lent.{Lent, readPairs}
+use Rattle.paging.specs.Lent.{Lent, Room, readPairs}
 use Rattle.paging.specs.Order.{atOrAfter}
 use Rattle.paging.specs.Search.{spent}
 use Rattle.paging.specs.Page.{Leaf}
 use Rattle.paging.specs.OnePage.{firstPairs}
+use Rattle.paging.proofs.Finished.{finished-again}
 use Rattle.walking.specs.Candidates.{candidate}
 use Rattle.search.specs.Definition.{Stands}
 use Rattle.search.specs.Pairs.{plainSearch, quickSearch, pairs}
 use Rattle.search.specs.Page.{plainPage, quickPage}
 use Rattle.search.specs.Demands.{mostLooks, candidatePairs}
 use Rattle.search.proofs.Listed.{listed-stands}
+use Rattle.search.proofs.Searches.{plain-calls, quick-calls}
 use Rattle.search.proofs.PlainCall.{plain-turned, plain-leaf}
 use Rattle.search.proofs.QuickCall.{quick-turned, quick-leaf}
 use Rattle.search.proofs.Demands.{plain-page, quick-page, plain-page-le, quick-page-le}
@@ -106,3 +111,21 @@ pub none-over-rests : (way : Way) (score : List (List ℕ)) (theme : List ℕ) {
     → pitches (getD (onward score (pair .column)) (i - 1) []) ≡ [] → Stands way score theme pair → ⊥
 none-over-rests way score theme {pair} i low high e s =
     nothing-held way (getD (onward score (pair .column)) (i - 1) []) (note theme i) (pair .shift) e (s .each-note i low high)
+
+-- ---- a finished bookmark handed in again: the same finished page, and nothing is written
+
+abbrev ended : (cells : List ℕ) (h : ℕ) → Way → Bookmark
+ended cells h way = finishedBookmark (rangeOf way) (columnAt (length (scoreOf cells h)))
+
+abbrev endPage : (cells : List ℕ) (h : ℕ) → Way → Lent → Leaf
+endPage cells h way buffers =
+    record { answer = Turned (record { written = 0; next = ended cells h way; finished = true; looks = 0 }); buffers = buffers }
+
+module _ (cells : List ℕ) (h : ℕ) (theme : List ℕ) (way : Way) (a : Accepted mostNotes cells h theme) (r : ℕ) (some : 1 ≤ r) (buffers : Lent)
+    (room : Room r buffers) where
+  pub plain-again : plainPage cells h theme way (ended cells h way) buffers ≡ endPage cells h way buffers
+  plain-again = finished-again (plain-calls cells h theme way a r some) buffers room
+
+  pub quick-again : (lent table : List ℕ) → AcceptedSets cells h lent → length table ≡ tableWords
+      → quickPage cells h theme way (ended cells h way) lent table buffers ≡ endPage cells h way buffers
+  quick-again lent table s e = finished-again (quick-calls cells h theme way a r some lent s (λ b l. table) (λ b l. e)) buffers room
