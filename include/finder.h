@@ -1,8 +1,8 @@
 /* finder.h: where does a tune stand in a score?
  *
  * Link with libfinder_c.a: bindings/native-lib builds it for the processor at hand; on x86-64 so does
- * `rt staticlib finder_c`, which writes target/staticlib/libfinder_c.a. The library calls nothing, not even the C
- * library: it allocates nothing, keeps nothing between calls and may be called from several threads at once, each with
+ * `rt staticlib finder_c`, which writes target/staticlib/libfinder_c.a. The library calls nothing but
+ * `memset`: it allocates nothing, keeps nothing between calls and may be called from several threads at once, each with
  * buffers of its own.
  *
  * A score is `cells`, column after column, `tracks` cells a column, one per track. A cell 0 to 127 is a MIDI pitch and
