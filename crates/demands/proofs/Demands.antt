@@ -1,13 +1,48 @@
 -- The three demands hold. Assumes nothing.
+use mathlib.Core.Path.{_≡_, refl, subst}
+use mathlib.Core.List.{List}
+use Prim.Native.Nat.{ℕ}
+use Rattle.score.specs.Score.{scoreOf}
+use Rattle.score.specs.Sets.{sets}
+use Rattle.score.proofs.Judged.{verdict-clear}
+use Rattle.preparing.specs.Preparing.{prepared}
+use Rattle.ways.specs.declared.way.Way.{Way}
+use Rattle.ways.specs.declared.bookmark.Bookmark.{Bookmark}
+use Rattle.asking.specs.Limits.{mostNotes}
+use Rattle.asking.specs.Refusals.{requestRows}
+use Rattle.asking.specs.Asking.{Accepted}
+use Rattle.asking.proofs.Rows.{accepted-clear}
+use Rattle.paging.specs.declared.page.Turn.{Turn}
+use Rattle.paging.specs.declared.page.Page.the-variants.{Turned}
+use Rattle.paging.specs.Lent.{Lent}
 use Rattle.paging.proofs.Bookmarks.{first-range}
-use Rattle.demands.specs.Demands.{Demand1, Demand2, Demand3}
+use Rattle.search.specs.Page.{plainPage, quickPage, quickTable, QuickPages}
+use Rattle.demands.specs.Demands.{RightRequest, Demand1, Demand2, Demand3}
 use Rattle.demands.proofs.Away.{prepares-away, plain-away, quick-away}
-use Rattle.demands.proofs.True.{plain-stands, quick-stands, prepared-intervals}
+use Rattle.demands.proofs.True.{own-sets-left, plain-stands, quick-stands, prepared-intervals}
 use Rattle.demands.proofs.Whole.{plainly, plain-all, quick-own, own-call}
-use Rattle.demands.proofs.Alike.{reading-same}
+use Rattle.demands.proofs.Alike.{reading-same, one-page}
+
+-- a right score and theme are accepted
+accepted : {cells : List ℕ} {h : ℕ} {theme : List ℕ} → RightRequest cells h theme → Accepted mostNotes cells h theme
+accepted {cells} {h} {theme} e = accepted-clear mostNotes cells h theme .1 (verdict-clear (requestRows mostNotes cells h theme) e)
 
 pub demand1 : Demand1
-demand1 = record { preparation = prepares-away; plain = plain-away; quick = quick-away }
+demand1 =
+    record {
+      preparation-answers = λ cells h lent.
+          let f = prepared cells h lent in
+          (f .answer, (f .sets, record { answers = refl; fills = refl }));
+      plain-answers = λ cells h theme way b buffers.
+          let f = plainPage cells h theme way b buffers in
+          (f .answer, (f .buffers, record { pages = record { answers = refl; writes = refl } }));
+      quick-answers = λ cells h theme way b sets table buffers.
+          let f = quickPage cells h theme way b sets table buffers in
+          (f .answer, (quickTable cells h theme way b sets table buffers, (f .buffers, record { pages = record { answers = refl; writes = refl }; fills-table = refl })));
+      preparation = prepares-away;
+      plain = plain-away;
+      quick = quick-away;
+    }
 
 pub demand2 : Demand2
 demand2 = record { plain = plain-stands; quick = quick-stands; prepared = prepared-intervals }
@@ -15,9 +50,12 @@ demand2 = record { plain = plain-stands; quick = quick-stands; prepared = prepar
 pub demand3 : Demand3
 demand3 =
     record {
-      plain = λ cells h theme way a r room p. plain-all cells h theme way a r room p;
-      quick = λ cells h theme way a r room lent s q. quick-own cells h theme way a r room (own-call cells h theme way a r room s q);
+      plain = λ cells h theme way a r room p. plain-all cells h theme way (accepted a) r room p;
+      quick = λ cells h theme way a r room lent s q. quick-own cells h theme way (accepted a) r room (own-call cells h theme way (accepted a) r room s q);
+      same-page = λ cells h theme way b buffers buffers′ table same lent s {t} {u} {after} {after′} {table′} p q.
+          one-page cells h theme way b buffers buffers′ table same p
+          (subst (λ (l : List ℕ). QuickPages cells h theme way b l table buffers′ (Turned t) table′ after′) (own-sets-left s) q);
       same = λ cells h theme way a r room lent s p q x y.
-          reading-same cells h theme way a r room p (own-call cells h theme way a r room s q)
-          (first-range (plainly cells h theme way a r room p .right .narrow) _) x y;
+          reading-same cells h theme way (accepted a) r room p (own-call cells h theme way (accepted a) r room s q)
+          (first-range (plainly cells h theme way (accepted a) r room p .right .narrow) _) x y;
     }

@@ -1,7 +1,7 @@
 -- Demand 2: what an accepted page holds stands, and what an accepted preparation leaves is the intervals. Assumes nothing.
 use mathlib.Core.Path.{_≡_, sym, ap, _∙_, subst}
 use mathlib.Core.List.{List, List·Memᴰ as In}
-use Prim.Native.Nat.{ℕ}
+use Prim.Native.Nat.{ℕ, _-_}
 use native.Mathlib.Omega.{arith}
 use lib.ListN.{length, getD}
 use Rattle.theory.specs.Bits.{bit}
@@ -61,5 +61,5 @@ prepared-intervals cells h lent {after} p =
     record {
       one-less = ap length e ∙ sets-length (scoreOf cells h);
       each = λ k low high d small. rw (p .fills) (prepare-bit cells h lent (sym (p .answers)) k low high d small);
-      no-other = λ k q high. rw e (bit-high (getD (sets (scoreOf cells h)) k 0) q 12 (sets-lt (scoreOf cells h) k) high);
+      no-other = λ k q high. rw e (bit-high (getD (sets (scoreOf cells h)) (k - 1) 0) q 12 (sets-lt (scoreOf cells h) (k - 1)) high);
     }

@@ -1,7 +1,7 @@
 -- Demand 3, the list: a call that promises what a plain call does turns the pages of the plain search, and so lists all pairs that stand; a quick
 -- one with the score's own sets lists the same. The idea: what meets a promise is the defined answer. Assumes nothing.
 use mathlib.Core.Path.{_≡_, sym, ap, ap₂, _∙_, subst}
-use mathlib.Core.List.{List, List·Memᴰ as In}
+use mathlib.Core.List.{List, [], _∷_, _++_, List·Memᴰ as In}
 use Prim.Native.Nat.{ℕ, _+_, _/_, _≤_}
 use native.Mathlib.Nat.{le-trans}
 use native.Mathlib.Omega.{arith}
@@ -24,6 +24,7 @@ use Rattle.paging.specs.Lent.{Lent}
 use Rattle.paging.specs.Order.{Ordered}
 use Rattle.paging.specs.Page.{Leaf, Pages}
 use Rattle.paging.specs.Listing.{Lists}
+use Rattle.paging.proofs.Orders.{ordered-once, ordered-behind}
 use Rattle.paging.proofs.Paging.{Calls}
 use Rattle.paging.proofs.Readings.{search-lists}
 use Rattle.search.specs.Pairs.{plainSearch, quickSearch, pairs}
@@ -77,6 +78,8 @@ module _ (cells : List ℕ) (h : ℕ) (theme : List ℕ) (way : Way) (a : Accept
           λ s. subst (In pair) (sym e) (stands-listed way score theme (omega (arith, a .notes-some)) s),
         );
         ordered = λ reading. subst Ordered (sym (l .joined reading)) (listed-ordered way score theme);
+        once = λ reading before pair behind e m.
+            ordered-once pair behind (ordered-behind before (pair ∷ behind) (subst Ordered (sym (l .joined reading) ∙ e) (listed-ordered way score theme))) m;
         counted = λ {pages} {turns} reading.
             subst (λ (list : List Pair). length pages ≡ length list / r + 1) (sym (l .joined reading)) (l .counted reading);
         looked = λ reading. omega (arith, l .looked reading, few);

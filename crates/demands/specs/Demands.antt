@@ -1,9 +1,11 @@
 -- When a list is trusted: three demands, each a record over what the calls promise and over no method. `Demand1`: what is turned away, and
 -- that nothing is then written. `Demand2`: what is listed and what is prepared is true. `Demand3`: pages joined are the whole list, and
--- quick pages are the plain ones. That all three hold is `proofs/Demands`. Assumes nothing.
+-- quick pages hold the same. That all three hold is `proofs/Demands`. The calls are the three on which the others rest; `docs/CONTRACTS.md`
+-- has them all. That every call ends is no field: the check proves of every function that it is safe and ends, and no public call has a
+-- `requires`. Assumes nothing.
 use mathlib.Core.Path.{_≡_}
 use mathlib.Core.Logic.{_↔_}
-use mathlib.Core.List.{List, [], _∷_, map, List·Memᴰ as In}
+use mathlib.Core.List.{List, [], _∷_, _++_, map, List·Memᴰ as In}
 use Prim.Native.Nat.{ℕ, _+_, _-_, _/_, _≤_, _<_}
 use lib.ListN.{length, getD}
 use Rattle.theory.specs.Lists.{sum, join}
@@ -24,7 +26,7 @@ use Rattle.ways.specs.declared.bookmark.Bookmark.{Bookmark}
 use Rattle.ways.specs.Way.{rangeOf}
 use Rattle.ways.specs.Bookmarks.{firstBookmark}
 use Rattle.asking.specs.Limits.{mostNotes}
-use Rattle.asking.specs.Asking.{Accepted}
+use Rattle.asking.specs.Refusals.{requestRows}
 use Rattle.paging.specs.declared.page.Turn.{Turn}
 use Rattle.paging.specs.declared.page.Page.{Page}
 use Rattle.paging.specs.declared.page.Page.the-variants.{Turned, Refused}
@@ -37,11 +39,12 @@ use Rattle.search.specs.Definition.{Stands}
 use Rattle.search.specs.Page.{rowsOfPlain, PlainPages, rowsOfQuick, QuickPages}
 use Rattle.search.specs.Demands.{mostLooks}
 
--- ---- demand 1: every call is defined for all that it may be given. What is bad gets its refusal and its place, exactly on its row, and then
--- nothing lent is written
+-- ---- demand 1: every call has an answer to all that it may be given. What is bad gets its refusal and its place, exactly on its row, and then
+-- no buffer is written that is lent for writing
 
--- a call that is judged by these rows, which have these numbers in this order. `Refuses r` says that its answer is refusal r, `Accepts` that
--- it is none, and `Untouched` that every lent buffer is what it was
+-- a call that is judged by these rows, which have these numbers in this order (rows 1 to 3, 6 and 7 are in `score/specs/Refusals`, the others in
+-- `asking/specs/Refusals`). `Refuses r` says that its answer is refusal r, `Accepts` that it is none, and `Untouched` that the buffers that it may
+-- write are what they were
 pub record TurnsAway (numbers : List ℕ) (rows : List Row) (Refuses : Refusal → Type 0) (Accepts Untouched : Type 0) : Type 0 where
   pub order : map (λ (row : Row). row .given .number) rows ≡ numbers
   -- number k and place p are given exactly where row k is the first that applies, and p is the place that it names
@@ -51,6 +54,13 @@ pub record TurnsAway (numbers : List ℕ) (rows : List Row) (Refuses : Refusal �
   pub unwritten : (r : Refusal) → Refuses r → Untouched
 
 pub record Demand1 : Type 0 where
+  -- there is an answer, whatever is given
+  pub preparation-answers : (cells : List ℕ) (h : ℕ) (lent : List ℕ) → (a : Preparation) × ((after : List ℕ) × Prepares cells h lent a after)
+  pub plain-answers : (cells : List ℕ) (h : ℕ) (theme : List ℕ) (way : Way) (b : Bookmark) (buffers : Lent)
+      → (a : Page) × ((after : Lent) × PlainPages cells h theme way b buffers a after)
+  pub quick-answers : (cells : List ℕ) (h : ℕ) (theme : List ℕ) (way : Way) (b : Bookmark) (sets table : List ℕ) (buffers : Lent)
+      → (a : Page) × ((table′ : List ℕ) × ((after : Lent) × QuickPages cells h theme way b sets table buffers a table′ after))
+  -- and it is a refusal exactly on a row
   pub preparation : (cells : List ℕ) (h : ℕ) (lent : List ℕ) {answer : Preparation} {after : List ℕ} → Prepares cells h lent answer after
       → TurnsAway (1 ∷ 2 ∷ 3 ∷ 6 ∷ []) (prepareRows cells h lent) (λ r. answer ≡ Unprepared r) (answer ≡ Prepared) (after ≡ lent)
   pub plain : (cells : List ℕ) (h : ℕ) (theme : List ℕ) (way : Way) (b : Bookmark) (buffers : Lent) {answer : Page} {after : Lent}
@@ -65,12 +75,12 @@ pub record Demand1 : Type 0 where
 -- ---- demand 2: a pair is listed only if it stands by the published definition, whatever sets were lent; prepared sets are exactly the
 -- intervals between neighbouring columns, mod 12
 
--- entry k, from 1, belongs to columns k and k + 1: its bit d, 0 to 11, is 0 exactly where they have pitches d apart, and it has no other bits
+-- entry k, from 1, belongs to columns k and k + 1: its bit d, 0 to 11, is 0 exactly where they have pitches d apart; all its other bits are 0
 pub record IntervalsOf (score : List (List ℕ)) (sets : List ℕ) : Type 0 where
   pub one-less : length sets ≡ length score - 1
   pub each : (k : ℕ) → 1 ≤ k → k < length score → (d : Interval) → d .0 < 12
       → (bit (getD sets (k - 1) 0) (d .0) ≡ 0) ↔ Apart (column score (columnAt k)) (column score (columnAt (k + 1))) d
-  pub no-other : (k q : ℕ) → 12 ≤ q → bit (getD sets k 0) q ≡ 0
+  pub no-other : (k q : ℕ) → 12 ≤ q → bit (getD sets (k - 1) 0) q ≡ 0
 
 pub record Demand2 : Type 0 where
   pub plain : (cells : List ℕ) (h : ℕ) (theme : List ℕ) (way : Way) (b : Bookmark) (buffers : Lent) {t : Turn} {after : Lent}
@@ -82,7 +92,12 @@ pub record Demand2 : Type 0 where
   pub prepared : (cells : List ℕ) (h : ℕ) (lent : List ℕ) {after : List ℕ} → Prepares cells h lent Prepared after → IntervalsOf (scoreOf cells h) after
 
 -- ---- demand 3: plain pages from the first bookmark, each going on from the one last returned, up to the first that is finished, joined give
--- every such pair once, by column and then shift; quick pages with the score's own sets are the same; L pairs need L / r + 1 pages
+-- every such pair once, by column and then shift; quick pages with the score's own sets hold the same pairs, bookmarks and ends, with no more
+-- looks; L pairs need L / r + 1 pages
+
+-- no row of a score and a theme applies (1 to 5)
+abbrev pub RightRequest : (cells : List ℕ) (h : ℕ) (theme : List ℕ) → Type 0
+RightRequest cells h theme = verdict (requestRows mostNotes cells h theme) ≡ Passed
 
 -- any call that promises what a plain or a quick call does, at every bookmark and for whatever buffers it is lent. A quick call is lent these
 -- sets, and at each call any table of 4,096 places
@@ -97,34 +112,48 @@ pub record QuickCall (cells : List ℕ) (h : ℕ) (theme : List ℕ) (way : Way)
       → QuickPages cells h theme way b sets (table b buffers) buffers (call b buffers .answer) (table′ b buffers) (call b buffers .buffers)
 
 -- with room r and from the first bookmark: whatever buffers are lent there is a reading; and of every reading the pages, joined, hold exactly the
--- pairs that stand, in order and so each once; there are L / r + 1 of them; and their looks are within the bound
+-- pairs that stand, each once and in order; there are L / r + 1 of them; and their looks are within the bound
 pub record ListsAll (cells : List ℕ) (h : ℕ) (theme : List ℕ) (way : Way) (r : ℕ) (call : Bookmark → Lent → Leaf) : Type 0 where
   pub read : (supply : ℕ → Lent) → ((i : ℕ) → Room r (supply i)) → Read supply call r 0 (firstBookmark (rangeOf way))
   pub exactly : {pages : List (List Pair)} {turns : List Turn} → Reading call r (firstBookmark (rangeOf way)) pages turns
       → (pair : Pair) → In pair (join pages) ↔ Stands way (scoreOf cells h) theme pair
   pub ordered : {pages : List (List Pair)} {turns : List Turn} → Reading call r (firstBookmark (rangeOf way)) pages turns → Ordered (join pages)
+  pub once : {pages : List (List Pair)} {turns : List Turn} → Reading call r (firstBookmark (rangeOf way)) pages turns
+      → (before : List Pair) (pair : Pair) (behind : List Pair) → join pages ≡ before ++ pair ∷ behind → In pair behind → ⊥
   pub counted : {pages : List (List Pair)} {turns : List Turn} → Reading call r (firstBookmark (rangeOf way)) pages turns
       → length pages ≡ length (join pages) / r + 1
   pub looked : {pages : List (List Pair)} {turns : List Turn} → Reading call r (firstBookmark (rangeOf way)) pages turns
       → sum (map (λ (t : Turn). t .looks) turns) ≤ mostLooks cells h theme
 
--- page by page the same count, the same bookmark and the same end, with no more looks
-pub data NoDearer : (quick plain : List Turn) → Type 0 where
-  none : NoDearer [] []
-  more : {t u : Turn} {ts us : List Turn} → t .written ≡ u .written → t .next ≡ u .next → t .finished ≡ u .finished → t .looks ≤ u .looks
-      → NoDearer ts us → NoDearer (t ∷ ts) (u ∷ us)
+-- the same count, the same bookmark and the same end, with no more looks
+pub record NoDearer (t u : Turn) : Type 0 where
+  pub written : t .written ≡ u .written
+  pub next : t .next ≡ u .next
+  pub finished : t .finished ≡ u .finished
+  pub looks : t .looks ≤ u .looks
+
+-- page by page
+pub data NoneDearer : (quick plain : List Turn) → Type 0 where
+  none : NoneDearer [] []
+  more : {t u : Turn} {ts us : List Turn} → NoDearer t u → NoneDearer ts us → NoneDearer (t ∷ ts) (u ∷ us)
 
 pub record Demand3 : Type 0 where
-  pub plain : (cells : List ℕ) (h : ℕ) (theme : List ℕ) (way : Way) → Accepted mostNotes cells h theme → (r : ℕ) → 1 ≤ r
+  pub plain : (cells : List ℕ) (h : ℕ) (theme : List ℕ) (way : Way) → RightRequest cells h theme → (r : ℕ) → 1 ≤ r
       → {call : Bookmark → Lent → Leaf} → PlainCall cells h theme way call → ListsAll cells h theme way r call
   -- with the sets that a preparation left for that same score
-  pub quick : (cells : List ℕ) (h : ℕ) (theme : List ℕ) (way : Way) → Accepted mostNotes cells h theme → (r : ℕ) → 1 ≤ r
+  pub quick : (cells : List ℕ) (h : ℕ) (theme : List ℕ) (way : Way) → RightRequest cells h theme → (r : ℕ) → 1 ≤ r
       → (lent : List ℕ) {sets : List ℕ} → Prepares cells h lent Prepared sets
       → {call : Bookmark → Lent → Leaf} → QuickCall cells h theme way sets call → ListsAll cells h theme way r call
-  -- and then every page is the plain one
-  pub same : (cells : List ℕ) (h : ℕ) (theme : List ℕ) (way : Way) → Accepted mostNotes cells h theme → (r : ℕ) → 1 ≤ r
+  -- and then every page holds what the plain one does, page after page from the first bookmark, or one page from any bookmark
+  pub same-page : (cells : List ℕ) (h : ℕ) (theme : List ℕ) (way : Way) (b : Bookmark) (buffers buffers′ : Lent) (table : List ℕ)
+      → length (buffers′ .columns) ≡ length (buffers .columns)
+      → (lent : List ℕ) {sets : List ℕ} → Prepares cells h lent Prepared sets
+      → {t u : Turn} {after after′ : Lent} {table′ : List ℕ} → PlainPages cells h theme way b buffers (Turned u) after
+      → QuickPages cells h theme way b sets table buffers′ (Turned t) table′ after′
+      → (readPairs (t .written) after′ ≡ readPairs (u .written) after) × NoDearer t u
+  pub same : (cells : List ℕ) (h : ℕ) (theme : List ℕ) (way : Way) → RightRequest cells h theme → (r : ℕ) → 1 ≤ r
       → (lent : List ℕ) {sets : List ℕ} → Prepares cells h lent Prepared sets
       → {plainly quickly : Bookmark → Lent → Leaf} → PlainCall cells h theme way plainly → QuickCall cells h theme way sets quickly
       → {pages pages′ : List (List Pair)} {turns turns′ : List Turn}
       → Reading plainly r (firstBookmark (rangeOf way)) pages turns → Reading quickly r (firstBookmark (rangeOf way)) pages′ turns′
-      → (pages′ ≡ pages) × NoDearer turns′ turns
+      → (pages′ ≡ pages) × NoneDearer turns′ turns

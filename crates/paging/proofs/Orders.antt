@@ -3,7 +3,7 @@
 use mathlib.Core.Path.{_≡_, refl, sym, _∙_, subst}
 use mathlib.Core.Bool.{Bool, true, false, cond}
 use mathlib.Core.Logic.{inl, inr}
-use mathlib.Core.List.{List, [], _∷_, map, List·Memᴰ as In, List·Memᴰ·head as at-head, List·Memᴰ·tail as in-tail, List·Memᴰ·not-nil as not-nil, Memᴰ·map, Memᴰ·of-map}
+use mathlib.Core.List.{List, [], _∷_, _++_, map, List·Memᴰ as In, List·Memᴰ·head as at-head, List·Memᴰ·tail as in-tail, List·Memᴰ·not-nil as not-nil, Memᴰ·map, Memᴰ·of-map}
 use native.Mathlib.Omega.{arith}
 use lib.Signed.{<ℤ-irrefl}
 use Rattle.theory.specs.Pages.{hits}
@@ -43,6 +43,10 @@ ordered-tail (b ∷ list) (more p o) = o
 ordered-cons : (a : Pair) (list : List Pair) → ((b : Pair) → In b list → Before a b) → Ordered list → Ordered (a ∷ list)
 ordered-cons a [] f o = one
 ordered-cons a (b ∷ list) f o = more (f b (at-head refl)) o
+
+pub ordered-behind : (before behind : List Pair) → Ordered (before ++ behind) → Ordered behind
+ordered-behind [] behind o = o
+ordered-behind (a ∷ before) behind o = ordered-behind before behind (ordered-tail (before ++ behind) o)
 
 pub ordered-hits : {A : Type 0} (keep : A → Bool) (shown : A → Pair) (xs : List A) → Ordered (map shown xs) → Ordered (map shown (hits keep xs))
 ordered-hits keep shown [] o = o
