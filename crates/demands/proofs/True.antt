@@ -23,7 +23,7 @@ use Rattle.search.specs.Definition.{Stands}
 use Rattle.search.specs.Page.{plainPage, PlainPages, quickPage, QuickPages}
 use Rattle.search.proofs.PlainCall.{plain-turned}
 use Rattle.search.proofs.QuickCall.{quick-turned}
-use Rattle.search.proofs.Demands.{plain-page, quick-page}
+use Rattle.search.proofs.WholeLists.{plain-page, quick-page}
 use Rattle.search.proofs.Truths.{plain-true, quick-true}
 use Rattle.demands.specs.Demands.{IntervalsOf}
 

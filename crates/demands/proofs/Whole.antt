@@ -29,11 +29,11 @@ use Rattle.paging.proofs.Paging.{Calls}
 use Rattle.paging.proofs.Readings.{search-lists}
 use Rattle.search.specs.Pairs.{plainSearch, quickSearch, pairs}
 use Rattle.search.specs.Page.{plainPage, quickPage}
-use Rattle.search.specs.Demands.{candidateLooks, mostLooks}
+use Rattle.search.specs.WholeList.{candidateLooks, mostLooks}
 use Rattle.search.proofs.Listed.{listed-stands, stands-listed, listed-ordered}
 use Rattle.search.proofs.Searches.{plain-calls, quick-calls}
 use Rattle.search.proofs.Quicker.{own-sets, own-listed}
-use Rattle.search.proofs.Demands.{all-looks-le, quick-looks-less}
+use Rattle.search.proofs.WholeLists.{all-looks-le, quick-looks-less}
 use Rattle.demands.specs.Demands.{PlainCall, QuickCall, ListsAll}
 use Rattle.demands.proofs.True.{own-sets-left}
 

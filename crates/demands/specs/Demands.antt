@@ -37,7 +37,7 @@ use Rattle.paging.specs.Reading.{Reading}
 use Rattle.paging.specs.Listing.{Read}
 use Rattle.search.specs.Definition.{Stands}
 use Rattle.search.specs.Page.{rowsOfPlain, PlainPages, rowsOfQuick, QuickPages}
-use Rattle.search.specs.Demands.{mostLooks}
+use Rattle.search.specs.WholeList.{mostLooks}
 
 -- ---- demand 1: every call has an answer to all that it may be given. What is bad gets its refusal and its place, exactly on its row, and then
 -- no buffer is written that is lent for writing

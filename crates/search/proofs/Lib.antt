@@ -1,6 +1,6 @@
 -- Laws of this crate's definitions. Places: `Notes` (all notes). The list: `Listed`. Candidates: `Filtered`. The worked cases: `Worked`. The
 -- calls: `PlainCall`, `QuickCall`. The two searches, for the laws of `paging`: `Searches`; quick and plain compared: `Quicker`; what a walk
--- has found is what a page shows: `Reached`. What all this comes to: `Demands`, `Truths`.
+-- has found is what a page shows: `Reached`. What all this comes to: `WholeLists`, `Truths`.
 pub mod Notes
 pub mod Listed
 pub mod Filtered
@@ -10,5 +10,5 @@ pub mod QuickCall
 pub mod Searches
 pub mod Quicker
 pub mod Reached
-pub mod Demands
+pub mod WholeLists
 pub mod Truths

@@ -37,7 +37,7 @@ use Rattle.walking.specs.Starts.{Place, starts, hit}
 use Rattle.walking.specs.Candidates.{candidate}
 use Rattle.search.specs.Pairs.{pairAt, plainSearch, quickSearch, pairs}
 use Rattle.search.specs.Page.{plainPage, quickPage}
-use Rattle.search.specs.Demands.{candidatePairs}
+use Rattle.search.specs.WholeList.{candidatePairs}
 use Rattle.search.proofs.Filtered.{hit-candidate}
 
 -- what the quick search lists: the pairs at candidates

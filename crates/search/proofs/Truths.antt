@@ -1,6 +1,6 @@
 -- Demand 2, and what joins it to the calls: every pair that a page writes stands by the published definition, plain and quick,
 -- whatever sets were lent. Looks: an answer's looks are at most the bound. Then sentences that follow from the definition: a theme longer than the score has no
--- pairs, no pair passes over a column of rests, and a finished bookmark gives the same finished page. Assumes nothing.
+-- pairs, no pair passes over a column of rests, and a finished bookmark gives an empty finished page. Assumes nothing.
 use mathlib.Core.Path.{_≡_, sym, ap, _∙_, subst}
 use mathlib.Core.Bool.{true}
 use mathlib.Core.List.{List, [], _∷_, List·Memᴰ as In, List·Memᴰ·head as at-head, List·Memᴰ·tail as in-tail, List·Memᴰ·not-nil as not-nil}
@@ -37,12 +37,12 @@ use Rattle.walking.specs.Candidates.{candidate}
 use Rattle.search.specs.Definition.{Stands}
 use Rattle.search.specs.Pairs.{plainSearch, quickSearch, pairs}
 use Rattle.search.specs.Page.{plainPage, quickPage}
-use Rattle.search.specs.Demands.{mostLooks, candidatePairs}
+use Rattle.search.specs.WholeList.{mostLooks, candidatePairs}
 use Rattle.search.proofs.Listed.{listed-stands}
 use Rattle.search.proofs.Searches.{plain-calls, quick-calls}
 use Rattle.search.proofs.PlainCall.{plain-turned, plain-leaf}
 use Rattle.search.proofs.QuickCall.{quick-turned, quick-leaf}
-use Rattle.search.proofs.Demands.{plain-page, quick-page, plain-page-le, quick-page-le}
+use Rattle.search.proofs.WholeLists.{plain-page, quick-page, plain-page-le, quick-page-le}
 
 -- ---- what a page writes stands
 
@@ -112,7 +112,7 @@ pub none-over-rests : (way : Way) (score : List (List ℕ)) (theme : List ℕ) {
 none-over-rests way score theme {pair} i low high e s =
     nothing-held way (getD (onward score (pair .column)) (i - 1) []) (note theme i) (pair .shift) e (s .each-note i low high)
 
--- ---- a finished bookmark handed in again: the same finished page, and nothing is written
+-- ---- a finished bookmark handed in again: an empty page that is finished, with that bookmark, and nothing is written
 
 abbrev ended : (cells : List ℕ) (h : ℕ) → Way → Bookmark
 ended cells h way = finishedBookmark (rangeOf way) (columnAt (length (scoreOf cells h)))

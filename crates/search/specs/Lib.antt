@@ -4,5 +4,5 @@
 pub mod Definition
 pub mod Pairs
 pub mod Page
-pub mod Demands
+pub mod WholeList
 pub mod Cases

@@ -24,7 +24,7 @@ use Rattle.paging.proofs.UnderWay.{UnderWay, toCome, turnsLeft, under-way-liste
 use Rattle.walking.specs.Starts.{Place}
 use Rattle.search.specs.Pairs.{pairs}
 use Rattle.search.specs.Page.{QuickPages}
-use Rattle.search.specs.Demands.{candidateLooks}
+use Rattle.search.specs.WholeList.{candidateLooks}
 use Rattle.telling.specs.Lines.{hitLines, endLine, linesOf}
 use Rattle.telling.specs.Limits.{room, pagePairs, mostPairs}
 use Rattle.telling.specs.Steps.{Wrote}

@@ -38,12 +38,12 @@ use Rattle.paging.specs.Search.{Search, listed}
 use Rattle.paging.specs.Page.{Leaf}
 use Rattle.paging.proofs.Paging.{Calls}
 use Rattle.paging.proofs.UnderWay.{UnderWay, under-way-start}
-use Rattle.search.specs.Demands.{candidateLooks}
+use Rattle.search.specs.WholeList.{candidateLooks}
 use Rattle.walking.proofs.Order.{in-starts}
 use Rattle.walking.proofs.LookBound.{starts-le}
 use Rattle.search.proofs.Searches.{quick-calls}
 use Rattle.search.proofs.Quicker.{own-sets, own-listed}
-use Rattle.search.proofs.Demands.{all-looks-le, candidate-looks-le}
+use Rattle.search.proofs.WholeLists.{all-looks-le, candidate-looks-le}
 use Rattle.telling.specs.Lines.{hitLine, hitLines, endLine, linesOf}
 use Rattle.telling.specs.Limits.{room, pagePairs, mostPairs, mostAllLooks}
 use Rattle.telling.specs.Steps.{Wrote, Room}

@@ -10,7 +10,7 @@ use Rattle.score.specs.Sets.{sets}
 use Rattle.ways.specs.declared.way.Way.{Way}
 use Rattle.ways.specs.declared.bookmark.Pair.{Pair}
 use Rattle.search.specs.Pairs.{pairs}
-use Rattle.search.specs.Demands.{candidateLooks}
+use Rattle.search.specs.WholeList.{candidateLooks}
 use Rattle.telling.specs.Text.{hitWord, endWord, refusedWord, decimal, signed, line}
 
 abbrev pub pairOf : (column : ℕ) (shift : ℤ) → Pair

@@ -1,5 +1,5 @@
--- The theorems about whole calls, by the three demands: calls are total and refuse exactly as the table says; what is listed
--- is true; everything true is listed, once and in order, page by page.
+-- The theorems about whole lists and whole calls, on which the three demands rest (`demands/specs/Demands`): calls are total and refuse exactly
+-- as the table says; what is listed is true; everything true is listed, once and in order, page by page.
 --
 -- What is turned away (demand 1), in `PlainCall` and `QuickCall`: a call turns a page exactly where it is asked right
 -- (`plain-turned`, `quick-turned`); otherwise it gives exactly the first refusal of its rows that applies, with its number
@@ -47,7 +47,7 @@ use Rattle.walking.specs.Candidates.{candidate}
 use Rattle.walking.proofs.LookBound.{most-lt, sum-looks-le, sum-looks-none}
 use Rattle.search.specs.Pairs.{plainSearch, quickSearch, pairs}
 use Rattle.search.specs.Page.{plainPage, quickPage}
-use Rattle.search.specs.Demands.{plainLooks, candidateLooks, mostLooks, candidatePairs}
+use Rattle.search.specs.WholeList.{plainLooks, candidateLooks, mostLooks, candidatePairs}
 use Rattle.search.proofs.Searches.{plain-calls, quick-calls}
 use Rattle.search.proofs.Quicker.{quick-pairs, own-sets, own-pairs}
 
