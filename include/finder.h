@@ -25,16 +25,16 @@
  *
  * Each call returns 0 where it is accepted, and otherwise the refusal, number + 256 * place, the lowest number that
  * applies; place is 0 where none is named. A refused call writes nothing.
- *    1  tracks is 0 or over 16
- *    2  cells aren't a multiple of tracks, or there are 0 or over 2,048 columns
- *    3  a cell is 128 to 254; place: the first such cell, from 0
- *    4  theme under 2 or over 32 notes
- *    5  a theme byte over 127; place: the first such, from 0
- *    6  sets aren't n - 1 long
- *    7  a lent set is over 4095; place: the first such, from 0
- *    8  table isn't 4,096 long
- *    9  columns is empty, or columns and shifts differ in length
- *   10  bookmark column 0 or over n + 1, or shift outside -127..128 (octave 0..12)
+ *    1  there are no tracks, or more than 16
+ *    2  the cells do not fill whole columns, or there is no column, or more than 2,048
+ *    3  some cell is neither a pitch nor a rest; place: the first of them, counted from 0
+ *    4  the theme has fewer than 2 notes, or more than 32
+ *    5  some note is above 127; place: the first of them, counted from 0
+ *    6  `sets` has not n - 1 places
+ *    7  some set is above 4095; place: the first of them, counted from 0
+ *    8  `table` has not 4,096 places
+ *    9  `columns` has no place, or `shifts` has not as many
+ *   10  the bookmark's column is not 1 to n + 1, or its shift is below the lowest or more than one above the highest
  *  255  way is neither 0 nor 1, or answer isn't 5 long
  *
  * What the caller owes: each pointer has its length's elements behind it (of an empty buffer it is not read), they are

@@ -16,26 +16,26 @@ use Rattle.ways.specs.declared.bookmark.Bookmark.{Bookmark}
 use Rattle.ways.specs.Way.{Range, rangeOf}
 use Rattle.asking.specs.Limits.{mostNotes}
 
--- 4: theme under 2 or over `most` notes, which a call names: 32
+-- 4: the theme has fewer than two notes, or more than `most`, which a call names: 32
 abbrev pub row4 : (most : ℕ) (theme : List ℕ) → Row
 row4 most theme = row 4 (ltb (length theme) 2 || ltb most (length theme)) 0
 
--- 5: a theme byte over 127; the first such, from 0
+-- 5: some note lies above every pitch; the place is the first of them, counted from 0
 abbrev pub badNote : ℕ → Bool
 badNote p = ltb highestPitch p
 
 abbrev pub row5 : (theme : List ℕ) → Row
 row5 theme = row 5 (some badNote theme) (first badNote theme)
 
--- 8: theme table isn't 4,096 long
+-- 8: the table has not a word for each set
 abbrev pub row8 : (long : ℕ) → Row
 row8 long = row 8 (not (eqb long tableWords)) 0
 
--- 9: r is 0, or the two buffers differ in length
+-- 9: there is no room, or the two buffers are not equally long
 abbrev pub row9 : (r other : ℕ) → Row
 row9 r other = row 9 (eqb r 0 || not (eqb other r)) 0
 
--- 10: bookmark column 0 or over n + 1, or shift outside the range and not one above it: outside -127..128 (octave 0..12)
+-- 10: the bookmark has no column 1 to n + 1, or its shift is below the range or more than one above it
 abbrev pub row10 : Range → (n : ℕ) → Bookmark → Row
 row10 range n b =
     row 10

@@ -30,26 +30,26 @@ judge (r ∷ rows) refused accepted = cond (r .applies) (refused (r .given)) (ju
 abbrev pub verdict : List Row → Verdict
 verdict rows = judge rows Refused Accepted
 
--- 1: h is 0 or over 16
+-- 1: there are no tracks, or more than the most
 abbrev pub row1 : (h : ℕ) → Row
 row1 h = row 1 (eqb h 0 || ltb mostTracks h) 0
 
--- 2: cells aren't a multiple of h, or n is 0 or over 2,048
+-- 2: the cells do not fill whole columns, or there is no column, or more than the most
 abbrev pub row2 : (cells : List ℕ) (h : ℕ) → Row
 row2 cells h = row 2 (not (eqb (length cells % h) 0) || eqb (columnsIn cells h) 0 || ltb mostColumns (columnsIn cells h)) 0
 
--- 3: a cell is 128 to 254, above every pitch and no rest; the first such cell, from 0
+-- 3: some cell lies above every pitch and is no rest; the place is the first of them, counted from 0
 abbrev pub badCell : ℕ → Bool
 badCell cell = ltb highestPitch cell && ltb cell restCell
 
 abbrev pub row3 : (cells : List ℕ) → Row
 row3 cells = row 3 (some badCell cells) (first badCell cells)
 
--- 6: sets buffer isn't n - 1 long
+-- 6: the buffer of sets has not one place less than there are columns
 abbrev pub row6 : (cells : List ℕ) (h : ℕ) (sets : List ℕ) → Row
 row6 cells h sets = row 6 (not (eqb (length sets) (columnsIn cells h - 1))) 0
 
--- 7: a lent set is over 4095; the first such, from 0
+-- 7: some lent set has a bit above the twelve; the place is the first of them, counted from 0
 abbrev pub badSet : ℕ → Bool
 badSet set = ltb highestSet set
 
