@@ -4,16 +4,16 @@ use mathlib.Core.List.{List, [], _∷_}
 use Prim.Native.Nat.{ℕ, _-_, _*_, _≤_}
 use native.Mathlib.Nat.{sub-zero, mul-le-mul}
 use native.Mathlib.Omega.{arith}
-use lib.ListN.{length, take, replicate, length-append}
+use lib.ListN.{length, take, drop, length-append}
 use lib.Seq.{take-at}
-use Rattle.theory.specs.Lists.{join}
+use Rattle.theory.specs.Lists.{over, join}
 use Rattle.asking.specs.Limits.{mostNotes}
 use Rattle.score.specs.Limits.{mostTracks, mostColumns, mostCells}
 use Rattle.ways.specs.declared.way.Way.{Way}
 use Rattle.reading.specs.declared.request.Reading.{Reading}
 use Rattle.reading.specs.declared.request.Reading.the-variants.{Bad}
 use Rattle.reading.specs.Request.{Meaning}
-use Rattle.reading.specs.Taking.{alone, tracksOf, Takes}
+use Rattle.reading.specs.Taking.{tracksOf, Takes}
 use Rattle.reading.proofs.Takings.{Took, took-bad}
 use Rattle.telling.specs.Lines.{linesOf, refusedLine}
 use Rattle.telling.specs.Telling.{told, searchTold}
@@ -36,12 +36,12 @@ first-tracks : (h : ℕ) (columns : List (List ℕ)) → 1 ≤ length columns �
 first-tracks h [] s r = absurd (omega arith)
 first-tracks h (c ∷ columns) s r = r .0 .wide
 
--- values at the front of a buffer, and alone there
-alone-front : (buffer values : List ℕ) (n : ℕ) → n ≡ length values → take n (alone buffer values) ≡ values
-alone-front buffer values n e = take-at values (replicate (length buffer - length values) 0) n (sym e)
+-- values written over the front of a buffer stand there
+over-front : (buffer values : List ℕ) (n : ℕ) → n ≡ length values → take n (over buffer values) ≡ values
+over-front buffer values n e = take-at values (drop (length values) buffer) n (sym e)
 
-alone-le : (buffer values : List ℕ) → length values ≤ length (alone buffer values)
-alone-le buffer values = omega (arith, length-append values (replicate (length buffer - length values) 0))
+over-le : (buffer values : List ℕ) → length values ≤ length (over buffer values)
+over-le buffer values = omega (arith, length-append values (drop (length values) buffer))
 
 module _ {input theme cells : List ℕ} {way : Way} {notes tracks columns : ℕ} {theme′ cells′ : List ℕ} (t : Took input theme cells way notes tracks columns theme′ cells′) where
   limits : Right (t .request)
@@ -60,10 +60,10 @@ module _ {input theme cells : List ℕ} {way : Way} {notes tracks columns : ℕ}
 
   -- what is lent is within the buffers
   pub notes-within : notes ≤ length theme′
-  notes-within = rw (t .notes-are, t .theme-is) (alone-le theme (t .request .theme .notes))
+  notes-within = rw (t .notes-are, t .theme-is) (over-le theme (t .request .theme .notes))
 
   pub cells-within : columns * tracks ≤ length cells′
-  cells-within = rw (long-is, t .cells-are) (alone-le cells (join (t .request .columns)))
+  cells-within = rw (long-is, t .cells-are) (over-le cells (join (t .request .columns)))
 
   -- the search that is told
   request-told : (out : List ℕ) → searchTold (join (t .request .columns)) tracks (t .request .theme .notes) way out ≡ told (output input) out
@@ -84,7 +84,7 @@ module _ {input theme cells : List ℕ} {way : Way} {notes tracks columns : ℕ}
         sub-zero notes,
         t .cells-are,
         t .theme-is,
-        alone-front cells (join (t .request .columns)) (columns * tracks) long-is,
-        alone-front theme (t .request .theme .notes) notes (t .notes-are),
+        over-front cells (join (t .request .columns)) (columns * tracks) long-is,
+        over-front theme (t .request .theme .notes) notes (t .notes-are),
       )
       (request-told out)

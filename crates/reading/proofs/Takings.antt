@@ -1,16 +1,17 @@
--- The call's promise, from the lines that were read; it leaves one answer and one state of both buffers (`takes-unique`); and
--- what a caller reads off it, of buffers that are long enough (`took-right`, `took-bad`, `took-short`). Assumes nothing.
+-- The call's promise, from the lines that were read; it leaves one answer and one state of both buffers (`takes-unique`), and
+-- where the input is not right both as they were (`takes-kept`); and what a caller reads off it, of buffers that are long
+-- enough (`took-right`, `took-bad`, `took-short`). Assumes nothing.
 use mathlib.Core.Path.{_≡_, refl, sym, ap, _∙_, subst}
 use mathlib.Core.Bool.{Bool, true, false, _||_, true≢false}
-use mathlib.Core.List.{List, [], _++_}
-use Prim.Native.Nat.{ℕ, zero, suc, _+_, _-_, _*_, _≤_}
+use mathlib.Core.List.{List}
+use Prim.Native.Nat.{ℕ, zero, suc, _+_, _*_, _≤_}
 use native.Mathlib.Nat.{zero-mul, suc-mul, one-mul, mul-le-mul}
 use native.Mathlib.Omega.{arith}
 use lib.Dec.{ltb}
-use lib.ListN.{length, take, drop, replicate}
+use lib.ListN.{length, take, drop}
 use lib.Seq.{take-add, length-take-le}
 use borrow.Author.Tests.{le-ltb, ltb-false}
-use Rattle.theory.specs.Lists.{join}
+use Rattle.theory.specs.Lists.{over, join}
 use Rattle.asking.specs.Limits.{mostNotes}
 use Rattle.score.specs.Limits.{mostTracks, mostColumns, mostCells}
 use Rattle.score.specs.Score.{cut}
@@ -19,8 +20,8 @@ use Rattle.ways.specs.declared.way.Way.{Way}
 use Rattle.reading.specs.declared.request.Reading.{Reading}
 use Rattle.reading.specs.declared.request.Reading.the-variants.{Right, Bad, Short}
 use Rattle.reading.specs.Request.{Request, Meaning, right, faulty, meaning}
-use Rattle.reading.specs.Taking.{Take, alone, tracksOf, takenAs, taken, Takes}
-use Rattle.reading.specs.Steps.{says, Held, heldNotes, heldCells, Cleared}
+use Rattle.reading.specs.Taking.{Take, tracksOf, takenAs, taken, Takes}
+use Rattle.reading.specs.Steps.{says, Held, heldNotes, heldCells, Copied}
 
 pub takes-unique : {input theme cells : List ℕ} {a b : Reading} {s t u v : List ℕ} → Takes input theme cells a s u → Takes input theme cells b t v → (a ≡ b) × (s ≡ t) × (u ≡ v)
 takes-unique p q = (p .answers ∙ sym (q .answers), p .notes ∙ sym (q .notes), p .columns ∙ sym (q .columns))
@@ -32,12 +33,9 @@ join-cut (suc n) h cells =
     let e : suc n * h ≡ h + n * h = omega (arith, suc-mul n h) in
     rw (e, join-cut n h (drop h cells)) (sym (take-add h (n * h) cells))
 
--- a buffer cleared behind what was read into it
-cleared-alone : {k : ℕ} {into₁ into₂ : List ℕ} (into values : List ℕ) → Cleared k into₁ into₂ → length into₁ ≡ length into → k ≤ length into₁ → take k into₁ ≡ values
-    → into₂ ≡ alone into values
-cleared-alone {k} {into₁} into values c e h t =
-    let n : length into₁ - k ≡ length into - length values = omega (arith, length-take-le k into₁ h, ap length t) in
-    c .is ∙ ap (λ (l : List ℕ). l ++ replicate (length into₁ - k) 0) t ∙ ap (λ (m : ℕ). values ++ replicate m 0) n
+-- values that were copied stand over the front of the buffer
+copied-over : {k : ℕ} {from into into′ : List ℕ} (values : List ℕ) → Copied k from into into′ → take k from ≡ values → into′ ≡ over into values
+copied-over {into = into} values c t = c .is ∙ ap (λ (l : List ℕ). over into l) t
 
 -- ---- what is answered
 
@@ -54,11 +52,22 @@ both-long theme cells = step (ltb (length theme) mostNotes) (ltb (length cells) 
     step true t p q e = absurd (true≢false e)
     step false true p q e = absurd (true≢false e)
 
--- what was read is within the buffers
-pub record Within (r : Reading) (theme cells : List ℕ) : Type 0 where
-  pub notes-within : heldNotes r ≤ length theme
+-- what was read is no more than there is room for
+pub record Within (r : Reading) : Type 0 where
+  pub notes-few : heldNotes r ≤ mostNotes
   pub cells-few : heldCells r ≤ mostCells
-  pub cells-within : heldCells r ≤ length cells
+
+pub held-within : {input : List ℕ} {r : Reading} {notes cells : List ℕ} → Held input r notes cells → Within r
+held-within {input} {r} {notes} {cells} w = step r (w .is)
+  where
+    step : (a : Reading) → says input a notes cells → Within a
+    step (Right way notes tracks columns) h =
+        record {
+          notes-few = h .notes-few;
+          cells-few = mul-le-mul {n₁ = columns} {m₁ = tracks} {n₂ = mostColumns} {m₂ = mostTracks} (h .columns-few) (h .tracks-few);
+        }
+    step (Bad line) h = record { notes-few = omega arith; cells-few = omega arith }
+    step Short h = absurd h
 
 -- the promise by what an input means, of buffers that are long enough
 pub record As (m : Meaning) (theme cells : List ℕ) (answer : Reading) (theme′ cells′ : List ℕ) : Type 0 where
@@ -93,41 +102,42 @@ module _ (input theme cells : List ℕ) where
           columns = t .columns ∙ ap (λ (t : Take). t .cells) taken-is;
         }
 
-    -- the lines were read, and the buffers are as long as they were
-    module _ {r : Reading} {theme₁ cells₁ : List ℕ} (w : Held input r theme₁ cells₁) (as-theme : length theme₁ ≡ length theme) (as-cells : length cells₁ ≡ length cells) where
-      pub held-within : Within r theme₁ cells₁
-      held-within = step r (w .is)
-        where
-          step : (a : Reading) → says input a theme₁ cells₁ → Within a theme₁ cells₁
-          step (Right way notes tracks columns) h =
-              let few : columns * tracks ≤ mostCells = mul-le-mul {n₁ = columns} {m₁ = tracks} {n₂ = mostColumns} {m₂ = mostTracks} (h .columns-few) (h .tracks-few) in
-              record { notes-within = omega (arith, both-long theme cells e .0, h .notes-few); cells-few = few; cells-within = omega (arith, both-long theme cells e .1) }
-          step (Bad line) h = record { notes-within = omega arith; cells-few = omega arith; cells-within = omega arith }
-          step Short h = absurd h
-
-      pub takes-held : {m k : ℕ} {theme₂ cells₂ : List ℕ} → m ≡ heldNotes r → k ≡ heldCells r → Cleared m theme₁ theme₂ → Cleared k cells₁ cells₂
+    -- the lines were read into buffers that are as long as they must be
+    module _ {r : Reading} {notes₁ cells₁ : List ℕ} (w : Held input r notes₁ cells₁) (as-notes : length notes₁ ≡ mostNotes) (as-cells : length cells₁ ≡ mostCells) where
+      pub takes-held : {m k : ℕ} {theme₂ cells₂ : List ℕ} → m ≡ heldNotes r → k ≡ heldCells r → Copied m notes₁ theme theme₂ → Copied k cells₁ cells cells₂
           → Takes input theme cells r theme₂ cells₂
       takes-held {theme₂ = theme₂} {cells₂ = cells₂} p q t s =
-          step r (w .is) held-within (subst (λ (n : ℕ). Cleared n theme₁ theme₂) p t) (subst (λ (n : ℕ). Cleared n cells₁ cells₂) q s)
+          step r (w .is) (subst (λ (n : ℕ). Copied n notes₁ theme theme₂) p t) (subst (λ (n : ℕ). Copied n cells₁ cells cells₂) q s)
         where
-          step : (a : Reading) → says input a theme₁ cells₁ → Within a theme₁ cells₁ → Cleared (heldNotes a) theme₁ theme₂ → Cleared (heldCells a) cells₁ cells₂
+          step : (a : Reading) → says input a notes₁ cells₁ → Copied (heldNotes a) notes₁ theme theme₂ → Copied (heldCells a) cells₁ cells cells₂
               → Takes input theme cells a theme₂ cells₂
-          step (Right way notes tracks columns) h within t s =
-              let one : (0 + 1) * tracks ≤ length cells₁ = omega (arith, both-long theme cells e .1, h .tracks-few, one-mul tracks) in
+          step (Right way notes tracks columns) h t s =
+              let few : notes ≤ length notes₁ = omega (arith, as-notes, h .notes-few) in
+              let one : (0 + 1) * tracks ≤ length cells₁ = omega (arith, as-cells, h .tracks-few, one-mul tracks) in
               takes-as (h .is)
               (record {
-                answers = rw (length-take-le notes theme₁ (within .notes-within), cut-length columns tracks cells₁, column-length columns tracks cells₁ 0 (h .columns-some) one);
-                notes = cleared-alone theme (take notes theme₁) t as-theme (within .notes-within) refl;
-                columns = cleared-alone cells (join (cut columns tracks cells₁)) s as-cells (within .cells-within) (sym (join-cut columns tracks cells₁));
+                answers = rw (length-take-le notes notes₁ few, cut-length columns tracks cells₁, column-length columns tracks cells₁ 0 (h .columns-some) one);
+                notes = t .is;
+                columns = copied-over (join (cut columns tracks cells₁)) s (sym (join-cut columns tracks cells₁));
               })
-          step (Bad line) h within t s =
-              takes-as h
-              (record {
-                answers = refl;
-                notes = cleared-alone theme [] t as-theme (omega arith) refl;
-                columns = cleared-alone cells [] s as-cells (omega arith) refl;
-              })
-          step Short h within t s = absurd h
+          step (Bad line) h t s = takes-as h (record { answers = refl; notes = t .is; columns = s .is })
+          step Short h t s = absurd h
+
+-- ---- what is kept
+
+-- only a right input is written
+pub takes-kept : {input theme cells : List ℕ} {r : Reading} {theme′ cells′ : List ℕ} → Takes input theme cells r theme′ cells′
+    → ((way : Way) (notes tracks columns : ℕ) → r ≡ Right way notes tracks columns → ⊥) → (theme′ ≡ theme) × (cells′ ≡ cells)
+unfolding taken
+takes-kept {input} {theme} {cells} {r} {theme′} {cells′} t other = by-room (short theme cells) refl
+  where
+    by-meaning : (m : Meaning) → As m theme cells r theme′ cells′ → (theme′ ≡ theme) × (cells′ ≡ cells)
+    by-meaning (right q) a = absurd (other _ _ _ _ (a .answers))
+    by-meaning (faulty line) a = (a .notes, a .columns)
+
+    by-room : (s : Bool) → short theme cells ≡ s → (theme′ ≡ theme) × (cells′ ≡ cells)
+    by-room true e = (rw e at (t .notes), rw e at (t .columns))
+    by-room false e = by-meaning (meaning input) (as-takes input theme cells e t)
 
 -- ---- what a caller reads off
 
@@ -138,8 +148,8 @@ pub record Took (input theme cells : List ℕ) (way : Way) (notes tracks columns
   pub notes-are : notes ≡ length (request .theme .notes)
   pub tracks-are : tracks ≡ tracksOf (request .columns)
   pub columns-are : columns ≡ length (request .columns)
-  pub theme-is : theme′ ≡ alone theme (request .theme .notes)
-  pub cells-are : cells′ ≡ alone cells (join (request .columns))
+  pub theme-is : theme′ ≡ over theme (request .theme .notes)
+  pub cells-are : cells′ ≡ over cells (join (request .columns))
 
 module _ {input theme cells : List ℕ} {r : Reading} {theme′ cells′ : List ℕ} (t : Takes input theme cells r theme′ cells′) (few : mostNotes ≤ length theme) (many : mostCells ≤ length cells) where
   read-as : As (meaning input) theme cells r theme′ cells′

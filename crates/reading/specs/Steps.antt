@@ -1,9 +1,10 @@
 -- What the inner functions promise: what is read at a place of the input, as what `Reading` reads of the text from there on;
 -- and what a whole input leaves in the buffers. Assumes nothing.
 use mathlib.Core.Path.{_≡_}
-use mathlib.Core.List.{List, _++_}
-use Prim.Native.Nat.{ℕ, _-_, _*_, _≤_}
-use lib.ListN.{length, take, drop, replicate}
+use mathlib.Core.List.{List}
+use Prim.Native.Nat.{ℕ, _*_, _≤_}
+use lib.ListN.{length, take, drop}
+use Rattle.theory.specs.Lists.{over}
 use Rattle.asking.specs.Limits.{mostNotes}
 use Rattle.score.specs.Limits.{mostTracks, mostColumns}
 use Rattle.reading.specs.declared.lines.Line.{Line}
@@ -95,7 +96,7 @@ says input Reading.Short theme cells = ⊥
 pub record Held (input : List ℕ) (r : Reading) (theme cells : List ℕ) : Type 0 where
   pub is : says input r theme cells
 
--- how many notes and how many cells stand at the front of the buffers
+-- how many notes and how many cells stand at the front of the buffers, of a right input; none of another
 abbrev pub heldNotes : Reading → ℕ
 heldNotes (Reading.Right way notes tracks columns) = notes
 heldNotes (Reading.Bad line) = 0
@@ -106,6 +107,6 @@ heldCells (Reading.Right way notes tracks columns) = columns * tracks
 heldCells (Reading.Bad line) = 0
 heldCells Reading.Short = 0
 
--- a buffer of which all places from one on were set to 0
-pub record Cleared (from : ℕ) (into into′ : List ℕ) : Type 0 where
-  pub is : into′ ≡ take from into ++ replicate (length into - from) 0
+-- a buffer over whose front the first values were written, as many as are said
+pub record Copied (many : ℕ) (from into into′ : List ℕ) : Type 0 where
+  pub is : into′ ≡ over into (take many from)

@@ -2,11 +2,11 @@
 -- (`Takes`). Assumes nothing.
 use mathlib.Core.Path.{_≡_}
 use mathlib.Core.Bool.{cond, _||_}
-use mathlib.Core.List.{List, [], _++_}
-use Prim.Native.Nat.{ℕ, _-_}
+use mathlib.Core.List.{List, []}
+use Prim.Native.Nat.{ℕ}
 use lib.Dec.{ltb}
-use lib.ListN.{length, getD, replicate}
-use Rattle.theory.specs.Lists.{join}
+use lib.ListN.{length, getD}
+use Rattle.theory.specs.Lists.{over, join}
 use Rattle.asking.specs.Limits.{mostNotes}
 use Rattle.score.specs.Limits.{mostCells}
 use Rattle.reading.specs.declared.request.Reading.{Reading}
@@ -19,23 +19,20 @@ pub record Take : Type 0 where
   pub theme : List ℕ
   pub cells : List ℕ
 
--- as long as the buffer: the values, and zeros behind them
-abbrev pub alone : (buffer values : List ℕ) → List ℕ
-alone buffer values = values ++ replicate (length buffer - length values) 0
-
 -- how many tracks columns have: the cells of the first
 abbrev pub tracksOf : List (List ℕ) → ℕ
 tracksOf columns = length (getD columns 0 [])
 
--- the notes of a right input, and its cells column after column; of a faulty one nothing
+-- the notes of a right input stand at the front of the one buffer and its cells, column after column, at the front of the other;
+-- places behind them keep their contents. Of a faulty input nothing is written
 abbrev pub takenAs : Meaning → (theme cells : List ℕ) → Take
 takenAs (right q) theme cells =
     record {
       answer = Right (q .theme .way) (length (q .theme .notes)) (tracksOf (q .columns)) (length (q .columns));
-      theme = alone theme (q .theme .notes);
-      cells = alone cells (join (q .columns));
+      theme = over theme (q .theme .notes);
+      cells = over cells (join (q .columns));
     }
-takenAs (faulty line) theme cells = record { answer = Bad line; theme = alone theme []; cells = alone cells [] }
+takenAs (faulty line) theme cells = record { answer = Bad line; theme = theme; cells = cells }
 
 -- buffers of which one is too short for some inputs are not written
 unfoldable pub taken : (input theme cells : List ℕ) → Take

@@ -13,10 +13,10 @@ ghost use lib.ListN.{length};
 ghost use Rattle.score.specs.Limits.{mostCells};
 ghost use Rattle.asking.specs.Limits.{mostNotes};
 ghost use Rattle.reading.specs.Taking.{Takes};
-ghost use Rattle.reading.specs.Steps.{heldNotes, heldCells, Held, Cleared};
+ghost use Rattle.reading.specs.Steps.{heldNotes, heldCells, Held, Copied};
 
 // A right input: its way, how many notes stand in the one buffer, and how many tracks and columns in the other; or the number of
-// its first faulty line; or a buffer is too short for some inputs, and nothing was written.
+// its first faulty line; or a buffer is too short for some inputs. Only a right input is written into the buffers.
 pub enum Reading {
     Right {
         way: Way,
@@ -31,17 +31,20 @@ pub enum Reading {
 }
 
 // Reads the notes to the front of a buffer of 32 bytes or more and the cells, column after column, to the front of one of 32,768
-// or more. All places behind them are 0 afterwards, and all places are where a line is faulty. No input needs more room;
-// where a buffer is shorter, the call is turned away.
+// or more. Places behind them keep their contents, and all places do where a line is faulty. No input needs more room; where a
+// buffer is shorter, the call is turned away.
 pub fn read(input: &[u8], theme: &mut [u8], cells: &mut [u8]) -> Reading
     ensures { λ r. ⌜ Takes (now (input .entry)) (now (theme .entry)) (now (cells .entry)) r (now (theme .exit)) (now (cells .exit)) ⌝ }
 {
     if (theme.len() < MOST_NOTES) | (cells.len() < MOST_CELLS) {
         return Reading::Short;
     }
-    let reading = all_lines(input, theme, cells);
-    clear(theme, notes_in(reading));
-    clear(cells, cells_in(reading));
+    // the last line may be the faulty one, so what is read goes into the lent buffers when all lines are right
+    let mut notes = [0u8; MOST_NOTES];
+    let mut columns = [0u8; MOST_CELLS];
+    let reading = all_lines(input, &mut notes, &mut columns);
+    copy(theme, &notes, notes_in(reading));
+    copy(cells, &columns, cells_in(reading));
     reading
 }
 
@@ -78,7 +81,7 @@ fn notes_in(reading: Reading) -> usize
 {
     match reading {
         Reading::Right { notes, .. } => notes,
-        Reading::Bad { .. } => 0,
+        Reading::Bad { .. } => 0, // no note of a faulty input is copied
         Reading::Short => 0,
     }
 }
@@ -93,19 +96,19 @@ fn cells_in(reading: Reading) -> usize
             columns,
             ..
         } => columns * tracks,
-        Reading::Bad { .. } => 0,
+        Reading::Bad { .. } => 0, // nor a cell
         Reading::Short => 0,
     }
 }
 
-// All places from one on become 0.
-fn clear(into: &mut [u8], from: usize)
-    requires { ⌜ from ≤ length (now into) ⌝ }
-    ensures { λ _. ⌜ Cleared from (now (into .entry)) (now (into .exit)) ⌝ }
+// Copies the first values, as many as are said, to the front of a buffer. Places behind them keep their contents.
+fn copy(into: &mut [u8], from: &[u8], many: usize)
+    requires { ⌜ (many ≤ length (now into)) × (many ≤ length (now from)) ⌝ }
+    ensures { λ _. ⌜ Copied many (now (from .entry)) (now (into .entry)) (now (into .exit)) ⌝ }
 {
-    let mut at = from;
-    while at < into.len() {
-        into[at] = 0;
+    let mut at = 0;
+    while at < many {
+        into[at] = from[at];
         at += 1;
     }
 }
