@@ -39,14 +39,15 @@ notes-cells : (notes : List ℕ) → Each IsNote notes → Each IsCell notes
 notes-cells [] h = h
 notes-cells (p ∷ notes) h = (inl (h .0), notes-cells notes (h .1))
 
-chord-length : (column : List ℕ) → length column ≤ mostTracks → Each IsCell column → length (chordText column) ≤ 70
+-- with their line feeds a right chord line has at most 70 bytes and a right theme line 141, so that one of over 160 before it is faulty
+pub chord-length : (column : List ℕ) → length column ≤ mostTracks → Each IsCell column → length (chordText column) ≤ 70
 chord-length column l h = omega (arith, length-append chordWord (fieldsText column), fields-length column h)
 
 way-length : (way : Way) → length (wayWord way) ≤ 6
 way-length Exact = omega arith
 way-length Octave = omega arith
 
-theme-length : (theme : Theme) → IsTheme theme → length (themeText theme) ≤ 141
+pub theme-length : (theme : Theme) → IsTheme theme → length (themeText theme) ≤ 141
 theme-length theme h =
     omega (
       arith,
