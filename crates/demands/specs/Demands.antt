@@ -72,8 +72,8 @@ pub record Demand1 : Type 0 where
       → TurnsAway (1 ∷ 2 ∷ 3 ∷ 4 ∷ 5 ∷ 6 ∷ 7 ∷ 8 ∷ 9 ∷ 10 ∷ []) (rowsOfQuick cells h theme way b sets table buffers)
       (λ r. answer ≡ Refused r) ((t : Turn) × (answer ≡ Turned t)) ((after ≡ buffers) × (table′ ≡ table))
 
--- ---- demand 2: a pair is listed only if it stands by the published definition, whatever sets were lent; prepared sets are exactly the
--- intervals between neighbouring columns, mod 12
+-- ---- demand 2: what is listed stands by the published definition, whatever sets were lent; and what is prepared is, for each two neighbouring
+-- columns, exactly the intervals between them with octaves ignored
 
 -- entry k, from 1, belongs to columns k and k + 1: its bit d, 0 to 11, is 0 exactly where they have pitches d apart; all its other bits are 0
 pub record IntervalsOf (score : List (List ℕ)) (sets : List ℕ) : Type 0 where
@@ -91,9 +91,9 @@ pub record Demand2 : Type 0 where
       → {pair : Pair} → In pair (readPairs (t .written) after) → Stands way (scoreOf cells h) theme pair
   pub prepared : (cells : List ℕ) (h : ℕ) (lent : List ℕ) {after : List ℕ} → Prepares cells h lent Prepared after → IntervalsOf (scoreOf cells h) after
 
--- ---- demand 3: plain pages from the first bookmark, each going on from the one last returned, up to the first that is finished, joined give
--- every such pair once, by column and then shift; quick pages with the score's own sets hold the same pairs, bookmarks and ends, with no more
--- looks; L pairs need L / r + 1 pages
+-- ---- demand 3: whoever reads plain pages from the first bookmark on, and asks again with each bookmark that comes back until a page is finished,
+-- has read every pair that stands, once and in order; quick pages by the score's own sets hold the same pairs, bookmarks and ends, with no
+-- more looks; a list of L pairs takes L / r + 1 pages
 
 -- no row of a score and a theme applies (1 to 5)
 abbrev pub RightRequest : (cells : List ℕ) (h : ℕ) (theme : List ℕ) → Type 0
