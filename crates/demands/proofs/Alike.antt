@@ -21,7 +21,7 @@ use Rattle.paging.specs.declared.page.Page.the-variants.{Turned, Refused}
 use Rattle.paging.specs.Lent.{Lent, readPairs}
 use Rattle.paging.specs.Page.{Leaf}
 use Rattle.paging.specs.Reading.{Turns, Reading, last, more}
-use Rattle.paging.specs.Listing as Listing
+use Rattle.paging.specs.Listing.{NoDearer, turned}
 use Rattle.paging.proofs.Paging.{told, turns-same, call-answer, call-read, next-range}
 use Rattle.search.specs.Pairs.{plainSearch}
 use Rattle.search.specs.Page.{plainPage, PlainPages, quickPage, quickTable, QuickPages}
@@ -29,11 +29,21 @@ use Rattle.search.proofs.PlainCall.{plain-turned}
 use Rattle.search.proofs.QuickCall.{quick-turned}
 use Rattle.search.proofs.Searches.{plain-calls}
 use Rattle.search.proofs.Quicker.{quick-same}
-use Rattle.demands.specs.Demands.{PlainCall, QuickCall, NoDearer, NoneDearer, none, more as dearer}
+use Rattle.demands.specs.Demands.{PlainCall, QuickCall, NoneDearer, none, more as dearer}
 use Rattle.demands.proofs.Whole.{pages-leaf, plainly}
 
-turned-near : {t u : Turn} → Listing.NoDearer (Turned t) (Turned u) → NoDearer t u
-turned-near (Listing.turned a b c d) = record { written = a; next = b; finished = c; looks = d }
+-- the parts of it
+record Near (t u : Turn) : Type 0 where
+  written : t .written ≡ u .written
+  next : t .next ≡ u .next
+  finished : t .finished ≡ u .finished
+  looks : t .looks ≤ u .looks
+
+near-turned : {t u : Turn} → Near t u → NoDearer (Turned t) (Turned u)
+near-turned n = turned (n .written) (n .next) (n .finished) (n .looks)
+
+turned-near : {t u : Turn} → NoDearer (Turned t) (Turned u) → Near t u
+turned-near (turned a b c d) = record { written = a; next = b; finished = c; looks = d }
 
 module _ (cells : List ℕ) (h : ℕ) (theme : List ℕ) (way : Way) (a : Accepted mostNotes cells h theme) (r : ℕ) (room : 1 ≤ r)
     {plain quick : Bookmark → Lent → Leaf} (p : PlainCall cells h theme way plain) (q : QuickCall cells h theme way (sets (scoreOf cells h)) quick) where
@@ -41,8 +51,8 @@ module _ (cells : List ℕ) (h : ℕ) (theme : List ℕ) (way : Way) (a : Accept
   inside b = InRange (rangeOf way) (length (scoreOf cells h)) b
 
   -- one page
-  pub page-same : {b : Bookmark} {t t′ : Turn} {pairs pairs′ : List Pair} → inside b → Turns plain r b t pairs → Turns quick r b t′ pairs′
-      → (pairs′ ≡ pairs) × NoDearer t′ t
+  page-same : {b : Bookmark} {t t′ : Turn} {pairs pairs′ : List Pair} → inside b → Turns plain r b t pairs → Turns quick r b t′ pairs′
+      → (pairs′ ≡ pairs) × Near t′ t
   page-same {b} {t} {t′} {pairs} {pairs′} i x y =
       let c = plain-calls cells h theme way a r room in
       let s = quick-same cells h theme way a b (y .buffers) (q .table b (y .buffers)) (q .long b (y .buffers)) in
@@ -51,9 +61,9 @@ module _ (cells : List ℕ) (h : ℕ) (theme : List ℕ) (way : Way) (a : Accept
       let mine = turns-same (plainly cells h theme way a r room p) i x in
       let answered : Turned t′ ≡ defined .answer = sym (y .answered) ∙ ap (λ (l : Leaf). l .answer) e in
       let other : plainPage cells h theme way b (y .buffers) .answer ≡ Turned t = call-answer c b i (y .buffers) (y .room) ∙ ap Turned (sym (mine .0)) in
-      let near : NoDearer t′ t =
-      turned-near (subst (λ (z : Page). Listing.NoDearer z (Turned t)) (sym answered)
-      (subst (λ (z : Page). Listing.NoDearer (defined .answer) z) other (s .answers))) in
+      let near : Near t′ t =
+      turned-near (subst (λ (z : Page). NoDearer z (Turned t)) (sym answered)
+      (subst (λ (z : Page). NoDearer (defined .answer) z) other (s .answers))) in
       let read : readPairs (t′ .written) (quick b (y .buffers) .buffers) ≡ readPairs (told c b .written) (plainPage cells h theme way b (y .buffers) .buffers) =
       ap₂ readPairs (near .written ∙ ap (λ (z : Turn). z .written) (mine .0)) (ap (λ (l : Leaf). l .buffers) e ∙ s .writes) in
       (y .left ∙ read ∙ call-read c b i (y .buffers) (y .room) ∙ sym (mine .1), near)
@@ -63,7 +73,7 @@ module _ (cells : List ℕ) (h : ℕ) (theme : List ℕ) (way : Way) (a : Accept
       → Reading quick r b pages′ turns′ → (pages′ ≡ pages) × NoneDearer turns′ turns
   reading-same i (last x e) (last y f) =
       let s = page-same i x y in
-      (ap (λ (l : List Pair). l ∷ []) (s .0), dearer (s .1) none)
+      (ap (λ (l : List Pair). l ∷ []) (s .0), dearer (near-turned (s .1)) none)
   reading-same i (last x e) (more y f g) = let s = page-same i x y in absurd (true≢false (sym e ∙ sym (s .1 .finished) ∙ f))
   reading-same i (more x e g) (last y f) = let s = page-same i x y in absurd (true≢false (sym f ∙ s .1 .finished ∙ e))
   reading-same {b} i (more {t = t} x e g) (more {pages = pages′} {turns = turns′} y f k) =
@@ -71,7 +81,7 @@ module _ (cells : List ℕ) (h : ℕ) (theme : List ℕ) (way : Way) (a : Accept
       let s = page-same i x y in
       let n : inside (t .next) = subst (λ (z : Turn). inside (z .next)) (sym (turns-same c i x .0)) (next-range _ (c .right) r room b) in
       let m = reading-same n g (subst (λ (z : Bookmark). Reading quick r z pages′ turns′) (s .1 .next) k) in
-      (ap₂ (λ (l : List Pair) (ls : List (List Pair)). l ∷ ls) (s .0) (m .0), dearer (s .1) (m .1))
+      (ap₂ (λ (l : List Pair) (ls : List (List Pair)). l ∷ ls) (s .0) (m .0), dearer (near-turned (s .1)) (m .1))
 
 -- ---- one page from any bookmark, of answers that meet the contracts
 
@@ -98,9 +108,10 @@ module _ (cells : List ℕ) (h : ℕ) (theme : List ℕ) (way : Way) (b : Bookma
         promises = λ c l. record { pages = record { answers = refl; writes = refl }; fills-table = refl };
       }
 
-  pub one-page : (readPairs (t .written) after′ ≡ readPairs (u .written) after) × NoDearer t u
+  pub one-page : (readPairs (t .written) after′ ≡ readPairs (u .written) after) × NoDearer (Turned t) (Turned u)
   one-page =
       let r = length (buffers .columns) in
+      let s =
       page-same cells h theme way (plain-asks .accepted) r (plain-asks .room) by-plain by-quick
       (subst (λ (n : ℕ). InRange (rangeOf way) n b) (sym (score-length cells h)) (plain-asks .marked))
       (record {
@@ -114,4 +125,5 @@ module _ (cells : List ℕ) (h : ℕ) (theme : List ℕ) (way : Way) (b : Bookma
         room = record { of-columns = same; of-shifts = quick-asks .plain .same-room ∙ same };
         answered = sym (q .pages .answers);
         left = ap (readPairs (t .written)) (q .pages .writes);
-      })
+      }) in
+      (s .0, near-turned (s .1))

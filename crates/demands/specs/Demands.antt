@@ -34,7 +34,7 @@ use Rattle.paging.specs.Lent.{Lent, Room, readPairs}
 use Rattle.paging.specs.Order.{Ordered}
 use Rattle.paging.specs.Page.{Leaf}
 use Rattle.paging.specs.Reading.{Reading}
-use Rattle.paging.specs.Listing.{Read}
+use Rattle.paging.specs.Listing.{Read, NoDearer}
 use Rattle.search.specs.Definition.{Stands}
 use Rattle.search.specs.Page.{rowsOfPlain, PlainPages, rowsOfQuick, QuickPages}
 use Rattle.search.specs.WholeList.{mostLooks}
@@ -125,17 +125,10 @@ pub record ListsAll (cells : List ℕ) (h : ℕ) (theme : List ℕ) (way : Way) 
   pub looked : {pages : List (List Pair)} {turns : List Turn} → Reading call r (firstBookmark (rangeOf way)) pages turns
       → sum (map (λ (t : Turn). t .looks) turns) ≤ mostLooks cells h theme
 
--- the same count, the same bookmark and the same end, with no more looks
-pub record NoDearer (t u : Turn) : Type 0 where
-  pub written : t .written ≡ u .written
-  pub next : t .next ≡ u .next
-  pub finished : t .finished ≡ u .finished
-  pub looks : t .looks ≤ u .looks
-
--- page by page
+-- page by page the same count, the same bookmark and the same end, with no more looks
 pub data NoneDearer : (quick plain : List Turn) → Type 0 where
   none : NoneDearer [] []
-  more : {t u : Turn} {ts us : List Turn} → NoDearer t u → NoneDearer ts us → NoneDearer (t ∷ ts) (u ∷ us)
+  more : {t u : Turn} {ts us : List Turn} → NoDearer (Turned t) (Turned u) → NoneDearer ts us → NoneDearer (t ∷ ts) (u ∷ us)
 
 pub record Demand3 : Type 0 where
   pub plain : (cells : List ℕ) (h : ℕ) (theme : List ℕ) (way : Way) → RightRequest cells h theme → (r : ℕ) → 1 ≤ r
@@ -150,7 +143,7 @@ pub record Demand3 : Type 0 where
       → (lent : List ℕ) {sets : List ℕ} → Prepares cells h lent Prepared sets
       → {t u : Turn} {after after′ : Lent} {table′ : List ℕ} → PlainPages cells h theme way b buffers (Turned u) after
       → QuickPages cells h theme way b sets table buffers′ (Turned t) table′ after′
-      → (readPairs (t .written) after′ ≡ readPairs (u .written) after) × NoDearer t u
+      → (readPairs (t .written) after′ ≡ readPairs (u .written) after) × NoDearer (Turned t) (Turned u)
   pub same : (cells : List ℕ) (h : ℕ) (theme : List ℕ) (way : Way) → RightRequest cells h theme → (r : ℕ) → 1 ≤ r
       → (lent : List ℕ) {sets : List ℕ} → Prepares cells h lent Prepared sets
       → {plainly quickly : Bookmark → Lent → Leaf} → PlainCall cells h theme way plainly → QuickCall cells h theme way sets quickly
