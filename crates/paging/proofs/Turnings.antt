@@ -27,7 +27,7 @@ use Rattle.paging.specs.declared.page.Page.the-variants.{Turned, Refused
 use Rattle.paging.specs.Lent.{Lent, Room, written}
 use Rattle.paging.specs.Search.{Search, left, found, spent}
 use Rattle.paging.specs.Page.{Leaf, turn, paged, away, Pages}
-use Rattle.paging.specs.Turning.{readTurn, roomLeft}
+use Rattle.paging.specs.Turning.{readTurn, roomLeft, unfilled}
 use Rattle.paging.proofs.Buffers.{written-room}
 use Rattle.paging.proofs.Answers.{paged-clear}
 
@@ -47,6 +47,7 @@ last-read f d z p ps r e h =
 
 pub turned-page : (range : Range) (n r : ℕ) (buffers : Lent) (pairs : List Pair) (looks : ℕ) → 1 ≤ r → Room r buffers → length pairs ≤ r
     → readTurn (finishedBookmark range (columnAt n)) (length pairs) looks (written buffers pairs) ≡ turn range n r pairs looks
+unfolding unfilled
 turned-page range n r buffers pairs looks some room few = pick (decLt (length pairs) r)
   where
     no-pair : Pair

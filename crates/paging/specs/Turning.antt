@@ -10,10 +10,13 @@ use Rattle.ways.specs.Bookmarks.{afterPair}
 use Rattle.paging.specs.declared.page.Turn.{Turn}
 use Rattle.paging.specs.Lent.{Lent}
 
--- the buffers have room left after so many pairs; those that no page can fill always have
+-- so many columns and shifts have room left after so many pairs; those that no page can fill always have
+unfoldable pub unfilled : (found columns shifts : ℕ) → Bool
+unfilled found columns shifts = ltb found columns || eqb columns 0 || ltb shifts columns
+
+-- the buffers have room left after so many pairs
 abbrev pub roomLeft : (found : ℕ) → Lent → Bool
-roomLeft found buffers =
-    ltb found (length (buffers .columns)) || eqb (length (buffers .columns)) 0 || ltb (length (buffers .shifts)) (length (buffers .columns))
+roomLeft found buffers = unfilled found (length (buffers .columns)) (length (buffers .shifts))
 
 -- a full page goes on after the last pair in the buffers, and another is finished
 abbrev pub readTurn : (end : Bookmark) (found spent : ℕ) → Lent → Turn

@@ -5,10 +5,8 @@ use score::Refusal;
 use ways::Bookmark;
 use ways::Pair;
 ghost use mathlib.Core.Path.{_≡_};
-ghost use mathlib.Core.Bool.{_||_};
-ghost use lib.Dec.{eqb, ltb};
 ghost use Rattle.paging.specs.Lent.{lent};
-ghost use Rattle.paging.specs.Turning.{readTurn};
+ghost use Rattle.paging.specs.Turning.{readTurn, unfilled};
 
 // A page: how many pairs were written, where the next page goes on, whether the list is finished, and the looks.
 pub struct Turn {
@@ -25,7 +23,7 @@ pub enum Page {
 
 // Whether the buffers have room left after so many pairs. Buffers without a place, or with fewer shifts than columns, always have.
 fn room_left(found: usize, columns: usize, shifts: usize) -> bool
-    ensures { λ r. ⌜ r ≡ (ltb found columns || eqb columns 0 || ltb shifts columns) ⌝ }
+    ensures { λ r. ⌜ r ≡ unfilled found columns shifts ⌝ }
 {
     if found < columns {
         return true;

@@ -1,10 +1,11 @@
 -- Buffers that a page has filled: they have a last place, and no more pairs fit. Assumes nothing.
-use mathlib.Core.Path.{_≡_, refl}
+use mathlib.Core.Path.{_≡_, refl, sym, _∙_}
 use mathlib.Core.Bool.{Bool, true, false, _||_, true≢false}
-use Prim.Native.Nat.{ℕ, zero, suc, _-_, _≤_, _<_}
+use Prim.Native.Nat.{ℕ, zero, suc, _≤_}
 use native.Mathlib.Omega.{arith}
 use lib.Dec.{ltb, eqb}
 use borrow.Author.Tests.{ltb-false, eqb-false}
+use Rattle.paging.specs.Turning.{unfilled}
 
 pub record Filled (found columns shifts : ℕ) : Type 0 where
   pub some : 1 ≤ columns
@@ -27,9 +28,7 @@ no-room-filled found columns shifts = step (ltb found columns) (eqb columns 0) (
             go zero f = absurd (f refl)
             go (suc n) f = omega arith
 
--- the last place, in either buffer
-pub last-column : {found columns shifts : ℕ} → Filled found columns shifts → columns - 1 < columns
-last-column f = omega (arith, f .some)
-
-pub last-shift : {found columns shifts : ℕ} → Filled found columns shifts → columns - 1 < shifts
-last-shift f = omega (arith, f .some, f .both)
+-- the same of the answer to whether there is room
+pub full : {found columns shifts : ℕ} {room : Bool} → room ≡ unfilled found columns shifts → room ≡ false → Filled found columns shifts
+unfolding unfilled
+full {found} {columns} {shifts} e none = no-room-filled found columns shifts (sym e ∙ none)

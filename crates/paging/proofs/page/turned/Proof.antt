@@ -2,7 +2,8 @@
 -- Assumes nothing.
 use borrow.Author.Needs.{needs}
 use mathlib.Core.Path.{sym, _∙_}
-use Rattle.paging.proofs.page.Laws.{no-room-filled, last-column, last-shift}
+use native.Mathlib.Omega.{arith}
+use Rattle.paging.proofs.page.Laws.{full}
 use Rattle.paging.proofs.page.turned.Statement.{statement}
 use Rattle.paging.proofs.page.turned.Tie as tie
 
@@ -13,22 +14,28 @@ returns : tie.Need-returns
 returns c = rw (sym (c .before .room-left .ensures) ∙ c .if1 .taken)
 
 sub-t9 : tie.Need-sub-t9
-sub-t9 c = no-room-filled _ _ _ (sym (c .before .room-left .ensures) ∙ c .if1 .left) .some
+sub-t9 c = let filled = full (c .before .room-left .ensures) (c .if1 .left) in omega (arith, filled .some)
 
 mul-t10 : tie.Need-mul-t10
 mul-t10 c = search needs
 
 shared-slice-read-t12 : tie.Need-shared-slice-read-t12
-shared-slice-read-t12 c = last-column (no-room-filled _ _ _ (sym (c .before .before .room-left .ensures) ∙ c .before .if1 .left))
+shared-slice-read-t12 c =
+    let filled = full (c .before .before .room-left .ensures) (c .before .if1 .left) in
+    omega (arith, filled .some)
 
 sub-t14 : tie.Need-sub-t14
-sub-t14 c = no-room-filled _ _ _ (sym (c .before .before .room-left .ensures) ∙ c .before .if1 .left) .some
+sub-t14 c =
+    let filled = full (c .before .before .room-left .ensures) (c .before .if1 .left) in
+    omega (arith, filled .some)
 
 mul-t15 : tie.Need-mul-t15
 mul-t15 c = search needs
 
 shared-slice-copy-out-t17 : tie.Need-shared-slice-copy-out-t17
-shared-slice-copy-out-t17 c = last-shift (no-room-filled _ _ _ (sym (c .before .before .room-left .ensures) ∙ c .before .if1 .left))
+shared-slice-copy-out-t17 c =
+    let filled = full (c .before .before .room-left .ensures) (c .before .if1 .left) in
+    omega (arith, filled .some, filled .both)
 
 after-requires : tie.Need-after-requires
 after-requires c κs = search needs
