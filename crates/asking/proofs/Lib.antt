@@ -1,2 +1,3 @@
--- Laws of this crate's definitions: `Rows` (refusals).
+-- Laws of this crate's definitions: `Rows` (refusals), `Unique` (each contract settles its call).
 pub mod Rows
+pub mod Unique

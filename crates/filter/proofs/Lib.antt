@@ -1,2 +1,3 @@
--- Laws of this crate's definitions: `Words` (the theme table).
+-- Laws of this crate's definitions: `Words` (the theme table), `Unique` (each contract settles its call).
 pub mod Words
+pub mod Unique

@@ -39,7 +39,8 @@ notes-cells : (notes : List ℕ) → Each IsNote notes → Each IsCell notes
 notes-cells [] h = h
 notes-cells (p ∷ notes) h = (inl (h .0), notes-cells notes (h .1))
 
--- with their line feeds a right chord line has at most 70 bytes and a right theme line 141, so that one of over 160 before it is faulty
+-- with their line feeds a right chord line has at most 70 bytes and a right theme line 141, so that one of over 160 before it is
+-- faulty: `long-faulty` of `reading/proofs/LineLengths` says so of the lines of an input
 pub chord-length : (column : List ℕ) → length column ≤ mostTracks → Each IsCell column → length (chordText column) ≤ 70
 chord-length column l h = omega (arith, length-append chordWord (fieldsText column), fields-length column h)
 

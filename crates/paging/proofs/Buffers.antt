@@ -1,4 +1,5 @@
--- What was written into lent buffers is read back, what lies behind is kept, and their room stays. Assumes nothing.
+-- What was written into lent buffers is read back, what lies behind is kept, and their room stays. Lent buffers that are the same
+-- have the same columns and the same shifts. Assumes nothing.
 use mathlib.Core.Path.{_≡_, refl, ap, _∙_}
 use mathlib.Core.List.{List, [], _∷_, _++_, map}
 use Prim.Native.Nat.{ℕ, _≤_}
@@ -27,3 +28,9 @@ written-room buffers pairs m h =
       of-columns = over-length (buffers .columns) (map (λ p. p .column .0) pairs) (omega (arith, length-map pairs (λ (p : Pair). p .column .0), m .of-columns)) ∙ m .of-columns;
       of-shifts = over-length (buffers .shifts) (map (λ p. p .shift) pairs) (omega (arith, length-map pairs (λ (p : Pair). p .shift), m .of-shifts)) ∙ m .of-shifts;
     }
+
+pub same-columns : {a b : Lent} → a ≡ b → a .columns ≡ b .columns
+same-columns = ap (λ (l : Lent). l .columns)
+
+pub same-shifts : {a b : Lent} → a ≡ b → a .shifts ≡ b .shifts
+same-shifts = ap (λ (l : Lent). l .shifts)

@@ -1,5 +1,7 @@
--- Laws of pages over any search. Pairs: `Orders`, `Keys` (one number orders them), `Bookmarks`. The lent buffers: `Buffers`.
+-- Laws of pages over any search. Pairs: `Orders`, `AtOrAfter` (from a bookmark on), `Keys` (one number orders
+-- them), `Bookmarks`. The lent buffers: `Buffers`. The call: `Unique` (the contract settles it).
 pub mod Orders
+pub mod AtOrAfter
 pub mod Keys
 pub mod Bookmarks
 pub mod Buffers
@@ -11,3 +13,4 @@ pub mod Fewer
 pub mod Answers
 pub mod Turnings
 pub mod UnderWay
+pub mod Unique

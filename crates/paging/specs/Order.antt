@@ -19,7 +19,10 @@ pub data Ordered : List Pair → Type 0 where
   one : {a : Pair} → Ordered (a ∷ [])
   more : {a b : Pair} {rest : List Pair} → Before a b → Ordered (b ∷ rest) → Ordered (a ∷ b ∷ rest)
 
--- by column, and then by shift
+-- by column, and then by shift: the pair does not come before the one that the bookmark names (`proofs/AtOrAfter`)
+abbrev pub markedPair : Bookmark → Pair
+markedPair b = record { column = b .column; shift = b .shift }
+
 abbrev pub atOrAfter : Bookmark → Pair → Bool
 atOrAfter b pair = ltb (b .column .0) (pair .column .0) || eqb (b .column .0) (pair .column .0) && leZ (b .shift) (pair .shift)
 

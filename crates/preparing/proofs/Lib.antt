@@ -1,8 +1,10 @@
--- Laws of this crate's definitions, for every crate above: `Preparing`, `Prepared` (when a preparation is refused, and what it leaves),
--- `ClassSets` and `Turning` (twelve classes as bits). Within this crate: how the sets are filled.
+-- Laws of this crate's definitions, for every crate above: `Preparing`, `Prepared` (when a preparation is refused, and what it
+-- leaves), `ClassSets` and `Turning` (twelve classes as bits), `Unique` (each contract settles its call). Within this crate:
+-- how the sets are filled.
 pub mod Preparing
 pub mod Prepared
 mod Most
 pub mod ClassSets
 pub mod Turning
 mod Filling
+pub mod Unique

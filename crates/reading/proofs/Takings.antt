@@ -152,7 +152,7 @@ pub record Took (input theme cells : List ℕ) (way : Way) (notes tracks columns
   pub cells-are : cells′ ≡ over cells (join (request .columns))
 
 module _ {input theme cells : List ℕ} {r : Reading} {theme′ cells′ : List ℕ} (t : Takes input theme cells r theme′ cells′) (few : mostNotes ≤ length theme) (many : mostCells ≤ length cells) where
-  read-as : As (meaning input) theme cells r theme′ cells′
+  pub read-as : As (meaning input) theme cells r theme′ cells′
   read-as = as-takes input theme cells (rw (le-ltb (length theme) mostNotes few, le-ltb (length cells) mostCells many)) t
 
   pub took-short : r ≡ Short → ⊥
@@ -168,6 +168,9 @@ module _ {input theme cells : List ℕ} {r : Reading} {theme′ cells′ : List 
       step : (m : Meaning) → As m theme cells r theme′ cells′ → m ≡ faulty line
       step (right q) w = let d = w .answers in let z : _≡_ {A = ℕ} 0 1 = cc in absurd (omega arith)
       step (faulty n) w = let d = w .answers in let z : n ≡ line = cc in ap faulty z
+
+  pub bad-taken : {line : ℕ} → meaning input ≡ faulty line → r ≡ Bad line
+  bad-taken e = read-as .answers ∙ ap (λ (m : Meaning). takenAs m theme cells .answer) e
 
   pub took-right : {way : Way} {notes tracks columns : ℕ} → r ≡ Right way notes tracks columns → Took input theme cells way notes tracks columns theme′ cells′
   took-right {way} {notes} {tracks} {columns} e = step (meaning input) refl read-as

@@ -1,5 +1,6 @@
--- What an input means: a request, or the number of its first faulty line (`meaning`). That a right input is the text of a
--- request within the limits, and no other one is, is a theorem of the crate `listing`. Assumes nothing.
+-- What an input means: a request, or the number of its first faulty line (`meaning`). `Lines` says the same line by line, and
+-- `meaning-fault` and `meaning-request` of `proofs/FirstFaults` that it is the same. That a right input is the text of a request
+-- within the limits, and no other one is, is a theorem of the crate `listing`. Assumes nothing.
 use mathlib.Core.Bool.{cond}
 use mathlib.Core.List.{List, [], _∷_}
 use Prim.Native.Nat.{ℕ, zero, suc, _+_}

@@ -3,6 +3,7 @@
 -- its pages are is said in `paging`, once for every search.
 pub mod Definition
 pub mod Pairs
+pub mod ReachedStarts
 pub mod Page
 pub mod WholeList
 pub mod Cases
