@@ -1,7 +1,9 @@
 // Whether a column holds a note moved by a code's shift.
 
+use score::Class;
 use score::HIGHEST_PITCH;
 use score::Pitch;
+use score::class_of;
 use ways::Way;
 ghost use mathlib.Core.Path.{_≡_};
 ghost use Prim.Native.Nat.{_%_, _≤_};
@@ -26,19 +28,19 @@ fn has_pitch(column: &[u8], p: Pitch) -> bool
     false
 }
 
-// Whether the cell is a pitch of this class, 0 to 11.
-fn is_class(cell: u8, class: u32) -> bool
-    ensures { λ r. ⌜ r ≡ (leb cell 127 && eqb (cell % 12) class) ⌝ }
+// Whether the cell is a pitch of this class.
+fn is_class(cell: u8, class: Class) -> bool
+    ensures { λ r. ⌜ r ≡ (leb cell 127 && eqb (cell % 12) (class .0)) ⌝ }
 {
     if HIGHEST_PITCH < cell {
         return false;
     }
-    (cell % 12) as u32 == class
+    class_of(Pitch(cell)).0 == class.0
 }
 
 // Whether the column has a pitch of this class.
-fn has_class(column: &[u8], class: u32) -> bool
-    ensures { λ r. ⌜ r ≡ some (λ t. eqb (t .0 % 12) class) (pitches (now (column .entry))) ⌝ }
+fn has_class(column: &[u8], class: Class) -> bool
+    ensures { λ r. ⌜ r ≡ some (λ t. eqb (t .0 % 12) (class .0)) (pitches (now (column .entry))) ⌝ }
 {
     let mut i: usize = 0;
     while i < column.len() {
@@ -66,6 +68,6 @@ pub fn holds_at(column: &[u8], way: Way, code: u16, p: Pitch) -> bool
             }
             has_pitch(column, Pitch((moved - 127) as u8))
         }
-        Way::Octave => has_class(column, moved % 12),
+        Way::Octave => has_class(column, Class((moved % 12) as u8)),
     }
 }

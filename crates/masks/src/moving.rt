@@ -1,16 +1,20 @@
 // A word moved by a note: in exact by its distance from the theme's first note, in octave round about by its class.
 
 use crate::word::Word;
+use score::Class;
+use score::Distance;
 use score::Pitch;
+use score::class_of;
 use ways::Way;
 ghost use mathlib.Core.Path.{_≡_};
 ghost use Prim.Native.Nat.{_*_, _/_, _%_, _^_, _<_};
 ghost use Rattle.masks.specs.Masks.{value, turnedWord, movedWord};
 
-// The word moved down by d places.
-fn down(w: Word, d: u8) -> Word
-    ensures { λ r. ⌜ value (r .low) (r .high) ≡ value (w .low) (w .high) / 2 ^ d ⌝ }
+// The word moved down by so many places as the distance says.
+fn down(w: Word, distance: Distance) -> Word
+    ensures { λ r. ⌜ value (r .low) (r .high) ≡ value (w .low) (w .high) / 2 ^ (distance .0) ⌝ }
 {
+    let d = distance.0;
     let low = w.low;
     let high = w.high;
     if 64 <= d {
@@ -28,10 +32,11 @@ fn down(w: Word, d: u8) -> Word
     }
 }
 
-// The word moved up by d places; what leaves the 128 bits is lost.
-fn up(w: Word, d: u8) -> Word
-    ensures { λ r. ⌜ value (r .low) (r .high) ≡ value (w .low) (w .high) * 2 ^ d % 2 ^ 128 ⌝ }
+// The word moved up in the same way; what leaves the 128 bits is lost.
+fn up(w: Word, distance: Distance) -> Word
+    ensures { λ r. ⌜ value (r .low) (r .high) ≡ value (w .low) (w .high) * 2 ^ (distance .0) % 2 ^ 128 ⌝ }
 {
+    let d = distance.0;
     let low = w.low;
     let high = w.high;
     if 64 <= d {
@@ -49,11 +54,12 @@ fn up(w: Word, d: u8) -> Word
     }
 }
 
-// Twelve bits turned down by d places, 0 to 11: what falls out below comes in above.
-fn turned(low: u64, d: u8) -> u64
-    requires { ⌜ d < 12 ⌝ }
-    ensures { λ r. ⌜ r ≡ turnedWord d low ⌝ }
+// Twelve bits, one for each class, turned down until the given one stands lowest: what falls out below comes in above.
+fn turned(low: u64, class: Class) -> u64
+    requires { ⌜ class .0 < 12 ⌝ }
+    ensures { λ r. ⌜ r ≡ turnedWord (class .0) low ⌝ }
 {
+    let d = class.0;
     ((low >> d) | (low << (12 - d))) & 4095
 }
 
@@ -65,12 +71,12 @@ pub fn moved(way: Way, w: Word, first: Pitch, p: Pitch) -> Word
     match way {
         Way::Exact => {
             if first.0 <= p.0 {
-                return down(w, p.0 - first.0);
+                return down(w, Distance(p.0 - first.0));
             }
-            up(w, first.0 - p.0)
+            up(w, Distance(first.0 - p.0))
         }
         Way::Octave => Word {
-            low: turned(w.low, p.0 % 12),
+            low: turned(w.low, class_of(p)),
             high: 0,
         },
     }

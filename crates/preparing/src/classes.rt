@@ -2,8 +2,9 @@
 
 use score::HIGHEST_PITCH;
 use score::Pitch;
+use score::class_of;
 ghost use mathlib.Core.Path.{_≡_};
-ghost use Prim.Native.Nat.{_+_, _*_, _%_, _≤_};
+ghost use Prim.Native.Nat.{_+_, _*_, _≤_};
 ghost use lib.ListN.{length};
 ghost use Rattle.score.specs.Score.{cut};
 ghost use Rattle.preparing.specs.Classes.{classSet, ClassBits, ClassSets};
@@ -38,7 +39,7 @@ fn class_bits() -> [u16; BYTES]
     let mut bits = [0u16; BYTES];
     let mut cell: u8 = 0;
     while cell <= HIGHEST_PITCH {
-        bits[cell as usize] = 1 << class_of(Pitch(cell));
+        bits[cell as usize] = 1 << class_of(Pitch(cell)).0;
         cell += 1;
     }
     bits
@@ -78,16 +79,9 @@ pub fn classes_of(column: &[u8]) -> u16
     while i < column.len() {
         let cell = column[i];
         if cell <= HIGHEST_PITCH {
-            mask = mask | (1 << class_of(Pitch(cell)));
+            mask = mask | (1 << class_of(Pitch(cell)).0);
         }
         i += 1;
     }
     mask
-}
-
-// The class of a pitch: which of the twelve tones it is.
-fn class_of(p: Pitch) -> u8
-    ensures { λ r. ⌜ r ≡ p .0 % 12 ⌝ }
-{
-    p.0 % 12
 }

@@ -1,7 +1,7 @@
 // A score, and what is turned away of it.
 //
-// `limits` names the numbers that a score is held to; `quantities` keeps pitch, interval and column number apart; `refusals` says what a refusal holds; `checks` says what is
-// refused and where.
+// `limits` names the numbers that a score is held to; `quantities` keeps pitch, interval, class, distance and column apart;
+// `refusals` says what a refusal holds; `checks` says what is refused and where.
 
 pub mod checks;
 pub mod limits;
@@ -18,9 +18,12 @@ pub use limits::MOST_COLUMNS;
 pub use limits::MOST_TRACKS;
 pub use limits::REST;
 pub use limits::TABLE_WORDS;
+pub use quantities::Class;
 pub use quantities::Column;
+pub use quantities::Distance;
 pub use quantities::Interval;
 pub use quantities::Pitch;
+pub use quantities::class_of;
 pub use quantities::interval_of;
 pub use refusals::Refusal;
 pub use refusals::Verdict;

@@ -11,6 +11,7 @@ use lib.Seq.{sets as stored}
 use Rattle.theory.specs.Lists.{over, count, count as numbers, first, lower}
 use Rattle.theory.specs.Pages.{pageHits, pageLooks, from}
 use Rattle.score.specs.declared.quantities.Pitch.{Pitch}
+use Rattle.score.specs.declared.quantities.Column.{Column}
 use Rattle.score.specs.Score.{pitch, columnAt, column, columnsIn, scoreOf}
 use Rattle.score.specs.Limits.{mostTracks, mostColumns, highestPitch}
 use Rattle.ways.specs.declared.way.Way.{Way}
@@ -68,8 +69,8 @@ abbrev pub goneOn : (j found : ℕ) → Spot
 goneOn j found = record { column = columnAt j; code = 0; found = found }
 
 -- the spot on column k where so many are found: the code of the spot before counts on its own column only
-abbrev pub atColumn : Spot → (k found : ℕ) → Spot
-atColumn spot k found = record { column = columnAt k; code = cond (eqb (spot .column .0) k) (spot .code) 0; found = found }
+abbrev pub atColumn : Spot → Column → (found : ℕ) → Spot
+atColumn spot k found = record { column = k; code = cond (eqb (spot .column .0) (k .0)) (spot .code) 0; found = found }
 
 -- the starts of the listed columns, one after another: on column j from code x on, on any other all
 abbrev pub listStarts : Way → (score : List (List ℕ)) (theme : List ℕ) (j x : ℕ) (list : List ℕ) → List Place

@@ -36,7 +36,6 @@ fn follow(cells: &[u8], h: usize, theme: &[u8], way: Way, column: Column, ring: 
     ensures { λ r. ⌜ Followed way (scoreOf (now (cells .entry)) h) (now (theme .entry)) (column .0) (value (r .word .low) (r .word .high)) (r .looks)
         × Cached way (now (cells .entry)) h (now (ring .exit)) ⌝ }
 {
-    let j = column.0 as usize;
     let first = Pitch(theme[0]);
     let spare = width_of(way);
     let all = all_starts(way);
@@ -51,7 +50,7 @@ fn follow(cells: &[u8], h: usize, theme: &[u8], way: Way, column: Column, ring: 
             return Alive { word: none, looks };
         }
         looks += u64::count_ones(low) + u64::count_ones(high);
-        let w = word_at(cells, h, way, j + k - 1, ring);
+        let w = word_at(cells, h, way, column, k, ring);
         let held = moved(way, w, first, Pitch(theme[k]));
         low = low & held.low;
         high = high & held.high;
@@ -81,19 +80,17 @@ pub fn try_all(
         (now (columns .entry)) (now (shifts .entry)) r (now (columns .exit)) (now (shifts .exit)) × Cached way (now (cells .entry)) h (now (ring .exit)) ⌝ }
 {
     if (spot.code == 0) & (h != 1) {
-        let column = spot.column;
-        let a = follow(cells, h, theme, way, column, ring);
-        let word = a.word;
-        let hits = u64::count_ones(word.low) + u64::count_ones(word.high);
+        let a = follow(cells, h, theme, way, spot.column, ring);
+        let hits = u64::count_ones(a.word.low) + u64::count_ones(a.word.high);
         if (hits as usize) < columns.len() - spot.found {
             return Walked {
                 found: put_hits(
                     columns,
                     shifts,
                     spot.found,
-                    word,
+                    a.word,
                     Pitch(theme[0]),
-                    column,
+                    spot.column,
                     way,
                 ),
                 looks: a.looks,

@@ -27,9 +27,7 @@ pub fn try_column(
     ensures { λ r. ⌜ TriesColumn way (now (cells .entry)) h (now (theme .entry)) spot
         (now (columns .entry)) (now (shifts .entry)) r (now (columns .exit)) (now (shifts .exit)) ⌝ }
 {
-    let column = spot.column;
-    let j = column.0 as usize;
-    let from = (j - 1) * h;
+    let from = (spot.column.0 as usize - 1) * h;
     let to = from + h;
     let p = Pitch(theme[0]);
     let end = span_of(way);
@@ -41,9 +39,9 @@ pub fn try_column(
         if end <= next {
             return Walked { found: at, looks };
         }
-        let t = try_start(cells, h, theme, way, column, next);
+        let t = try_start(cells, h, theme, way, spot.column, next);
         looks += t.looks;
-        at = keep(columns, shifts, at, t.hit, column, way, next);
+        at = keep(columns, shifts, at, t.hit, spot.column, way, next);
         code = next + 1;
     }
     Walked { found: at, looks }

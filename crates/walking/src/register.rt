@@ -2,8 +2,9 @@
 
 use filter::marks;
 use filter::step;
+use score::Column;
 ghost use mathlib.Core.Path.{_≡_};
-ghost use Prim.Native.Nat.{ℕ, _+_, _≤_, _<_};
+ghost use Prim.Native.Nat.{ℕ, _+_, _-_, _≤_, _<_};
 ghost use mathlib.Core.Bool.{cond};
 ghost use lib.ListN.{length, getD, set};
 ghost use Rattle.theory.specs.Register as Register;
@@ -11,17 +12,17 @@ ghost use Rattle.score.specs.Limits.{tableWords};
 ghost use Rattle.filter.specs.Limits.{wordBits};
 ghost use Rattle.walking.specs.Scan.{entryWord, Filters, Lent, Seeks, ListsCandidates};
 
-// The column behind the last one that was decided, whether that one is a candidate, and what the register is there.
+// How many columns are passed, whether the last of them is a candidate, and what the register is behind it.
 pub struct Sought {
     pub register: u32,
-    pub next: usize,
+    pub passed: usize,
     pub marked: bool,
 }
 
-// How many candidates were listed, the column behind the last one that was decided, and what the register is there.
+// How many columns are passed, how many candidates among them are listed, and what the register is behind them.
 pub struct Listed {
     pub register: u32,
-    pub next: usize,
+    pub passed: usize,
     pub count: usize,
 }
 
@@ -54,73 +55,85 @@ pub fn warmed(sets: &[u16], table: &[u32], from: usize, count: usize) -> u32
     register
 }
 
-// Writes the column at its place of the list where it is marked, and gives the next place; otherwise the place is given back.
-fn noted(list: &mut [u16], at: usize, column: u16, marked: bool) -> usize
-    requires { ⌜ at < length (now list) ⌝ }
-    ensures { λ r. ⌜ (r ≡ cond marked (at + 1) at) × (now (list .exit) ≡ cond marked (set (now (list .entry)) at column) (now (list .entry))) ⌝ }
+// Writes the last of the columns that are passed, from the first on, at its place of the list where it is marked, and gives
+// the next place; otherwise the place is given back.
+fn noted(list: &mut [u16], at: usize, first: Column, passed: usize, marked: bool) -> usize
+    requires { ⌜ (at < length (now list)) × (1 ≤ passed) × (first .0 + passed ≤ 65535) ⌝ }
+    ensures { λ r. ⌜ (r ≡ cond marked (at + 1) at) × (now (list .exit) ≡ cond marked (set (now (list .entry)) at (first .0 + passed - 1)) (now (list .entry))) ⌝ }
 {
     if !marked {
         return at;
     }
-    list[at] = column;
+    list[at] = first.0 + (passed - 1) as u16;
     at + 1
 }
 
-// Decides column after column, from the first on, up to a candidate, or to the end where there is none before it.
-fn seek(register: u32, sets: &[u16], table: &[u32], m: usize, first: usize, end: usize) -> Sought
-    requires { ⌜ Lent (now sets) (now table) m first end ⌝ }
-    requires { ⌜ Filters (now table) (now sets) m register first ⌝ }
-    ensures { λ r. ⌜ Seeks (now (table .entry)) (now (sets .entry)) m first end (r .register) (r .next) (r .marked) ⌝ }
+// Decides column after column of so many from the first on, behind those already passed: up to a candidate, or to the last
+// where there is none.
+fn seek(
+    register: u32,
+    sets: &[u16],
+    table: &[u32],
+    m: usize,
+    first: Column,
+    passed: usize,
+    many: usize,
+) -> Sought
+    requires { ⌜ Lent (now sets) (now table) m (first .0 + passed) (first .0 + many) ⌝ }
+    requires { ⌜ Filters (now table) (now sets) m register (first .0 + passed) ⌝ }
+    ensures { λ r. ⌜ Seeks (now (table .entry)) (now (sets .entry)) m (first .0 + passed) (first .0 + many) (r .register) (first .0 + r .passed) (r .marked) ⌝ }
 {
     let top = (m - 2) as u32;
+    let j = first.0 as usize;
     let mut word = register;
-    let mut j = first;
-    while j < end {
-        word = taken(word, sets, table, j + m - 3);
-        j += 1;
+    let mut i = passed;
+    while i < many {
+        word = taken(word, sets, table, j + i + m - 3);
+        i += 1;
         if marks(word, top) {
             return Sought {
                 register: word,
-                next: j,
+                passed: i,
                 marked: true,
             };
         }
     }
     Sought {
         register: word,
-        next: j,
+        passed: i,
         marked: false,
     }
 }
 
-// Lists, from the front, the candidates from the first column on, as many as are wanted or as there are before the end.
+// Lists, from the front, the candidates among so many columns from the first on, until as many are listed as are wanted.
 pub fn list_candidates(
     register: u32,
     sets: &[u16],
     table: &[u32],
     m: usize,
-    first: usize,
-    end: usize,
+    first: Column,
+    many: usize,
     wanted: usize,
     list: &mut [u16],
 ) -> Listed
-    requires { ⌜ Lent (now sets) (now table) m first end ⌝ }
-    requires { ⌜ Filters (now table) (now sets) m register first ⌝ }
+    requires { ⌜ Lent (now sets) (now table) m (first .0) (first .0 + many) ⌝ }
+    requires { ⌜ Filters (now table) (now sets) m register (first .0) ⌝ }
     requires { ⌜ (1 ≤ wanted) × (wanted ≤ length (now list)) ⌝ }
-    ensures { λ r. ⌜ ListsCandidates (now (table .entry)) (now (sets .entry)) m first end (now (list .entry)) (r .register) (r .next) (r .count) (now (list .exit)) ⌝ }
+    ensures { λ r. ⌜ ListsCandidates (now (table .entry)) (now (sets .entry)) m (first .0) (first .0 + many) (now (list .entry))
+        (r .register) (first .0 + r .passed) (r .count) (now (list .exit)) ⌝ }
 {
     let mut word = register;
-    let mut j = first;
+    let mut passed: usize = 0;
     let mut count: usize = 0;
-    while (j < end) & (count < wanted) {
-        let s = seek(word, sets, table, m, j, end);
+    while (passed < many) & (count < wanted) {
+        let s = seek(word, sets, table, m, first, passed, many);
         word = s.register;
-        j = s.next;
-        count = noted(list, count, (j - 1) as u16, s.marked);
+        passed = s.passed;
+        count = noted(list, count, first, passed, s.marked);
     }
     Listed {
         register: word,
-        next: j,
+        passed,
         count,
     }
 }

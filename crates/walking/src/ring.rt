@@ -3,9 +3,10 @@
 
 use masks::Word;
 use masks::word_of;
+use score::Column;
 use ways::Way;
 ghost use mathlib.Core.Path.{_≡_};
-ghost use Prim.Native.Nat.{_+_, _*_, _≤_, _<_};
+ghost use Prim.Native.Nat.{_+_, _-_, _*_, _≤_};
 ghost use lib.ListN.{length, take, drop};
 ghost use Rattle.score.specs.Limits.{mostColumns};
 ghost use Rattle.masks.specs.Masks.{value, columnWord};
@@ -20,12 +21,20 @@ const TAGS: usize = 64;
 // The ring's length.
 pub const RING: usize = 96;
 
-// The word of the column after k others: as the ring has it, or found now and kept there.
-pub fn word_at(cells: &[u8], h: usize, way: Way, k: usize, ring: &mut [u64]) -> Word
-    requires { ⌜ (k * h + h ≤ length (now cells)) × (k < mostColumns) ⌝ }
+// The word of the column so many further on than the given one: as the ring has it, or found now and kept there.
+pub fn word_at(
+    cells: &[u8],
+    h: usize,
+    way: Way,
+    column: Column,
+    further: usize,
+    ring: &mut [u64],
+) -> Word
+    requires { ⌜ (1 ≤ column .0) × ((column .0 + further - 1) * h + h ≤ length (now cells)) × (column .0 + further ≤ mostColumns) ⌝ }
     requires { ⌜ Cached way (now cells) h (now ring) ⌝ }
-    ensures { λ r. ⌜ (value (r .low) (r .high) ≡ columnWord way (take h (drop (k * h) (now (cells .entry))))) × Cached way (now (cells .entry)) h (now (ring .exit)) ⌝ }
+    ensures { λ r. ⌜ (value (r .low) (r .high) ≡ columnWord way (take h (drop ((column .0 + further - 1) * h) (now (cells .entry))))) × Cached way (now (cells .entry)) h (now (ring .exit)) ⌝ }
 {
+    let k = column.0 as usize + further - 1;
     let s = k % PLACES;
     let tag = k as u64 + 1;
     if ring[TAGS + s] == tag {

@@ -9,11 +9,12 @@ use crate::walked::Walked;
 use crate::walked::at_column;
 use crate::walked::begin;
 use crate::walked::go_on;
+use score::Column;
 use score::columns_in;
 use ways::Bookmark;
 use ways::Way;
 ghost use mathlib.Core.Path.{_≡_};
-ghost use Prim.Native.Nat.{_+_, _≤_};
+ghost use Prim.Native.Nat.{_+_, _-_, _≤_};
 ghost use lib.ListN.{length};
 ghost use Rattle.asking.specs.Asking.{PlainAsks, QuickAsks};
 ghost use Rattle.walking.specs.Alive.{Cached};
@@ -44,7 +45,7 @@ fn walk_along(
     let mut looks: u32 = 0;
     let mut i: usize = 0;
     while (i < list.len()) & (found < columns.len()) {
-        let next = at_column(spot, list[i], found);
+        let next = at_column(spot, Column(list[i]), found);
         i += 1;
         let t = try_all(cells, h, theme, way, next, columns, shifts, ring);
         found = t.found;
@@ -54,13 +55,14 @@ fn walk_along(
 }
 
 // Lists as many columns as are counted, from the first on.
-fn list_every(first: usize, many: usize, list: &mut [u16])
-    requires { ⌜ (first + many ≤ 65535) × (many ≤ length (now list)) ⌝ }
-    ensures { λ r. ⌜ ListsEvery first many (now (list .entry)) (now (list .exit)) ⌝ }
+fn list_every(first: Column, many: usize, list: &mut [u16])
+    requires { ⌜ (first .0 + many ≤ 65535) × (many ≤ length (now list)) ⌝ }
+    ensures { λ r. ⌜ ListsEvery (first .0) many (now (list .entry)) (now (list .exit)) ⌝ }
 {
+    let j = first.0 as usize;
     let mut i: usize = 0;
     while i < many {
-        list[i] = (first + i) as u16;
+        list[i] = (j + i) as u16;
         i += 1;
     }
 }
@@ -76,16 +78,17 @@ fn some_of(left: usize) -> usize
     LISTED
 }
 
-// The first column from which on the theme has no more room.
-fn end_of(cells: &[u8], h: usize, theme: &[u8]) -> usize
+// How many columns, from this one on, the theme has room in.
+fn columns_left(cells: &[u8], h: usize, theme: &[u8], column: Column) -> usize
     requires { ⌜ Ready (now cells) h (now theme) ⌝ }
-    ensures { λ r. ⌜ r ≡ endOf (now (cells .entry)) h (now (theme .entry)) ⌝ }
+    ensures { λ r. ⌜ r ≡ endOf (now (cells .entry)) h (now (theme .entry)) - column .0 ⌝ }
 {
     let past = columns_in(cells, h) + 2;
-    if past < theme.len() {
+    let before = theme.len() + column.0 as usize;
+    if past < before {
         return 0;
     }
-    past - theme.len()
+    past - before
 }
 
 // Walks along every column, until the page is full or no start is left.
@@ -102,16 +105,15 @@ pub fn walk_every(
     ensures { λ r. ⌜ WalksEvery way (now (cells .entry)) h (now (theme .entry)) bookmark
         (now (columns .entry)) (now (shifts .entry)) r (now (columns .exit)) (now (shifts .exit)) ⌝ }
 {
-    let end = end_of(cells, h, theme);
     let mut spot = begin(way, bookmark);
-    let mut j = spot.column.0 as usize;
+    let mut left = columns_left(cells, h, theme, spot.column);
     let mut looks: u32 = 0;
     let mut ring = [0u64; RING];
     let mut list = [0u16; LISTED];
-    while (j < end) & (spot.found < columns.len()) {
-        let many = some_of(end - j);
-        list_every(j, many, &mut list);
-        j += many;
+    while (0 < left) & (spot.found < columns.len()) {
+        let many = some_of(left);
+        list_every(spot.column, many, &mut list);
+        left -= many;
         let t = walk_along(
             cells,
             h,
@@ -124,7 +126,7 @@ pub fn walk_every(
             &mut ring,
         );
         looks += t.looks;
-        spot = go_on(j, t.found);
+        spot = go_on(spot.column, many, t.found);
     }
     Walked {
         found: spot.found,
@@ -149,26 +151,34 @@ pub fn walk_candidates(
     ensures { λ r. ⌜ WalksCandidates way (now (cells .entry)) h (now (theme .entry)) bookmark (now (sets .entry)) (now (table .entry))
         (now (columns .entry)) (now (shifts .entry)) r (now (columns .exit)) (now (shifts .exit)) ⌝ }
 {
-    let end = end_of(cells, h, theme);
     let m = theme.len();
     let mut spot = begin(way, bookmark);
-    let mut j = spot.column.0 as usize;
+    let mut left = columns_left(cells, h, theme, spot.column);
     let mut looks: u32 = 0;
     // what follows is made ready only where a column is left
-    if end <= j {
+    if left == 0 {
         return Walked {
             found: spot.found,
             looks,
         };
     }
-    let mut register = warmed(sets, table, j - 1, m - 2);
+    let mut register = warmed(sets, table, spot.column.0 as usize - 1, m - 2);
     let mut ring = [0u64; RING];
     let mut list = [0u16; LISTED];
-    while (j < end) & (spot.found < columns.len()) {
+    while (0 < left) & (spot.found < columns.len()) {
         let wanted = some_of(columns.len() - spot.found);
-        let l = list_candidates(register, sets, table, m, j, end, wanted, &mut list);
+        let l = list_candidates(
+            register,
+            sets,
+            table,
+            m,
+            spot.column,
+            left,
+            wanted,
+            &mut list,
+        );
         register = l.register;
-        j = l.next;
+        left -= l.passed;
         let count = l.count;
         let t = walk_along(
             cells,
@@ -182,7 +192,7 @@ pub fn walk_candidates(
             &mut ring,
         );
         looks += t.looks;
-        spot = go_on(j, t.found);
+        spot = go_on(spot.column, l.passed, t.found);
     }
     Walked {
         found: spot.found,

@@ -5,7 +5,7 @@ use ways::Bookmark;
 use ways::Way;
 use ways::code_of;
 ghost use mathlib.Core.Path.{_≡_};
-ghost use Prim.Native.Nat.{_≤_};
+ghost use Prim.Native.Nat.{_+_, _≤_};
 ghost use Rattle.walking.specs.Walk.{begun, goneOn, atColumn};
 
 // The starts of this column from this code on are to be tried, and so many pairs are found: as many places of the buffers are taken.
@@ -34,28 +34,28 @@ pub fn begin(way: Way, bookmark: Bookmark) -> Spot
     }
 }
 
-// The spot at the first code of a column.
-pub fn go_on(column: usize, found: usize) -> Spot
-    requires { ⌜ column ≤ 65535 ⌝ }
-    ensures { λ r. ⌜ r ≡ goneOn column found ⌝ }
+// The spot at the first code of the column so many further on than the given one.
+pub fn go_on(column: Column, further: usize, found: usize) -> Spot
+    requires { ⌜ column .0 + further ≤ 65535 ⌝ }
+    ensures { λ r. ⌜ r ≡ goneOn (column .0 + further) found ⌝ }
 {
     Spot {
-        column: Column(column as u16),
+        column: Column(column.0 + further as u16),
         code: 0,
         found,
     }
 }
 
 // A spot on a column where so many are found. The code of the spot before counts on its own column only.
-pub fn at_column(spot: Spot, column: u16, found: usize) -> Spot
+pub fn at_column(spot: Spot, column: Column, found: usize) -> Spot
     ensures { λ r. ⌜ r ≡ atColumn spot column found ⌝ }
 {
     let mut code = 0;
-    if spot.column.0 == column {
+    if spot.column.0 == column.0 {
         code = spot.code;
     }
     Spot {
-        column: Column(column),
+        column,
         code,
         found,
     }

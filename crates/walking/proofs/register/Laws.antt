@@ -109,16 +109,16 @@ module _ {table sets : List ℕ} {m j end : ℕ} (lent : Lent sets table m j end
   module _ (here : k < end) {register′ : ℕ} (e : register′ ≡ step wordBits register (entryWord table sets (k + m - 3)))
       {marked : Bool} (d : marked ≡ eqb (bit register′ ((m - 2) % wordBits)) 0) where
     -- column k is a candidate, or none
-    pub seek-found : marked ≡ true → Seeks table sets m j end register′ (k + 1) true
-    seek-found b =
+    pub seek-found : marked ≡ true → {k′ : ℕ} → k′ ≡ k + 1 → Seeks table sets m j end register′ k′ true
+    seek-found b n =
         let z : k + 1 - 1 ≡ k = omega arith in
         record {
-          decides = rw z (rw b at (decide-append t (decide-one lent (t .goes-on) here e d)));
-          more = omega (arith, t .on);
+          decides = rw (n, z) (rw b at (decide-append t (decide-one lent (t .goes-on) here e d)));
+          more = omega (arith, t .on, n);
         }
 
-    pub seek-on : marked ≡ false → Decides table sets m j end register′ (k + 1) []
-    seek-on b = rw b at (decide-append t (decide-one lent (t .goes-on) here e d))
+    pub seek-on : marked ≡ false → {k′ : ℕ} → k′ ≡ k + 1 → Decides table sets m j end register′ k′ []
+    seek-on b n = rw n (rw b at (decide-append t (decide-one lent (t .goes-on) here e d)))
 
 -- ---- candidates are listed: those from column j up to column k
 
@@ -129,8 +129,8 @@ pub record Listing (table sets : List ℕ) (m j end : ℕ) (list₀ list : List 
   pub listed : list ≡ over list₀ candidates
 
 module _ {table sets : List ℕ} {m j end : ℕ} {list₀ : List ℕ} where
-  pub list-start : {register : ℕ} → j ≤ end → Filters table sets m register j → Listing table sets m j end list₀ list₀ register j 0
-  list-start q f = record { candidates = []; decides = decide-start q f; counted = refl; listed = refl }
+  pub list-start : {register k : ℕ} → k ≡ j → j ≤ end → Filters table sets m register j → Listing table sets m j end list₀ list₀ register k 0
+  list-start e q f = rw e record { candidates = []; decides = decide-start q f; counted = refl; listed = refl }
 
   module _ {list : List ℕ} {register k at : ℕ} (t : Listing table sets m j end list₀ list register k at) where
     -- no more are listed than were decided
@@ -160,18 +160,18 @@ module _ {table sets : List ℕ} {m j end : ℕ} {list₀ : List ℕ} where
             record { candidates = t .candidates; decides = rw append-nil at d; counted = a ∙ t .counted; listed = l ∙ t .listed }
 
     -- the end is reached, or as many are listed as are wanted
-    pub list-end : {wanted : ℕ} → j < end → 1 ≤ wanted → (ltb k end && ltb at wanted) ≡ false → at ≤ length list₀
-        → ListsCandidates table sets m j end list₀ register k at list
-    list-end {wanted} some one stop few =
+    pub list-end : {wanted : ℕ} → j < end → 1 ≤ wanted → (more : Bool) → (more ≡ false → end ≤ k) → (more && ltb at wanted) ≡ false
+        → at ≤ length list₀ → ListsCandidates table sets m j end list₀ register k at list
+    list-end {wanted} some one more none stop few =
         record {
           candidates = t .candidates;
           decides = t .decides;
-          more = step (ltb k end) refl stop;
+          more = step more refl stop;
           counted = t .counted;
           few = few;
           listed = t .listed;
         }
       where
-        step : (b : Bool) → ltb k end ≡ b → (b && ltb at wanted) ≡ false → j < k
+        step : (b : Bool) → more ≡ b → (b && ltb at wanted) ≡ false → j < k
         step true e q = omega (arith, list-at, ltb-false at wanted q)
-        step false e q = omega (arith, ltb-false k end e)
+        step false e q = omega (arith, none e)

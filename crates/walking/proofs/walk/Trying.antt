@@ -11,6 +11,7 @@ use lib.ListN.{length, getD, drop}
 use lib.Seq.{drop-cons, drop-nil}
 use borrow.Author.Tests.{ltb-false}
 use Rattle.theory.specs.Pages.{pageLooks}
+use Rattle.score.specs.Score.{columnAt}
 use Rattle.ways.specs.declared.way.Way.{Way}
 use Rattle.ways.specs.Way.{span}
 use Rattle.walking.specs.declared.walked.Spot.{Spot}
@@ -46,7 +47,7 @@ module _ (way : Way) (score : List (List ℕ)) (theme : List ℕ) (spot : Spot) 
     t = r .taking
 
     -- what trying the column asks for
-    pub along-stands : (n m : ℕ) → Fits n m (getD list i 0) → spot .code ≤ span way → (next : Spot) → next ≡ atColumn spot (getD list i 0) at
+    pub along-stands : (n m : ℕ) → Fits n m (getD list i 0) → spot .code ≤ span way → (next : Spot) → next ≡ atColumn spot (columnAt (getD list i 0)) at
         → Stands way n m next columns shifts
     along-stands n m fits low next e =
         rw e
@@ -68,7 +69,7 @@ module _ (way : Way) (score : List (List ℕ)) (theme : List ℕ) (spot : Spot) 
         take-over _ _ _ _ _ _ _ _ _ _ _ _ t (ltb i (length list))
         (λ e. ap (listStarts way score theme (spot .column .0) (spot .code)) (drop-none i list (ltb-false i (length list) e)))
 
-    module _ (q : i < length list) (next : Spot) (e : next ≡ atColumn spot (getD list i 0) at) where
+    module _ (q : i < length list) (next : Spot) (e : next ≡ atColumn spot (columnAt (getD list i 0)) at) where
       -- the column's starts and those of the columns behind it
       parts : left i ≡ columnStarts way score theme (next .column .0) (next .code) ++ left (i + 1)
       parts = let z : suc i ≡ i + 1 = omega arith in rw (e, ← z) (ap (listStarts way score theme (spot .column .0) (spot .code)) (drop-cons list i 0 q))

@@ -107,13 +107,13 @@ module _ {keep : ℕ → Bool} {way : Way} {cells : List ℕ} {h : ℕ} {theme :
   module _ {columns : List ℕ} {shifts : List ℤ} {spot : Spot} {spent : ℕ} where
     -- no column is left, or no room
     pub walk-over : Walking keep way cells h theme whole columns₀ shifts₀ columns shifts spot spent
-        → {j end : ℕ} → j ≡ spot .column .0 → end ≡ endOf cells h theme → (ltb j end && ltb (spot .found) (length columns)) ≡ false
+        → {left : ℕ} → left ≡ endOf cells h theme - spot .column .0 → (ltb 0 left && ltb (spot .found) (length columns)) ≡ false
         → Walks way (scoreOf cells h) theme whole columns₀ shifts₀ (spot .found) spent columns shifts
-    walk-over t {j} {end} e f stop =
+    walk-over t {left} e stop =
         tries-walks _ _ _ _ _ _ _ _ _ _ (t .same-room)
-        (take-over _ _ _ _ _ _ _ _ _ _ _ _ (t .taking) (ltb j end)
+        (take-over _ _ _ _ _ _ _ _ _ _ _ _ (t .taking) (ltb 0 left)
         (λ q. kept-end way (scoreOf cells h) theme keep (spot .column .0) (spot .code) (t .first) (omega (arith, t .ready .notes))
-        (omega (arith, ltb-false j end q, e, f, score-length cells h, t .ready .notes)))
+        (omega (arith, ltb-false 0 left q, e, score-length cells h, t .ready .notes)))
         stop)
 
     -- the listed columns are tried
@@ -222,14 +222,14 @@ module _ {j many : ℕ} {list₀ list : List ℕ} (l : ListsEvery j many list₀
   pub every-turn : {way : Way} {cells : List ℕ} {h : ℕ} {theme : List ℕ} {whole : List Place} {columns₀ : List ℕ} {shifts₀ : List ℤ}
       {columns : List ℕ} {shifts : List ℤ} {spot : Spot} {spent : ℕ}
       → Walking (λ k. true) way cells h theme whole columns₀ shifts₀ columns shifts spot spent → j ≡ spot .column .0 → 1 ≤ many
-      → j + many ≤ endOf cells h theme
+      → many ≤ endOf cells h theme - j
       → Turn (λ k. true) way cells h theme whole columns₀ shifts₀ columns shifts spot spent (j + many) (take (many - 0) (drop 0 list))
   every-turn t e some q =
       let z : j + many - j ≡ many = omega arith in
       record {
         walking = t;
         more = omega (arith, e);
-        to-end = q;
+        to-end = omega (arith, q, some);
         listed = rw (← e, z) (listed-front list₀ (count j many) list many (l .listed) (sym (count-length j many)) ∙ sym (hits-all (count j many)));
       }
 
@@ -241,7 +241,7 @@ module _ {table sets : List ℕ} {m j end : ℕ} {list₀ : List ℕ} {register 
   pub candidates-turn : {way : Way} {cells : List ℕ} {h : ℕ} {theme : List ℕ} {whole : List Place} {columns₀ : List ℕ} {shifts₀ : List ℤ}
       {columns : List ℕ} {shifts : List ℤ} {spot : Spot} {spent : ℕ}
       → Walking (candidate wordBits table sets m) way cells h theme whole columns₀ shifts₀ columns shifts spot spent → j ≡ spot .column .0
-      → end ≡ endOf cells h theme
+      → end ≤ endOf cells h theme
       → Turn (candidate wordBits table sets m) way cells h theme whole columns₀ shifts₀ columns shifts spot spent j′ (take (k - 0) (drop 0 list))
   candidates-turn t e f =
       record {

@@ -10,7 +10,7 @@ use Rattle.holding.proofs.held.has_class.Statement.{statement}
 use Rattle.holding.proofs.held.has_class.Tie as tie
 
 abbrev Inv-loop : tie.InvT-loop
-Inv-loop column class i₀ i = Seeking (λ t. eqb (t .0 % 12) class) column i
+Inv-loop column class i₀ i = Seeking (λ t. eqb (t .0 % 12) (class .0)) column i
 
 abbrev μ-loop : tie.MeasureT-loop
 μ-loop column class i₀ i = length column - i
@@ -29,7 +29,7 @@ returns c =
     let in-loop = c .before .before .before in
     let at-loop = in-loop .before in
     let a = at-loop .before .before .args in
-    let t = class-true (getD (a .column .now) (at-loop .loop .i) 0) (a .class) (sym (c .before .is-class .ensures) ∙ c .if1 .taken) in
+    let t = class-true (getD (a .column .now) (at-loop .loop .i) 0) (a .class .0) (sym (c .before .is-class .ensures) ∙ c .if1 .taken) in
     seek-found _ _ _ (in-loop .loop-test .taken) (at-loop .loop .inv) (t .0) (t .1)
 
 add-i : tie.Need-add-i Inv-loop μ-loop

@@ -29,6 +29,9 @@ has-pitch-requires c κs = search needs
 enum-told-2 : tie.Need-enum-told-2
 enum-told-2 c = search needs
 
+cast-t14 : tie.Need-cast-t14
+cast-t14 c = search needs
+
 has-class-requires : tie.Need-has-class-requires
 has-class-requires c κs = search needs
 
@@ -50,6 +53,7 @@ holds-at-spec =
     cast-t11
     has-pitch-requires
     enum-told-2
+    cast-t14
     has-class-requires
     returns-3
     returns-4)

@@ -7,11 +7,11 @@ use Rattle.holding.proofs.held.is_class.Tie as tie
 returns : tie.Need-returns
 returns c = rw (lt-leb _ _ (c .if1 .taken))
 
-cast-result : tie.Need-cast-result
-cast-result c = search needs
+class-of-requires : tie.Need-class-of-requires
+class-of-requires c κs = search needs
 
 returns-2 : tie.Need-returns-2
-returns-2 c = rw (le-leb _ _ (c .if1 .left))
+returns-2 c = let k = c .before .before in rw (le-leb _ _ (k .before .if1 .left), k .class-of .ensures)
 
 pub is-class-spec : {M : Type 1} → statement M
-is-class-spec = tie.close (tie.spec returns cast-result returns-2)
+is-class-spec = tie.close (tie.spec returns class-of-requires returns-2)

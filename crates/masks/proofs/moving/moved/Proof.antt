@@ -22,14 +22,17 @@ returns c =
     (c .down .ensures
     ∙ shifted-down _ _ _ (c .before .before .before .if1 .taken) (value-lt (s .w .low) (s .w .high) (record { lower = omega arith; upper = omega arith })))
 
-sub-up : tie.Need-sub-up
-sub-up c = search needs
+sub-t9 : tie.Need-sub-t9
+sub-t9 c = search needs
 
 up-requires : tie.Need-up-requires
 up-requires c κs = search needs
 
 enum-told-2 : tie.Need-enum-told-2
 enum-told-2 c = search needs
+
+class-of-requires : tie.Need-class-of-requires
+class-of-requires c κs = search needs
 
 turned-requires : tie.Need-turned-requires
 turned-requires c κs = search needs
@@ -41,8 +44,9 @@ returns-2 c =
 returns-3 : tie.Need-returns-3
 returns-3 c =
     let s = c .before .before .before .before .args in
+    let turns = rw (c .before .class-of .ensures) at (c .turned .ensures) in
     rw (c .before .before .enum-told2 .given .1)
-    (value-few _ ∙ c .turned .ensures ∙ turned-low _ (s .w .low) (s .w .high) (mod-lt _ (zero-lt-suc 11)) (record { lower = omega arith; upper = omega arith }))
+    (value-few _ ∙ turns ∙ turned-low _ (s .w .low) (s .w .high) (mod-lt _ (zero-lt-suc 11)) (record { lower = omega arith; upper = omega arith }))
 
 pub moved-spec : {M : Type 1} → statement M
 moved-spec =
@@ -51,9 +55,10 @@ moved-spec =
     enum-told
     down-requires
     returns
-    sub-up
+    sub-t9
     up-requires
     enum-told-2
+    class-of-requires
     turned-requires
     returns-2
     returns-3)

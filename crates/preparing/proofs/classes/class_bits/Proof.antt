@@ -20,10 +20,10 @@ class-of-requires : tie.Need-class-of-requires Inv-loop μ-loop
 class-of-requires c κs = search needs
 
 cast-bits : tie.Need-cast-bits Inv-loop μ-loop
-cast-bits c = omega (arith, c .class-of .ensures)
+cast-bits c = omega (arith, c .before .class-of .ensures)
 
 shl-bits : tie.Need-shl-bits Inv-loop μ-loop
-shl-bits c = omega (arith, c .class-of .ensures)
+shl-bits c = omega (arith, c .before .class-of .ensures)
 
 cast-bits-2 : tie.Need-cast-bits-2 Inv-loop μ-loop
 cast-bits-2 c = search needs
@@ -41,7 +41,7 @@ loop-less : tie.Need-loop-less Inv-loop μ-loop
 loop-less c = search needs
 
 loop-again : tie.Need-loop-again Inv-loop μ-loop
-loop-again c = rw (c .class-of .ensures) (tabled-more (c .before .before .loop .inv) (search needs))
+loop-again c = rw (c .before .class-of .ensures) (tabled-more (c .before .before .before .loop .inv) (search needs))
 
 returns : tie.Need-returns Inv-loop μ-loop
 returns c = tabled-end (c .before .loop .inv) (search needs)

@@ -25,10 +25,10 @@ class-of-requires : tie.Need-class-of-requires Inv-loop μ-loop
 class-of-requires c κs = search needs
 
 cast-mask : tie.Need-cast-mask Inv-loop μ-loop
-cast-mask c = omega (arith, c .class-of .ensures)
+cast-mask c = omega (arith, c .before .class-of .ensures)
 
 shl-mask : tie.Need-shl-mask Inv-loop μ-loop
-shl-mask c = omega (arith, c .class-of .ensures)
+shl-mask c = omega (arith, c .before .class-of .ensures)
 
 add-i : tie.Need-add-i Inv-loop μ-loop
 add-i c = search needs
@@ -40,7 +40,7 @@ loop-again : tie.Need-loop-again Inv-loop μ-loop
 loop-again c =
     let g = c .before .before .before .loop .inv in
     ⊎-elim
-    (λ w. rw (w .2, w .1 .ensures) (gathered-shl _ g (search needs) (w .0 .taken)))
+    (λ w. rw (w .3, w .1 .ensures) (gathered-shl _ g (search needs) (w .0 .taken)))
     (λ w. rw (w .1) (gathered-rest _ g (search needs) (w .0 .left)))
     (c .if1 .came)
 

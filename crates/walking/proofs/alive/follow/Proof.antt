@@ -2,9 +2,10 @@
 -- The measure is the notes left. Assumes nothing.
 use borrow.Author.Needs.{needs}
 use mathlib.Core.Path.{sym, _∙_}
-use Prim.Native.Nat.{_+_, _-_, _<_}
+use mathlib.Core.List.{List}
+use Prim.Native.Nat.{ℕ, _+_, _-_, _*_, _<_}
 use native.Mathlib.Omega.{arith}
-use lib.ListN.{length}
+use lib.ListN.{length, take, drop}
 use denote.Ref.{now}
 use Rattle.score.specs.Score.{columnsIn}
 use Rattle.masks.specs.Masks.{value}
@@ -17,21 +18,22 @@ use Rattle.walking.proofs.alive.follow.Statement.{statement}
 use Rattle.walking.proofs.alive.follow.Tie as tie
 
 abbrev Inv-loop : tie.InvT-loop
-Inv-loop cells h theme way ring₀ j first spare low₀ high₀ looks₀ k₀ ring low high looks k =
-    Following way cells h theme j (value low high) looks k × Halves low high × Cached way cells h ring
+Inv-loop cells h theme way column ring₀ first spare low₀ high₀ looks₀ k₀ ring low high looks k =
+    Following way cells h theme (column .0) (value low high) looks k × Halves low high × Cached way cells h ring
 
 abbrev μ-loop : tie.MeasureT-loop
-μ-loop cells h theme way ring₀ j first spare low₀ high₀ looks₀ k₀ ring low high looks k = length theme - k
+μ-loop cells h theme way column ring₀ first spare low₀ high₀ looks₀ k₀ ring low high looks k = length theme - k
 
 -- where the call began, from its loop
 abbrev start : tie.At-loop Inv-loop μ-loop → tie.Start Inv-loop μ-loop
-start l = l .before .before .before .before .before .before .before .before
+start l = l .before .before .before .before .before .before .before
 
-cast-j : tie.Need-cast-j Inv-loop μ-loop
-cast-j c = search needs
+-- the cells of the column in which the note is sought
+abbrev cells-of : tie.At-loop Inv-loop μ-loop → List ℕ
+cells-of l = let a = start l .args in take (a .h) (drop ((a .column .0 + l .loop .k - 1) * a .h) (now (a .cells)))
 
-shared-slice-read-t20 : tie.Need-shared-slice-read-t20 Inv-loop μ-loop
-shared-slice-read-t20 c = search needs
+shared-slice-read-t19 : tie.Need-shared-slice-read-t19 Inv-loop μ-loop
+shared-slice-read-t19 c = search needs
 
 width-of-requires : tie.Need-width-of-requires Inv-loop μ-loop
 width-of-requires c κs = search needs
@@ -41,7 +43,7 @@ all-starts-requires c κs = search needs
 
 loop-holds : tie.Need-loop-holds Inv-loop μ-loop
 loop-holds c =
-    let s = c .before .before .before .before .before .before .before in
+    let s = c .before .before .before .before .before .before in
     let a = c .all-starts .result in
     let h : Halves (a .low) (a .high) = record { lower = omega arith; upper = omega arith } in
     (rw (c .all-starts .ensures) (follow-first _ _ _ _ _ (s .pre .0) (s .pre .1 .0)), h, s .pre .1 .1)
@@ -72,12 +74,6 @@ add-looks-2 c =
     let i = l .loop .inv in
     omega (arith, value-ones-le _ _ (i .1), i .0 .bounded, i .0 .upTo, start l .pre .0 .notes-most)
 
-add-word-at : tie.Need-add-word-at Inv-loop μ-loop
-add-word-at c = search needs
-
-sub-word-at : tie.Need-sub-word-at Inv-loop μ-loop
-sub-word-at c = omega (arith, start (c .before .before) .pre .1 .0 .from-first)
-
 word-at-requires : tie.Need-word-at-requires Inv-loop μ-loop
 word-at-requires c κs =
     let t = c .before .before in
@@ -85,10 +81,10 @@ word-at-requires c κs =
     let s = start l in
     let f = s .pre .1 .0 in
     let q : s .args .column .0 + l .loop .k - 1 < columnsIn (now (s .args .cells)) (s .args .h) = omega (arith, f .from-first, f .to-last, t .loop-test .taken) in
-    ((cells-within _ _ _ (s .pre .0) _ q, omega (arith, q, s .pre .0 .columns-most)), l .loop .inv .2)
+    ((f .from-first, cells-within _ _ _ (s .pre .0) _ q, omega (arith, q, s .pre .0 .columns-most)), l .loop .inv .2)
 
-shared-slice-read-t31 : tie.Need-shared-slice-read-t31 Inv-loop μ-loop
-shared-slice-read-t31 c = search needs
+shared-slice-read-t29 : tie.Need-shared-slice-read-t29 Inv-loop μ-loop
+shared-slice-read-t29 c = search needs
 
 moved-requires : tie.Need-moved-requires Inv-loop μ-loop
 moved-requires c κs = tt
@@ -108,7 +104,7 @@ loop-again c =
     let s = start (t .before) in
     let h : Halves (m .moved .result .low) (m .moved .result .high) = record { lower = omega arith; upper = omega arith } in
     let e = w .word-at .ensures in
-    let held = moved-word _ _ _ _ (e .0) (m .moved .ensures) (s .pre .0 .sung 0) in
+    let held = moved-word _ _ _ (cells-of (t .before)) (e .0) (m .moved .ensures) (s .pre .0 .sung 0) in
     (follow-halves _ _ _ _ _ (s .pre .0) (s .pre .1 .0) _ _ _ _ (l .1) (l .0) (t .loop-test .taken) _ _ h held, halves-and _ _ _ _ (l .1) h, e .1)
 
 sub-looks-2 : tie.Need-sub-looks-2 Inv-loop μ-loop
@@ -133,8 +129,7 @@ follow-spec =
     (tie.spec
     Inv-loop
     μ-loop
-    cast-j
-    shared-slice-read-t20
+    shared-slice-read-t19
     width-of-requires
     all-starts-requires
     loop-holds
@@ -143,10 +138,8 @@ follow-spec =
     returns
     add-looks
     add-looks-2
-    add-word-at
-    sub-word-at
     word-at-requires
-    shared-slice-read-t31
+    shared-slice-read-t29
     moved-requires
     add-k
     loop-less

@@ -14,34 +14,34 @@ use Rattle.walking.proofs.alive.try_all.Tie as tie
 
 -- what is known at entry, from where all starts were followed
 abbrev start : tie.After-follow → tie.Start
-start c = c .before .before .before .before .before .before .before .before .before
+start c = c .before .before .before .before .before .before .before .before
 
 -- the words in the ring are right where none was followed, and where some were
 cached : (c : tie.Joined1) → let s = c .before .before .before .before .before .before in Cached (s .args .way) (s .args .cells .now) (s .args .h)
     (c .if1 .ring)
 cached c =
     let s = c .before .before .before .before .before .before in
-    ⊎-elim (λ w. subst (Cached (s .args .way) (s .args .cells .now) (s .args .h)) (sym (w .11)) (w .3 .ensures .1))
+    ⊎-elim (λ w. subst (Cached (s .args .way) (s .args .cells .now) (s .args .h)) (sym (w .9)) (w .2 .ensures .1))
     (λ w. subst (Cached (s .args .way) (s .args .cells .now) (s .args .h)) (sym (w .1)) (s .pre .1 .1)) (c .if1 .came)
 
+-- the word of the hits, as its two halves
+halves : (c : tie.After-struct-known3) → let w = c .before .before .before .before .follow .result .word in Halves (w .low) (w .high)
+halves c = record { lower = omega arith; upper = omega arith }
+
 follow-requires : tie.Need-follow-requires
-follow-requires c κs = let s = c .before .before .before .before .before .before .before .before in (s .pre .0, (s .pre .1 .0 .fits, s .pre .1 .1))
+follow-requires c κs = let s = c .before .before .before .before .before .before .before in (s .pre .0, (s .pre .1 .0 .fits, s .pre .1 .1))
 
 add-hits : tie.Need-add-hits
-add-hits c =
-    let w = c .before .before .before .before .before .follow .result .word in
-    omega (arith, value-ones-le (w .low) (w .high) (record { lower = omega arith; upper = omega arith }))
+add-hits c = omega (arith, value-ones-le _ _ (halves c))
 
 cast-if2 : tie.Need-cast-if2
-cast-if2 c =
-    let w = c .before .before .before .before .before .follow .result .word in
-    omega (arith, value-ones-le (w .low) (w .high) (record { lower = omega arith; upper = omega arith }))
+cast-if2 c = omega (arith, value-ones-le _ _ (halves c))
 
 sub-if2 : tie.Need-sub-if2
 sub-if2 c = search needs
 
-shared-slice-read-t30 : tie.Need-shared-slice-read-t30
-shared-slice-read-t30 c = search needs
+shared-slice-read-t28 : tie.Need-shared-slice-read-t28
+shared-slice-read-t28 c = search needs
 
 put-hits-requires : tie.Need-put-hits-requires
 put-hits-requires c κs = tt
@@ -58,12 +58,10 @@ same-length-3 c = search needs
 returns : tie.Need-returns
 returns c =
     let e = c .before .before .before .before .before .before .before in
-    let f = e .before .before .before .before .before .before .before in
+    let f = e .before .before .before .before .before .before in
     let s = start f in
-    let w = f .follow .result .word in
-    let z : s .args .spot .code ≡ 0 = eqb-true _ _ (both-left _ _ (f .before .before .before .if1 .taken)) in
-    let h : Halves (w .low) (w .high) = record { lower = omega arith; upper = omega arith } in
-    let room = rw (value-ones _ _ h) at (e .if2 .taken) in
+    let z : s .args .spot .code ≡ 0 = eqb-true _ _ (both-left _ _ (f .before .before .if1 .taken)) in
+    let room = rw (value-ones _ _ (halves (e .before .before))) at (e .if2 .taken) in
     let put = c .before .before .before .put-hits .ensures in (
       rw z (at-once _ _ _ _ _ _ (f .follow .ensures .0) (s .pre .0 .sung 0) _ _ _ (s .pre .1 .0 .same-room) (s .pre .1 .0 .room) room
           _ _ _ put),
@@ -95,7 +93,7 @@ try-all-spec =
     add-hits
     cast-if2
     sub-if2
-    shared-slice-read-t30
+    shared-slice-read-t28
     put-hits-requires
     same-length
     same-length-2

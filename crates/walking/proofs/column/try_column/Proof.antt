@@ -12,42 +12,42 @@ use Rattle.walking.proofs.column.try_column.Statement.{statement}
 use Rattle.walking.proofs.column.try_column.Tie as tie
 
 abbrev Inv-loop : tie.InvT-loop
-Inv-loop cells h theme way columns₀ shifts₀ column j from to p end code₀ at₀ looks₀ columns shifts code at looks =
-    Filling way cells h theme (column .0) code₀ at₀ columns₀ shifts₀ columns shifts code at looks
+Inv-loop cells h theme way spot columns₀ shifts₀ from to p end code₀ at₀ looks₀ columns shifts code at looks =
+    Filling way cells h theme (spot .column .0) code₀ at₀ columns₀ shifts₀ columns shifts code at looks
 
 abbrev μ-loop : tie.MeasureT-loop
-μ-loop cells h theme way columns₀ shifts₀ column j from to p end code₀ at₀ looks₀ columns shifts code at looks = span way - code
+μ-loop cells h theme way spot columns₀ shifts₀ from to p end code₀ at₀ looks₀ columns shifts code at looks = span way - code
 
 -- what is known at entry, from the loop; and the loop and the test of the next code, from a turn's end
 abbrev start : tie.At-loop Inv-loop μ-loop → tie.Start Inv-loop μ-loop
-start c = c .before .before .before .before .before .before .before .before
+start c = c .before .before .before .before .before .before .before
 
 abbrev turn : tie.After-shifts Inv-loop μ-loop → tie.Else1 Inv-loop μ-loop
 turn c = c .before .before .before .before .before .before .before .before
 
-cast-j : tie.Need-cast-j Inv-loop μ-loop
-cast-j c = search needs
+cast-from : tie.Need-cast-from Inv-loop μ-loop
+cast-from c = search needs
 
 sub-from : tie.Need-sub-from Inv-loop μ-loop
 sub-from c = search needs
 
 mul-from : tie.Need-mul-from Inv-loop μ-loop
-mul-from c = let s = c .before .before .before .before .before in omega (arith, cells-within _ _ _ (s .pre .0) (s .args .spot .column .0 - 1) (omega arith))
+mul-from c = let s = c .before .before .before .before in omega (arith, cells-within _ _ _ (s .pre .0) (s .args .spot .column .0 - 1) (omega arith))
 
 add-to : tie.Need-add-to Inv-loop μ-loop
 add-to c =
-    let s = c .before .before .before .before .before in
+    let s = c .before .before .before .before in
     omega (arith, cells-within _ _ _ (s .pre .0) (s .args .spot .column .0 - 1) (omega arith))
 
-shared-slice-read-t21 : tie.Need-shared-slice-read-t21 Inv-loop μ-loop
-shared-slice-read-t21 c = search needs
+shared-slice-read-t20 : tie.Need-shared-slice-read-t20 Inv-loop μ-loop
+shared-slice-read-t20 c = search needs
 
 span-of-requires : tie.Need-span-of-requires Inv-loop μ-loop
 span-of-requires c κs = tt
 
 loop-holds : tie.Need-loop-holds Inv-loop μ-loop
 loop-holds c =
-    let s = c .before .before .before .before .before .before .before in
+    let s = c .before .before .before .before .before .before in
     fill-start _ _ _ _ _ _ _ _ _ (s .pre .1 .low) (s .pre .1 .room) (s .pre .1 .same-room)
 
 sub-next-code : tie.Need-sub-next-code Inv-loop μ-loop
@@ -140,11 +140,11 @@ try-column-spec =
     (tie.spec
     Inv-loop
     μ-loop
-    cast-j
+    cast-from
     sub-from
     mul-from
     add-to
-    shared-slice-read-t21
+    shared-slice-read-t20
     span-of-requires
     loop-holds
     sub-next-code

@@ -1,15 +1,26 @@
 -- `walking::ring::word_at` meets its contract. Assumes nothing.
 use borrow.Author.Needs.{needs}
 use mathlib.Core.Path.{_≡_}
-use Prim.Native.Nat.{_+_, _-_, _*_, _%_}
+use Prim.Native.Nat.{ℕ, _+_, _-_, _*_}
 use native.Mathlib.Nat.{mod-lt, zero-lt-suc}
 use native.Mathlib.Omega.{arith}
-use lib.ListN.{take, drop, length-set}
-use denote.Ref.{now}
-use Rattle.masks.specs.Masks.{value, columnWord}
+use lib.ListN.{length-set}
 use Rattle.walking.proofs.ring.Laws.{cached-kept, cached-put}
 use Rattle.walking.proofs.ring.word_at.Statement.{statement}
 use Rattle.walking.proofs.ring.word_at.Tie as tie
+
+-- how many columns stand before the one whose word is asked for
+abbrev place : tie.Start → ℕ
+place s = s .args .column .0 + s .args .further - 1
+
+cast-k : tie.Need-cast-k
+cast-k c = search needs
+
+add-k : tie.Need-add-k
+add-k c = search needs
+
+sub-k : tie.Need-sub-k
+sub-k c = search needs
 
 add-tag : tie.Need-add-tag
 add-tag c = search needs
@@ -23,25 +34,25 @@ mul-if1 c = search needs
 slice-read-if1 : tie.Need-slice-read-if1
 slice-read-if1 c = search needs
 
-mul-t16 : tie.Need-mul-t16
-mul-t16 c = search needs
+mul-t18 : tie.Need-mul-t18
+mul-t18 c = search needs
 
-slice-read-t18 : tie.Need-slice-read-t18
-slice-read-t18 c = search needs
+slice-read-t20 : tie.Need-slice-read-t20
+slice-read-t20 c = search needs
 
-add-t19 : tie.Need-add-t19
-add-t19 c = search needs
+add-t21 : tie.Need-add-t21
+add-t21 c = search needs
 
-mul-t20 : tie.Need-mul-t20
-mul-t20 c = search needs
+mul-t22 : tie.Need-mul-t22
+mul-t22 c = search needs
 
-slice-read-t22 : tie.Need-slice-read-t22
-slice-read-t22 c = search needs
+slice-read-t24 : tie.Need-slice-read-t24
+slice-read-t24 c = search needs
 
 returns : tie.Need-returns
 returns c =
-    let s = c .before .before .before .before .before .before in
-    (cached-kept _ _ _ _ (s .pre .1) _ (s .args .k) (mod-lt (s .args .k) (zero-lt-suc 31)) (c .before .before .if1 .taken), s .pre .1)
+    let s = c .before .before .before .before .before .before .before in
+    (cached-kept _ _ _ _ (s .pre .1) _ (place s) (mod-lt (place s) (zero-lt-suc 31)) (c .before .before .if1 .taken), s .pre .1)
 
 mul-base : tie.Need-mul-base
 mul-base c = search needs
@@ -74,7 +85,7 @@ mul-ring-2 : tie.Need-mul-ring-2
 mul-ring-2 c = search needs
 
 slice-write-ring-2 : tie.Need-slice-write-ring-2
-slice-write-ring-2 c = simp length-set (omega (arith, c .before .before .before .before .before .before .pre .1 .long))
+slice-write-ring-2 c = simp length-set (omega (arith, c .before .before .before .before .before .before .before .pre .1 .long))
 
 add-ring-2 : tie.Need-add-ring-2
 add-ring-2 c = search needs
@@ -83,31 +94,34 @@ mul-ring-3 : tie.Need-mul-ring-3
 mul-ring-3 c = search needs
 
 slice-write-ring-3 : tie.Need-slice-write-ring-3
-slice-write-ring-3 c = simp length-set (omega (arith, c .before .before .before .before .before .before .pre .1 .long))
+slice-write-ring-3 c = simp length-set (omega (arith, c .before .before .before .before .before .before .before .pre .1 .long))
 
 same-length : tie.Need-same-length
 same-length c = search needs
 
 returns-2 : tie.Need-returns-2
 returns-2 c =
-    let s = c .before .before .before .before .before .before in
-    let e : s .args .k * s .args .h + s .args .h - s .args .k * s .args .h ≡ s .args .h = omega arith in
+    let s = c .before .before .before .before .before .before .before in
+    let e : place s * s .args .h + s .args .h - place s * s .args .h ≡ s .args .h = omega arith in
     let w = rw e at (c .word-of .ensures) in
-    (w, cached-put _ _ _ _ (s .pre .1) _ (s .args .k) (mod-lt (s .args .k) (zero-lt-suc 31)) _ _ w)
+    (w, cached-put _ _ _ _ (s .pre .1) _ (place s) (mod-lt (place s) (zero-lt-suc 31)) _ _ w)
 
 pub word-at-spec : {M : Type 1} → statement M
 word-at-spec =
     tie.close
     (tie.spec
+    cast-k
+    add-k
+    sub-k
     add-tag
     add-if1
     mul-if1
     slice-read-if1
-    mul-t16
-    slice-read-t18
-    add-t19
-    mul-t20
-    slice-read-t22
+    mul-t18
+    slice-read-t20
+    add-t21
+    mul-t22
+    slice-read-t24
     returns
     mul-base
     add-end

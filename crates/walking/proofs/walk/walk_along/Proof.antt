@@ -31,11 +31,11 @@ more c = ltb-true _ _ (both-left _ _ (c .loop-test .taken))
 loop-holds : tie.Need-loop-holds Inv-loop μ-loop
 loop-holds c = let s = c .before .before .before .before .before in (along-start _ _ _ _ _ _ _ (s .pre .1 .0 .room) (s .pre .1 .0 .same-room), s .pre .1 .1)
 
-mul-at-column : tie.Need-mul-at-column Inv-loop μ-loop
-mul-at-column c = let q = more c in search needs
+mul-t15 : tie.Need-mul-t15 Inv-loop μ-loop
+mul-t15 c = let q = more c in search needs
 
-shared-slice-read-at-column : tie.Need-shared-slice-read-at-column Inv-loop μ-loop
-shared-slice-read-at-column c = more (c .before)
+shared-slice-read-t21 : tie.Need-shared-slice-read-t21 Inv-loop μ-loop
+shared-slice-read-t21 c = more (c .before)
 
 at-column-requires : tie.Need-at-column-requires Inv-loop μ-loop
 at-column-requires c κs = tt
@@ -98,8 +98,8 @@ walk-along-spec =
     Inv-loop
     μ-loop
     loop-holds
-    mul-at-column
-    shared-slice-read-at-column
+    mul-t15
+    shared-slice-read-t21
     at-column-requires
     add-i
     try-all-requires

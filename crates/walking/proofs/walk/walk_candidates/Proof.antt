@@ -2,19 +2,18 @@
 -- entry before the one that decides column j, and that the words in the ring are right. The measure is the columns left. Assumes nothing.
 use borrow.Author.Needs.{needs}
 use mathlib.Core.Path.{_≡_, refl, sym, ap, _∙_}
-use mathlib.Core.Bool.{_&&_, false}
-use Prim.Native.Nat.{_-_, _≤_, _<_, zero-le}
+use Prim.Native.Nat.{_+_, _-_, _<_, zero-le}
 use native.Mathlib.Omega.{arith}
 use lib.Dec.{ltb}
 use lib.ListN.{length}
-use borrow.Author.Tests.{ltb-true, le-ltb}
+use borrow.Author.Tests.{ltb-true}
 use Rattle.theory.specs.Pages.{from}
 use Rattle.score.specs.Score.{scoreOf}
 use Rattle.filter.specs.Limits.{wordBits}
 use Rattle.walking.specs.declared.walked.Spot.{Spot}
 use Rattle.walking.specs.Starts.{key}
 use Rattle.walking.specs.Candidates.{candidate, quickStarts}
-use Rattle.walking.specs.Scan.{Lent, Filters}
+use Rattle.walking.specs.Scan.{Filters}
 use Rattle.walking.specs.Walk.{endOf, listed}
 use Rattle.walking.specs.Alive.{Cached}
 use Rattle.walking.proofs.Answers.{accepted-ready, asked-sets, asked-small, asked-lent}
@@ -27,64 +26,69 @@ use Rattle.walking.proofs.walk.walk_candidates.Statement.{statement}
 use Rattle.walking.proofs.walk.walk_candidates.Tie as tie
 
 abbrev Inv-loop : tie.InvT-loop
-Inv-loop cells h theme way sets table columns₀ shifts₀ end m spot₀ j₀ looks₀ register₀ ring₀ list₀ columns shifts spot j looks register ring list =
+Inv-loop cells h theme way sets table columns₀ shifts₀ m spot₀ left₀ looks₀ register₀ ring₀ list₀ columns shifts spot left looks register ring list =
     Walking (candidate wordBits table sets (length theme)) way cells h theme
     (from key (spotKey spot₀) (quickStarts wordBits way (scoreOf cells h) theme table sets)) columns₀ shifts₀ columns shifts spot looks
-    × (j ≡ spot .column .0) × Filters table sets (length theme) register j × Cached way cells h ring × (length list ≡ listed)
+    × (left ≡ endOf cells h theme - spot .column .0) × Filters table sets (length theme) register (spot .column .0) × Cached way cells h ring
+    × (length list ≡ listed)
 
 abbrev μ-loop : tie.MeasureT-loop
-μ-loop cells h theme way sets table columns₀ shifts₀ end m spot₀ j₀ looks₀ register₀ ring₀ list₀ columns shifts spot j looks register ring list =
-    end - j
+μ-loop cells h theme way sets table columns₀ shifts₀ m spot₀ left₀ looks₀ register₀ ring₀ list₀ columns shifts spot left looks register ring list =
+    left
 
 -- what is known at entry, and from the loop on
-abbrev start : tie.At-loop Inv-loop μ-loop → tie.Start Inv-loop μ-loop
-start c = c .before .before .before .before .before .before .before .before .before .before .before
+abbrev entered : tie.After-begin Inv-loop μ-loop → tie.Start Inv-loop μ-loop
+entered c = c .before .before .before .before .before .before
 
-abbrev entered : tie.After-struct-known Inv-loop μ-loop → tie.Start Inv-loop μ-loop
-entered c = c .before .before .before .before .before .before .before .before
+abbrev begun : tie.At-loop Inv-loop μ-loop → tie.After-begin Inv-loop μ-loop
+begun c = c .before .before .before .before .before
+
+abbrev turning : tie.Then2 Inv-loop μ-loop → tie.At-loop Inv-loop μ-loop
+turning c = c .before .before
 
 abbrev at-loop : tie.After-some-of Inv-loop μ-loop → tie.At-loop Inv-loop μ-loop
-at-loop c = c .before .before .before .before
+at-loop c = turning (c .before .before)
 
 abbrev listing : tie.After-ring Inv-loop μ-loop → tie.After-list-candidates Inv-loop μ-loop
-listing c = c .before .before .before .before .before .before
+listing c = c .before .before .before .before .before .before .before
 
-abbrev tried : tie.After-struct-known4 Inv-loop μ-loop → tie.After-walk-along Inv-loop μ-loop
+abbrev tried : tie.After-struct-known5 Inv-loop μ-loop → tie.After-walk-along Inv-loop μ-loop
 tried c = c .before .before .before .before .before
-
-end-of-requires : tie.Need-end-of-requires Inv-loop μ-loop
-end-of-requires c κs = accepted-ready (c .before .before .before .before .before .pre .plain .accepted)
 
 begin-requires : tie.Need-begin-requires Inv-loop μ-loop
 begin-requires c κs = tt
 
-cast-j : tie.Need-cast-j Inv-loop μ-loop
-cast-j c = search needs
+columns-left-requires : tie.Need-columns-left-requires Inv-loop μ-loop
+columns-left-requires c κs = accepted-ready (entered c .pre .plain .accepted)
 
 returns : tie.Need-returns Inv-loop μ-loop
 returns c =
     let k = c .before in
     let b = k .before in
-    let p = entered k .pre .plain in
-    let t = quick-start p (b .begin .ensures) (entered k .args .table .now) (entered k .args .sets .now) in
-    rw (← (begun-key p (b .begin .ensures))) (walk-over t refl (b .before .end-of .ensures) (rw (le-ltb _ _ (c .if1 .taken))))
+    let p = entered b .pre .plain in
+    let t = quick-start p (b .begin .ensures) (entered b .args .table .now) (entered b .args .sets .now) in
+    rw (← (begun-key p (b .begin .ensures))) (walk-over t (k .columns-left .ensures) (rw (c .if1 .taken)))
+
+cast-warmed : tie.Need-cast-warmed Inv-loop μ-loop
+cast-warmed c = search needs
 
 sub-warmed : tie.Need-sub-warmed Inv-loop μ-loop
-sub-warmed c = let s = c .before in begun-first (entered s .pre .plain) (s .before .begin .ensures)
+sub-warmed c = let b = c .before .before .before in begun-first (entered b .pre .plain) (b .begin .ensures)
 
 sub-warmed-2 : tie.Need-sub-warmed-2 Inv-loop μ-loop
-sub-warmed-2 c = entered (c .before) .pre .plain .accepted .notes-some
+sub-warmed-2 c = entered (c .before .before .before) .pre .plain .accepted .notes-some
 
 warmed-requires : tie.Need-warmed-requires Inv-loop μ-loop
 warmed-requires c κs =
-    let k = c .before in
-    let s = entered k in (
+    let k = c .before .before in
+    let b = k .before in
+    let s = entered b in (
       omega (
         arith,
-        c .if1 .left,
-        k .before .before .end-of .ensures,
+        c .before .if1 .left,
+        k .columns-left .ensures,
         asked-sets (s .pre),
-        begun-first (s .pre .plain) (k .before .begin .ensures),
+        begun-first (s .pre .plain) (b .begin .ensures),
         s .pre .plain .accepted .notes-some,
       ),
       (s .pre .table-long, asked-small (s .pre)),
@@ -92,25 +96,27 @@ warmed-requires c κs =
 
 loop-holds : tie.Need-loop-holds Inv-loop μ-loop
 loop-holds c =
-    let k = c .before .before in
-    let s = entered k in
-    let b = k .before .begin .ensures in (
-      quick-start (s .pre .plain) b _ _,
-      refl,
-      warmed-filters _ _ _ _ _ (s .pre .plain .accepted .notes-some) (begun-first (s .pre .plain) b) (c .warmed .ensures),
+    let k = c .before .before .before in
+    let b = k .before in
+    let p = entered b .pre .plain in (
+      quick-start p (b .begin .ensures) _ _,
+      k .columns-left .ensures,
+      warmed-filters _ _ _ _ _ (p .accepted .notes-some) (begun-first p (b .begin .ensures)) (c .warmed .ensures),
       cached-none _ _ _,
       refl,
     )
 
 -- a column is left, and room
-left : (c : tie.Then2 Inv-loop μ-loop) → c .before .before .loop .j < c .before .before .before .before .before .before .before .end-of .result
-left c = ltb-true _ _ (both-left _ _ (c .if2 .taken))
+more : (c : tie.Then2 Inv-loop μ-loop) → 0 < turning c .loop .left
+more c = ltb-true _ _ (both-left _ _ (c .if2 .taken))
 
-room : (c : tie.Then2 Inv-loop μ-loop) → c .before .before .loop .spot .found < length (c .before .before .loop .columns)
-room c =
-    let l = c .before .before in
-    let e = l .before .before .before .before .before in
-    ltb-true _ _ (both-right (ltb (l .loop .j) (e .end-of .result)) _ (c .if2 .taken))
+room : (c : tie.Then2 Inv-loop μ-loop) → turning c .loop .spot .found < length (turning c .loop .columns)
+room c = ltb-true _ _ (both-right (ltb 0 (turning c .loop .left)) _ (c .if2 .taken))
+
+-- the columns that are left end where the theme has no more room
+ended : (c : tie.After-some-of Inv-loop μ-loop) → let l = at-loop c in let s = entered (begun l) in
+    l .loop .spot .column .0 + l .loop .left ≡ endOf (s .args .cells .now) (s .args .h) (s .args .theme .now)
+ended c = omega (arith, more (c .before .before), at-loop c .loop .inv .1)
 
 sub-some-of : tie.Need-sub-some-of Inv-loop μ-loop
 sub-some-of c = omega (arith, room (c .before))
@@ -125,9 +131,11 @@ list-candidates-requires : tie.Need-list-candidates-requires Inv-loop μ-loop
 list-candidates-requires c κs =
     let a = c .before in
     let l = at-loop a in
-    let e = l .before .before .before .before .before .end-of .ensures in
-    let lent = asked-lent (start l .pre) (omega (arith, l .loop .inv .0 .first, l .loop .inv .1)) (left (a .before .before)) e in
+    let lent = asked-lent (entered (begun l) .pre) (l .loop .inv .0 .first) (omega (arith, more (a .before .before))) (ended a) in
     (lent, (l .loop .inv .2, (a .some-of .ensures .0, omega (arith, a .some-of .ensures .2, l .loop .inv .4))))
+
+sub-left : tie.Need-sub-left Inv-loop μ-loop
+sub-left c = let l = c .before .before in omega (arith, l .list-candidates .ensures .decides .to-end)
 
 sub-walk-along : tie.Need-sub-walk-along Inv-loop μ-loop
 sub-walk-along c = zero-le
@@ -137,7 +145,7 @@ part-walk-along-start c = search needs
 
 part-walk-along-end : tie.Need-part-walk-along-end Inv-loop μ-loop
 part-walk-along-end c =
-    let l = c .before .before in
+    let l = c .before .before .before in
     let i = at-loop (l .before .before) .loop .inv in
     omega (arith, candidates-long (l .list-candidates .ensures), l .list-candidates .ensures .few, i .4)
 
@@ -147,23 +155,24 @@ slice-aggregate-walk-along c = search needs
 walk-along-requires : tie.Need-walk-along-requires Inv-loop μ-loop
 walk-along-requires c κs =
     let l = listing c in
-    let i = at-loop (l .before .before) in
-    let u = candidates-turn (l .list-candidates .ensures) (i .loop .inv .0) (i .loop .inv .1) (i .before .before .before .before .before .end-of .ensures) in
-    (i .loop .inv .0 .ready, (turn-asks u, i .loop .inv .3))
+    let a = l .before .before in
+    let i = at-loop a .loop .inv in
+    let u = candidates-turn (l .list-candidates .ensures) (i .0) refl (omega (arith, ended a)) in
+    (i .0 .ready, (turn-asks u, i .3))
 
 add-looks : tie.Need-add-looks Inv-loop μ-loop
 add-looks c =
     let w = tried c in
     let l = listing (w .before) in
-    let i = at-loop (l .before .before) in
-    let u = candidates-turn (l .list-candidates .ensures) (i .loop .inv .0) (i .loop .inv .1) (i .before .before .before .before .before .end-of .ensures) in
+    let a = l .before .before in
+    let u = candidates-turn (l .list-candidates .ensures) (at-loop a .loop .inv .0) refl (omega (arith, ended a)) in
     record { fits = turn-bound u (w .walk-along .ensures .0) }
 
 go-on-requires : tie.Need-go-on-requires Inv-loop μ-loop
 go-on-requires c κs =
     let l = listing (tried c .before) in
-    let i = at-loop (l .before .before) in
-    omega (arith, l .list-candidates .ensures .decides .to-end, i .before .before .before .before .before .end-of .ensures, i .loop .inv .0 .ready .columns-most)
+    let a = l .before .before in
+    omega (arith, l .list-candidates .ensures .decides .to-end, ended a, at-loop a .loop .inv .0 .ready .columns-most)
 
 loop-less : tie.Need-loop-less Inv-loop μ-loop
 loop-less c =
@@ -176,27 +185,29 @@ loop-again c =
     let w = tried (c .before) in
     let l = listing (w .before) in
     let d = l .list-candidates .ensures in
-    let i = at-loop (l .before .before) in
-    let u = candidates-turn (l .list-candidates .ensures) (i .loop .inv .0) (i .loop .inv .1) (i .before .before .before .before .before .end-of .ensures) in (
+    let a = l .before .before in
+    let i = at-loop a .loop .inv in
+    let u = candidates-turn d (i .0) refl (omega (arith, ended a)) in (
       turn-on u (w .walk-along .ensures .0) (c .go-on .ensures),
-      sym (ap (λ (s : Spot). s .column .0) (c .go-on .ensures)),
-      d .decides .goes-on,
+      omega (arith, i .1, ap (λ (s : Spot). s .column .0) (c .go-on .ensures)),
+      rw (c .go-on .ensures) (d .decides .goes-on),
       w .walk-along .ensures .1,
-      candidates-long d ∙ i .loop .inv .4,
+      candidates-long d ∙ i .4,
     )
 
 same-length : tie.Need-same-length Inv-loop μ-loop
 same-length c = c .before .before .loop .inv .0 .taking .long
 
 same-length-2 : tie.Need-same-length-2 Inv-loop μ-loop
-same-length-2 c = c .before .before .loop .inv .0 .taking .long-shifts ∙ sym (start (c .before .before) .pre .plain .same-room)
+same-length-2 c =
+    let l = c .before .before in
+    l .loop .inv .0 .taking .long-shifts ∙ sym (entered (begun l) .pre .plain .same-room)
 
 returns-2 : tie.Need-returns-2 Inv-loop μ-loop
 returns-2 c =
     let l = c .before .before in
-    let b = l .before .before .before .before in
-    rw (← (begun-key (start l .pre .plain) (b .begin .ensures)))
-    (walk-over (l .loop .inv .0) (l .loop .inv .1) (b .before .end-of .ensures) (c .if2 .left))
+    let b = begun l in
+    rw (← (begun-key (entered b .pre .plain) (b .begin .ensures))) (walk-over (l .loop .inv .0) (l .loop .inv .1) (c .if2 .left))
 
 pub walk-candidates-spec : {M : Type 1} → statement M
 walk-candidates-spec =
@@ -204,10 +215,10 @@ walk-candidates-spec =
     (tie.spec
     Inv-loop
     μ-loop
-    end-of-requires
     begin-requires
-    cast-j
+    columns-left-requires
     returns
+    cast-warmed
     sub-warmed
     sub-warmed-2
     warmed-requires
@@ -216,6 +227,7 @@ walk-candidates-spec =
     some-of-requires
     slice-aggregate-list-candidates
     list-candidates-requires
+    sub-left
     sub-walk-along
     part-walk-along-start
     part-walk-along-end

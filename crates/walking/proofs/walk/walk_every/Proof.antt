@@ -21,54 +21,54 @@ use Rattle.walking.proofs.walk.walk_every.Statement.{statement}
 use Rattle.walking.proofs.walk.walk_every.Tie as tie
 
 abbrev Inv-loop : tie.InvT-loop
-Inv-loop cells h theme way columns₀ shifts₀ end spot₀ j₀ looks₀ ring₀ list₀ columns shifts spot j looks ring list =
+Inv-loop cells h theme way columns₀ shifts₀ spot₀ left₀ looks₀ ring₀ list₀ columns shifts spot left looks ring list =
     Walking (λ k. true) way cells h theme (from key (spotKey spot₀) (starts way (scoreOf cells h) theme)) columns₀ shifts₀ columns shifts spot looks
-    × (j ≡ spot .column .0) × Cached way cells h ring × (length list ≡ listed)
+    × (left ≡ endOf cells h theme - spot .column .0) × Cached way cells h ring × (length list ≡ listed)
 
 abbrev μ-loop : tie.MeasureT-loop
-μ-loop cells h theme way columns₀ shifts₀ end spot₀ j₀ looks₀ ring₀ list₀ columns shifts spot j looks ring list = end - j
+μ-loop cells h theme way columns₀ shifts₀ spot₀ left₀ looks₀ ring₀ list₀ columns shifts spot left looks ring list = left
 
 -- what is known at entry, and from the loop on
 abbrev start : tie.At-loop Inv-loop μ-loop → tie.Start Inv-loop μ-loop
-start c = c .before .before .before .before .before .before .before
+start c = c .before .before .before .before .before .before
+
+abbrev turning : tie.Then1 Inv-loop μ-loop → tie.At-loop Inv-loop μ-loop
+turning c = c .before .before
 
 abbrev at-loop : tie.After-some-of Inv-loop μ-loop → tie.At-loop Inv-loop μ-loop
-at-loop c = c .before .before .before
+at-loop c = turning (c .before)
 
 abbrev listing : tie.After-ring Inv-loop μ-loop → tie.After-list-every Inv-loop μ-loop
 listing c = c .before .before .before .before .before .before
 
-abbrev tried : tie.After-struct-known3 Inv-loop μ-loop → tie.After-walk-along Inv-loop μ-loop
+abbrev tried : tie.After-struct-known2 Inv-loop μ-loop → tie.After-walk-along Inv-loop μ-loop
 tried c = c .before .before .before .before .before
-
-end-of-requires : tie.Need-end-of-requires Inv-loop μ-loop
-end-of-requires c κs = accepted-ready (c .before .before .before .pre .accepted)
 
 begin-requires : tie.Need-begin-requires Inv-loop μ-loop
 begin-requires c κs = tt
 
-cast-j : tie.Need-cast-j Inv-loop μ-loop
-cast-j c = search needs
+columns-left-requires : tie.Need-columns-left-requires Inv-loop μ-loop
+columns-left-requires c κs = accepted-ready (c .before .before .before .before .pre .accepted)
 
 loop-holds : tie.Need-loop-holds Inv-loop μ-loop
-loop-holds c = let s = c .before .before .before .before .before .before in (every-start (s .pre) (c .before .begin .ensures), refl, cached-none _ _ _, refl)
+loop-holds c =
+    let b = c .before in
+    let s = b .before .before .before .before in
+    (every-start (s .pre) (b .begin .ensures), c .columns-left .ensures, cached-none _ _ _, refl)
 
 -- a column is left, and so many are listed
-left : (c : tie.Then1 Inv-loop μ-loop) → c .before .before .loop .j < c .before .before .before .before .before .end-of .result
-left c = ltb-true _ _ (both-left _ _ (c .if1 .taken))
-
-sub-some-of : tie.Need-sub-some-of Inv-loop μ-loop
-sub-some-of c = omega (arith, left c)
+more : (c : tie.Then1 Inv-loop μ-loop) → 0 < turning c .loop .left
+more c = ltb-true _ _ (both-left _ _ (c .if1 .taken))
 
 some-of-requires : tie.Need-some-of-requires Inv-loop μ-loop
-some-of-requires c κs = omega (arith, left c)
+some-of-requires c κs = more c
 
 within : (c : tie.After-some-of Inv-loop μ-loop) → let s = start (at-loop c) in
-    at-loop c .loop .j + c .some-of .result ≤ endOf (s .args .cells .now) (s .args .h) (s .args .theme .now)
-within c = omega (arith, left (c .before), c .some-of .ensures .1, at-loop c .before .before .before .end-of .ensures)
+    c .some-of .result ≤ endOf (s .args .cells .now) (s .args .h) (s .args .theme .now) - at-loop c .loop .spot .column .0
+within c = omega (arith, c .some-of .ensures .1, at-loop c .loop .inv .1)
 
-small : (c : tie.After-some-of Inv-loop μ-loop) → at-loop c .loop .j + c .some-of .result ≤ 2050
-small c = omega (arith, within c, at-loop c .loop .inv .0 .ready .columns-most)
+small : (c : tie.After-some-of Inv-loop μ-loop) → at-loop c .loop .spot .column .0 + c .some-of .result ≤ 2050
+small c = omega (arith, within c, c .some-of .ensures .0, at-loop c .loop .inv .0 .ready .columns-most)
 
 slice-aggregate-list-every : tie.Need-slice-aggregate-list-every Inv-loop μ-loop
 slice-aggregate-list-every c = search needs
@@ -78,8 +78,8 @@ list-every-requires c κs =
     let a = c .before in
     (omega (arith, small a), omega (arith, a .some-of .ensures .2, at-loop a .loop .inv .3))
 
-add-j : tie.Need-add-j Inv-loop μ-loop
-add-j c = omega (arith, small (c .before .before .before))
+sub-left : tie.Need-sub-left Inv-loop μ-loop
+sub-left c = c .before .before .before .some-of .ensures .1
 
 sub-walk-along : tie.Need-sub-walk-along Inv-loop μ-loop
 sub-walk-along c = zero-le
@@ -101,7 +101,7 @@ walk-along-requires : tie.Need-walk-along-requires Inv-loop μ-loop
 walk-along-requires c κs =
     let a = listing c .before .before in
     let i = at-loop a .loop .inv in
-    (i .0 .ready, (turn-asks (every-turn (listing c .list-every .ensures) (i .0) (i .1) (a .some-of .ensures .0) (within a)), i .2))
+    (i .0 .ready, (turn-asks (every-turn (listing c .list-every .ensures) (i .0) refl (a .some-of .ensures .0) (within a)), i .2))
 
 add-looks : tie.Need-add-looks Inv-loop μ-loop
 add-looks c =
@@ -110,7 +110,7 @@ add-looks c =
     let a = l .before .before in
     let i = at-loop a .loop .inv in
     record {
-      fits = turn-bound (every-turn (l .list-every .ensures) (i .0) (i .1) (a .some-of .ensures .0) (within a)) (w .walk-along .ensures .0);
+      fits = turn-bound (every-turn (l .list-every .ensures) (i .0) refl (a .some-of .ensures .0) (within a)) (w .walk-along .ensures .0);
     }
 
 go-on-requires : tie.Need-go-on-requires Inv-loop μ-loop
@@ -119,7 +119,7 @@ go-on-requires c κs = omega (arith, small (listing (tried c .before) .before .b
 loop-less : tie.Need-loop-less Inv-loop μ-loop
 loop-less c =
     let a = listing (tried (c .before) .before) .before .before in
-    omega (arith, a .some-of .ensures .0, left (a .before))
+    omega (arith, a .some-of .ensures .0, a .some-of .ensures .1)
 
 loop-again : tie.Need-loop-again Inv-loop μ-loop
 loop-again c =
@@ -127,9 +127,9 @@ loop-again c =
     let l = listing (w .before) in
     let a = l .before .before in
     let i = at-loop a .loop .inv in
-    let u = every-turn (l .list-every .ensures) (i .0) (i .1) (a .some-of .ensures .0) (within a) in (
+    let u = every-turn (l .list-every .ensures) (i .0) refl (a .some-of .ensures .0) (within a) in (
       turn-on u (w .walk-along .ensures .0) (c .go-on .ensures),
-      sym (ap (λ (s : Spot). s .column .0) (c .go-on .ensures)),
+      omega (arith, i .1, ap (λ (s : Spot). s .column .0) (c .go-on .ensures)),
       w .walk-along .ensures .1,
       every-long (l .list-every .ensures) (omega (arith, a .some-of .ensures .2, i .3)) ∙ i .3,
     )
@@ -143,9 +143,7 @@ same-length-2 c = c .before .before .loop .inv .0 .taking .long-shifts ∙ sym (
 returns : tie.Need-returns Inv-loop μ-loop
 returns c =
     let l = c .before .before in
-    let b = l .before .before in
-    rw (← (begun-key (start l .pre) (b .begin .ensures)))
-    (walk-over (l .loop .inv .0) (l .loop .inv .1) (b .before .end-of .ensures) (c .if1 .left))
+    rw (← (begun-key (start l .pre) (l .before .before .begin .ensures))) (walk-over (l .loop .inv .0) (l .loop .inv .1) (c .if1 .left))
 
 pub walk-every-spec : {M : Type 1} → statement M
 walk-every-spec =
@@ -153,15 +151,13 @@ walk-every-spec =
     (tie.spec
     Inv-loop
     μ-loop
-    end-of-requires
     begin-requires
-    cast-j
+    columns-left-requires
     loop-holds
-    sub-some-of
     some-of-requires
     slice-aggregate-list-every
     list-every-requires
-    add-j
+    sub-left
     sub-walk-along
     part-walk-along-start
     part-walk-along-end
