@@ -15,8 +15,10 @@ use Rattle.score.specs.Limits.{mostTracks, mostColumns, tableWords}
 use Rattle.score.specs.Score.{columnsIn}
 use Rattle.score.specs.Refusals.{Row, row1, row2, row6}
 use Rattle.ways.specs.declared.way.Way.{Way}
+use Rattle.ways.specs.declared.way.AnyWay.{AnyWay}
+use Rattle.ways.specs.declared.way.AnyWay.the-variants.{Moved}
 use Rattle.ways.specs.declared.bookmark.Bookmark.{Bookmark}
-use Rattle.ways.specs.Way.{Range, rangeOf}
+use Rattle.ways.specs.Way.{Range, rangeOf, rangeAs}
 use Rattle.asking.specs.Limits.{mostNotes}
 use Rattle.asking.specs.Refusals.{row4, row8, row9, row10, requestRows, setsRows, pageRows, plainRows, quickRows}
 use Rattle.asking.specs.Asking.{Accepted, AcceptedSets, InRange, PageAsks, PlainAsks, QuickAsks}
@@ -124,18 +126,18 @@ module _ (range : Range) (n : ℕ) (b : Bookmark) (columns : List ℕ) (shifts :
 
 -- ---- a call is asked right exactly where none of its rows applies
 
-module _ (cells : List ℕ) (h : ℕ) (theme : List ℕ) (way : Way) (b : Bookmark) (columns : List ℕ) (shifts : List ℤ) where
+module _ (cells : List ℕ) (h : ℕ) (theme : List ℕ) (way : AnyWay) (b : Bookmark) (columns : List ℕ) (shifts : List ℤ) where
   abbrev request : List Row
   request = requestRows mostNotes cells h theme
 
   abbrev page : List Row
-  page = pageRows (rangeOf way) (columnsIn cells h) b (length columns) (length shifts)
+  page = pageRows (rangeAs way) (columnsIn cells h) b (length columns) (length shifts)
 
   abbrev PageClear : Type 0
-  PageClear = (1 ≤ length columns) × (length shifts ≡ length columns) × InRange (rangeOf way) (columnsIn cells h) b
+  PageClear = (1 ≤ length columns) × (length shifts ≡ length columns) × InRange (rangeAs way) (columnsIn cells h) b
 
   page-right : PageClear ↔ Clear page
-  page-right = page-clear (rangeOf way) (columnsIn cells h) b columns shifts
+  page-right = page-clear (rangeAs way) (columnsIn cells h) b columns shifts
 
   page-asks : {most : ℕ} → Accepted most cells h theme → PageClear → PageAsks most cells h theme way b columns shifts
   page-asks a p = record { accepted = a; room = p .0; same-room = p .1; marked = p .2 }
@@ -160,12 +162,12 @@ module _ (cells : List ℕ) (h : ℕ) (theme : List ℕ) (way : Way) (b : Bookma
   quick-clear = (
     λ a. clear-append asked (lent ++ after) (accepted-clear mostNotes cells h theme .0 (a .plain .accepted))
         (clear-append lent after (sets-clear cells h sets table .0 (a .with-sets, a .table-long))
-        (page-right cells h theme way b columns shifts .0 (a .plain .room, a .plain .same-room, a .plain .marked))),
+        (page-right cells h theme (Moved way) b columns shifts .0 (a .plain .room, a .plain .same-room, a .plain .marked))),
     λ c. let d = clear-split asked (lent ++ after) c in
         let e = clear-split lent after (d .1) in
         let s = sets-clear cells h sets table .1 (e .0) in
         record {
-          plain = page-asks cells h theme way b columns shifts (accepted-clear mostNotes cells h theme .1 (d .0)) (page-right cells h theme way b columns shifts .1 (e .1));
+          plain = page-asks cells h theme (Moved way) b columns shifts (accepted-clear mostNotes cells h theme .1 (d .0)) (page-right cells h theme (Moved way) b columns shifts .1 (e .1));
           with-sets = s .0;
           table-long = s .1;
         },

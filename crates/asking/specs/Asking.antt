@@ -12,8 +12,10 @@ use Rattle.score.specs.Limits.{mostTracks, mostColumns, tableWords}
 use Rattle.score.specs.Score.{columnsIn}
 use Rattle.score.specs.Refusals.{badCell, badSet}
 use Rattle.ways.specs.declared.way.Way.{Way}
+use Rattle.ways.specs.declared.way.AnyWay.{AnyWay}
+use Rattle.ways.specs.declared.way.AnyWay.the-variants.{Moved}
 use Rattle.ways.specs.declared.bookmark.Bookmark.{Bookmark}
-use Rattle.ways.specs.Way.{Range, rangeOf}
+use Rattle.ways.specs.Way.{Range, rangeAs}
 use Rattle.asking.specs.Limits.{mostNotes}
 use Rattle.asking.specs.Refusals.{badNote}
 
@@ -44,18 +46,18 @@ pub record InRange (range : Range) (n : ℕ) (b : Bookmark) : Type 0 where
   pub not-above : b .shift ≤ℤ (range .highest +ℤ pos 1)
 
 -- what a page asks for: a score and a theme of `most` notes at most, buffers of equal length and not empty, a bookmark
-pub record PageAsks (most : ℕ) (cells : List ℕ) (h : ℕ) (theme : List ℕ) (way : Way) (b : Bookmark) (columns : List ℕ) (shifts : List ℤ) : Type 0 where
+pub record PageAsks (most : ℕ) (cells : List ℕ) (h : ℕ) (theme : List ℕ) (way : AnyWay) (b : Bookmark) (columns : List ℕ) (shifts : List ℤ) : Type 0 where
   pub accepted : Accepted most cells h theme
   pub room : 1 ≤ length columns
   pub same-room : length shifts ≡ length columns
-  pub marked : InRange (rangeOf way) (columnsIn cells h) b
+  pub marked : InRange (rangeAs way) (columnsIn cells h) b
 
 -- what a plain call asks for
-abbrev pub PlainAsks : (cells : List ℕ) (h : ℕ) (theme : List ℕ) → Way → Bookmark → (columns : List ℕ) (shifts : List ℤ) → Type 0
+abbrev pub PlainAsks : (cells : List ℕ) (h : ℕ) (theme : List ℕ) → AnyWay → Bookmark → (columns : List ℕ) (shifts : List ℤ) → Type 0
 PlainAsks cells h theme way b columns shifts = PageAsks mostNotes cells h theme way b columns shifts
 
 -- what a quick call asks for: also sets, and a theme table of 4,096 places
 pub record QuickAsks (cells : List ℕ) (h : ℕ) (theme : List ℕ) (way : Way) (b : Bookmark) (sets table columns : List ℕ) (shifts : List ℤ) : Type 0 where
-  pub plain : PageAsks mostNotes cells h theme way b columns shifts
+  pub plain : PageAsks mostNotes cells h theme (Moved way) b columns shifts
   pub with-sets : AcceptedSets cells h sets
   pub table-long : length table ≡ tableWords

@@ -12,8 +12,9 @@ use Rattle.score.specs.Limits.{highestPitch, tableWords}
 use Rattle.score.specs.Score.{columnsIn}
 use Rattle.score.specs.Refusals.{Row, row, row1, row2, row3, row6, row7}
 use Rattle.ways.specs.declared.way.Way.{Way}
+use Rattle.ways.specs.declared.way.AnyWay.{AnyWay}
 use Rattle.ways.specs.declared.bookmark.Bookmark.{Bookmark}
-use Rattle.ways.specs.Way.{Range, rangeOf}
+use Rattle.ways.specs.Way.{Range, rangeOf, rangeAs}
 use Rattle.asking.specs.Limits.{mostNotes}
 
 -- 4: the theme has fewer than two notes, or more than `most`, which a call names: 32
@@ -63,9 +64,9 @@ pageRows range n b r other = row9 r other ∷ row10 range n b ∷ []
 -- ---- the rows of each call, in order
 
 -- plain: 1 to 5, 9, 10
-abbrev pub plainRows : (cells : List ℕ) (h : ℕ) (theme : List ℕ) → Way → Bookmark → (columns : List ℕ) (shifts : List ℤ) → List Row
+abbrev pub plainRows : (cells : List ℕ) (h : ℕ) (theme : List ℕ) → AnyWay → Bookmark → (columns : List ℕ) (shifts : List ℤ) → List Row
 plainRows cells h theme way b columns shifts =
-    requestRows mostNotes cells h theme ++ pageRows (rangeOf way) (columnsIn cells h) b (length columns) (length shifts)
+    requestRows mostNotes cells h theme ++ pageRows (rangeAs way) (columnsIn cells h) b (length columns) (length shifts)
 
 -- quick: 1 to 10
 abbrev pub quickRows : (cells : List ℕ) (h : ℕ) (theme : List ℕ) → Way → Bookmark → (sets table columns : List ℕ) (shifts : List ℤ) → List Row

@@ -10,9 +10,10 @@ use score::Verdict;
 use score::check_score;
 use score::check_sets;
 use score::columns_in;
+use ways::AnyWay;
 use ways::Bookmark;
 use ways::Way;
-use ways::out_of_range;
+use ways::out_as;
 ghost use mathlib.Core.Path.{_≡_};
 ghost use mathlib.Core.Bool.{_||_};
 ghost use mathlib.Core.List.{_++_};
@@ -21,7 +22,7 @@ ghost use lib.Dec.{eqb, ltb};
 ghost use Rattle.theory.specs.Lists.{some, first};
 ghost use Rattle.score.specs.Score.{columnsIn};
 ghost use Rattle.score.specs.Refusals.{verdict};
-ghost use Rattle.ways.specs.Way.{rangeOf};
+ghost use Rattle.ways.specs.Way.{rangeOf, rangeAs};
 ghost use Rattle.asking.specs.Limits.{mostNotes};
 ghost use Rattle.asking.specs.Refusals.{badNote, row10, themeRows, requestRows, setsRows, pageRows};
 
@@ -40,12 +41,12 @@ pub fn check_plain(
     cells: &[u8],
     tracks: usize,
     theme: &[u8],
-    way: Way,
+    way: AnyWay,
     bookmark: Bookmark,
     r: usize,
     other: usize,
 ) -> Verdict
-    ensures { λ v. ⌜ v ≡ verdict (requestRows mostNotes (now (cells .entry)) tracks (now (theme .entry)) ++ pageRows (rangeOf way) (columnsIn (now (cells .entry)) tracks) bookmark r other) ⌝ }
+    ensures { λ v. ⌜ v ≡ verdict (requestRows mostNotes (now (cells .entry)) tracks (now (theme .entry)) ++ pageRows (rangeAs way) (columnsIn (now (cells .entry)) tracks) bookmark r other) ⌝ }
 {
     if let Verdict::Refused(e) = check_request(cells, tracks, theme, MOST_NOTES) {
         return Verdict::Refused(e);
@@ -77,7 +78,7 @@ pub fn check_quick(
         return refused(8, 0);
     }
     let n = columns_in(cells, tracks);
-    check_page(way, n, bookmark, r, other)
+    check_page(AnyWay::Moved(way), n, bookmark, r, other)
 }
 
 // The verdict that turns away, by the number and the place.
@@ -101,8 +102,8 @@ pub fn check_theme(theme: &[u8], most: usize) -> Verdict
 }
 
 // Refusals 9 and 10: the room of the two buffers, and the bookmark.
-pub fn check_page(way: Way, n: usize, bookmark: Bookmark, r: usize, other: usize) -> Verdict
-    ensures { λ v. ⌜ v ≡ verdict (pageRows (rangeOf way) n bookmark r other) ⌝ }
+pub fn check_page(way: AnyWay, n: usize, bookmark: Bookmark, r: usize, other: usize) -> Verdict
+    ensures { λ v. ⌜ v ≡ verdict (pageRows (rangeAs way) n bookmark r other) ⌝ }
 {
     if (r == 0) | (other != r) {
         return refused(9, 0);
@@ -125,11 +126,11 @@ fn outside(column: Column, n: usize) -> bool
 }
 
 // Whether the bookmark has no column, or no shift, that a bookmark may have.
-fn bad_bookmark(way: Way, n: usize, bookmark: Bookmark) -> bool
-    ensures { λ r. ⌜ r ≡ row10 (rangeOf way) n bookmark .applies ⌝ }
+fn bad_bookmark(way: AnyWay, n: usize, bookmark: Bookmark) -> bool
+    ensures { λ r. ⌜ r ≡ row10 (rangeAs way) n bookmark .applies ⌝ }
 {
     let column = bookmark.column;
-    outside(column, n) | out_of_range(way, bookmark.shift)
+    outside(column, n) | out_as(way, bookmark.shift)
 }
 
 // Whether some note is bad. All are gone through whatever is found, so that many can be looked at together.

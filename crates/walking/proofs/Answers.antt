@@ -22,6 +22,7 @@ use Rattle.score.proofs.Columns.{columns-whole}
 use Rattle.score.proofs.Judged.{Clear, judge-clear, judge-clear-of, judge-both, verdict-clear}
 use Rattle.score.proofs.Judging.{judge-away}
 use Rattle.ways.specs.declared.way.Way.{Way}
+use Rattle.ways.specs.declared.way.AnyWay.the-variants.{Moved}
 use Rattle.ways.specs.declared.bookmark.Bookmark.{Bookmark}
 use Rattle.ways.specs.Bookmarks.{keyOf}
 use Rattle.asking.specs.Limits.{mostNotes}
@@ -166,8 +167,8 @@ module _ (rows : List Row) (way : Way) (score : List (List ℕ)) (theme : List �
 -- ---- what the checks let pass
 
 module _ (cells : List ℕ) (h : ℕ) (theme : List ℕ) (way : Way) (b : Bookmark) (columns : List ℕ) (shifts : List ℤ) where
-  pub plain-asks : {v : Verdict} → v ≡ verdict (plainRows cells h theme way b columns shifts) → v ≡ Passed → PlainAsks cells h theme way b columns shifts
-  plain-asks a v = plain-clear cells h theme way b columns shifts .1 (verdict-clear (plainRows cells h theme way b columns shifts) (sym a ∙ v))
+  pub plain-asks : {v : Verdict} → v ≡ verdict (plainRows cells h theme (Moved way) b columns shifts) → v ≡ Passed → PlainAsks cells h theme (Moved way) b columns shifts
+  plain-asks a v = plain-clear cells h theme (Moved way) b columns shifts .1 (verdict-clear (plainRows cells h theme (Moved way) b columns shifts) (sym a ∙ v))
 
 module _ (cells : List ℕ) (h : ℕ) (theme : List ℕ) (way : Way) (b : Bookmark) (sets table columns : List ℕ) (shifts : List ℤ) where
   abbrev rows : List Row

@@ -10,6 +10,7 @@ use Rattle.theory.specs.Pages.{pageHits, pageLooks, from}
 use Rattle.score.specs.Score.{scoreOf}
 use Rattle.score.specs.Refusals.{Row, judge}
 use Rattle.ways.specs.declared.way.Way.{Way}
+use Rattle.ways.specs.declared.way.AnyWay.the-variants.{Moved}
 use Rattle.ways.specs.declared.bookmark.Bookmark.{Bookmark}
 use Rattle.ways.specs.Way.{shiftOf}
 use Rattle.ways.specs.Bookmarks.{keyOf}
@@ -53,7 +54,7 @@ module _ (rows : List Row) (way : Way) (score : List (List ℕ)) (theme : List �
 abbrev pub PlainWalks : (cells : List ℕ) (h : ℕ) (theme : List ℕ) → Way → Bookmark → (columns : List ℕ) (shifts : List ℤ)
     → (answer : Walk) (columns′ : List ℕ) (shifts′ : List ℤ) → Type 0
 PlainWalks cells h theme way b columns shifts =
-    Finds (plainRows cells h theme way b columns shifts) way (scoreOf cells h) theme (starts way (scoreOf cells h) theme) b columns shifts
+    Finds (plainRows cells h theme (Moved way) b columns shifts) way (scoreOf cells h) theme (starts way (scoreOf cells h) theme) b columns shifts
 
 -- the quick way reaches the starts at candidates: refusals 1 to 10; an accepted walk leaves the theme's table
 pub record QuickWalks (cells : List ℕ) (h : ℕ) (theme : List ℕ) (way : Way) (b : Bookmark) (sets table columns : List ℕ) (shifts : List ℤ)

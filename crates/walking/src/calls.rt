@@ -8,6 +8,7 @@ use asking::check_quick;
 use filter::fill_table;
 use score::Refusal;
 use score::Verdict;
+use ways::AnyWay;
 use ways::Bookmark;
 use ways::Way;
 ghost use Rattle.walking.specs.Found.{PlainWalks, QuickWalks};
@@ -36,7 +37,7 @@ pub fn walk_plain(
         cells,
         tracks,
         theme,
-        way,
+        AnyWay::Moved(way),
         bookmark,
         columns.len(),
         shifts.len(),

@@ -11,6 +11,7 @@ use crate::walked::begin;
 use crate::walked::go_on;
 use score::Column;
 use score::columns_in;
+use ways::AnyWay;
 use ways::Bookmark;
 use ways::Way;
 ghost use mathlib.Core.Path.{_≡_};
@@ -101,7 +102,7 @@ pub fn walk_every(
     columns: &mut [u16],
     shifts: &mut [i16],
 ) -> Walked
-    requires { ⌜ PlainAsks (now cells) h (now theme) way bookmark (now columns) (now shifts) ⌝ }
+    requires { ⌜ PlainAsks (now cells) h (now theme) (AnyWay.Moved way) bookmark (now columns) (now shifts) ⌝ }
     ensures { λ r. ⌜ WalksEvery way (now (cells .entry)) h (now (theme .entry)) bookmark
         (now (columns .entry)) (now (shifts .entry)) r (now (columns .exit)) (now (shifts .exit)) ⌝ }
 {

@@ -6,7 +6,8 @@ use lib.Dec.{leb}
 use lib.IntN.{ℤ, pos, _+ℤ_}
 use lib.Signed.{ltZ}
 use Rattle.ways.specs.declared.way.Way.{Way}
-use Rattle.ways.specs.Way.{lowest, highest, codeOf, shiftOf}
+use Rattle.ways.specs.declared.way.AnyWay.{AnyWay}
+use Rattle.ways.specs.Way.{lowest, highest, codeOf, shiftOf, rangeAs}
 
 abbrev pub outside : (shift low high : ℤ) → Bool
 outside shift low high = ltZ shift low || ltZ high shift
@@ -14,6 +15,10 @@ outside shift low high = ltZ shift low || ltZ high shift
 -- no bookmark may have the shift: it is below the way's lowest, or more than one above its highest
 abbrev pub outOfRange : Way → (shift : ℤ) → Bool
 outOfRange way shift = outside shift (lowest way) (highest way +ℤ pos 1)
+
+-- the same of all ways
+abbrev pub outAs : AnyWay → (shift : ℤ) → Bool
+outAs way shift = outside shift (rangeAs way .lowest) (rangeAs way .highest +ℤ pos 1)
 
 -- the shift's code, and 0 where no bookmark may have the shift
 abbrev pub codeGiven : Way → (shift : ℤ) → ℕ

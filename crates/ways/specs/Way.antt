@@ -12,6 +12,8 @@ use Rattle.score.specs.Score.{pitches}
 use Rattle.score.specs.Sets.{Twelves}
 use Rattle.ways.specs.declared.way.Way.{Way}
 use Rattle.ways.specs.declared.way.Way.the-variants.{Exact, Octave}
+use Rattle.ways.specs.declared.way.AnyWay.{AnyWay}
+use Rattle.ways.specs.declared.way.AnyWay.the-variants.{Moved, Written}
 
 -- ---- the published definition
 
@@ -47,6 +49,11 @@ pub record Range : Type 0 where
 
 abbrev pub rangeOf : Way → Range
 rangeOf way = record { lowest = lowest way; highest = highest way }
+
+-- of all ways: written has the shift 0 alone
+abbrev pub rangeAs : AnyWay → Range
+rangeAs (Moved way) = rangeOf way
+rangeAs Written = record { lowest = pos 0; highest = pos 0 }
 
 -- ---- by codes: a shift counted from the lowest, so that all reasoning is on natural numbers
 

@@ -1,11 +1,11 @@
 // A found place, and where a search goes on.
 
-use crate::codes::lowest_of;
+use crate::codes::lowest_as;
 use crate::codes::raised;
-use crate::way::Way;
+use crate::way::AnyWay;
 use score::Column;
 ghost use mathlib.Core.Path.{_≡_};
-ghost use Rattle.ways.specs.Way.{rangeOf};
+ghost use Rattle.ways.specs.Way.{rangeAs};
 ghost use Rattle.ways.specs.Bookmarks.{firstBookmark, afterPair, finishedBookmark};
 
 // The theme stands at this column with this shift: score minus theme.
@@ -22,10 +22,10 @@ pub struct Bookmark {
 
 impl Bookmark {
     // Where a list begins: column 1, and the way's lowest shift.
-    pub fn first(way: Way) -> Bookmark
-        ensures { λ r. ⌜ r ≡ firstBookmark (rangeOf way) ⌝ }
+    pub fn first(way: AnyWay) -> Bookmark
+        ensures { λ r. ⌜ r ≡ firstBookmark (rangeAs way) ⌝ }
     {
-        let shift = lowest_of(way);
+        let shift = lowest_as(way);
         Bookmark {
             column: Column(1),
             shift,
@@ -42,10 +42,10 @@ impl Bookmark {
     }
 
     // Past the last column, with the way's lowest shift. A last column of 65,535, which no score has, stays.
-    pub fn finished(way: Way, last: Column) -> Bookmark
-        ensures { λ r. ⌜ r ≡ finishedBookmark (rangeOf way) last ⌝ }
+    pub fn finished(way: AnyWay, last: Column) -> Bookmark
+        ensures { λ r. ⌜ r ≡ finishedBookmark (rangeAs way) last ⌝ }
     {
-        let shift = lowest_of(way);
+        let shift = lowest_as(way);
         let n = last.0;
         if n < 65535 {
             return Bookmark {

@@ -8,13 +8,16 @@ use crate::limits::HIGHEST_CODE;
 use crate::limits::OCTAVE_LOWEST;
 use crate::limits::OCTAVE_PAST;
 use crate::limits::OCTAVE_SHIFTS;
+use crate::limits::WRITTEN_PAST;
+use crate::limits::WRITTEN_SHIFT;
+use crate::way::AnyWay;
 use crate::way::Way;
 ghost use mathlib.Core.Path.{_≡_};
 ghost use mathlib.Core.Bool.{cond};
 ghost use lib.IntN.{pos, _+ℤ_};
 ghost use lib.Signed.{ltZ};
-ghost use Rattle.ways.specs.Way.{lowest, span};
-ghost use Rattle.ways.specs.Codes.{outside, outOfRange, codeGiven, shiftGiven};
+ghost use Rattle.ways.specs.Way.{lowest, span, rangeAs};
+ghost use Rattle.ways.specs.Codes.{outside, outOfRange, outAs, codeGiven, shiftGiven};
 
 // How many shifts the way has.
 pub fn span_of(way: Way) -> u16
@@ -33,6 +36,16 @@ pub fn lowest_of(way: Way) -> i16
     match way {
         Way::Exact => EXACT_LOWEST,
         Way::Octave => OCTAVE_LOWEST,
+    }
+}
+
+// The lowest shift of any way.
+pub fn lowest_as(way: AnyWay) -> i16
+    ensures { λ r. ⌜ r ≡ rangeAs way .lowest ⌝ }
+{
+    match way {
+        AnyWay::Moved(w) => lowest_of(w),
+        AnyWay::Written => WRITTEN_SHIFT,
     }
 }
 
@@ -60,6 +73,16 @@ pub fn out_of_range(way: Way, shift: i16) -> bool
     match way {
         Way::Exact => outside(shift, EXACT_LOWEST, EXACT_PAST),
         Way::Octave => outside(shift, OCTAVE_LOWEST, OCTAVE_PAST),
+    }
+}
+
+// The same of any way.
+pub fn out_as(way: AnyWay, shift: i16) -> bool
+    ensures { λ r. ⌜ r ≡ outAs way shift ⌝ }
+{
+    match way {
+        AnyWay::Moved(w) => out_of_range(w, shift),
+        AnyWay::Written => outside(shift, WRITTEN_SHIFT, WRITTEN_PAST),
     }
 }
 

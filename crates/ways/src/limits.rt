@@ -15,5 +15,10 @@ pub const OCTAVE_PAST: i16 = 12;
 
 pub const OCTAVE_SHIFTS: u16 = 12;
 
+// The one shift of written, and the one above it.
+pub const WRITTEN_SHIFT: i16 = 0;
+
+pub const WRITTEN_PAST: i16 = 1;
+
 // The highest code that a bookmark has.
 pub const HIGHEST_CODE: u16 = 255;

@@ -19,6 +19,7 @@ use Rattle.theory.proofs.Looks.{page-looks-le, sum-hits, sum-from}
 use Rattle.score.specs.Score.{columnsIn, scoreOf}
 use Rattle.score.proofs.Columns.{column-le, score-length}
 use Rattle.ways.specs.declared.way.Way.{Way}
+use Rattle.ways.specs.declared.way.AnyWay.the-variants.{Moved}
 use Rattle.ways.specs.declared.bookmark.Bookmark.{Bookmark}
 use Rattle.ways.specs.Way.{span, codeOf}
 use Rattle.ways.specs.Codes.{codeGiven}
@@ -183,7 +184,7 @@ abbrev pub spotKey : Spot → ℕ
 spotKey spot = spot .column .0 * 256 + spot .code
 
 module _ {cells : List ℕ} {h : ℕ} {theme : List ℕ} {way : Way} {b : Bookmark} {columns : List ℕ} {shifts : List ℤ}
-    (a : PlainAsks cells h theme way b columns shifts) {spot : Spot} (e : spot ≡ begun way b) where
+    (a : PlainAsks cells h theme (Moved way) b columns shifts) {spot : Spot} (e : spot ≡ begun way b) where
   code-is : codeGiven way (b .shift) ≡ codeOf way (b .shift)
   code-is = code-given way (b .shift) (a .marked .not-below) (a .marked .not-above)
 

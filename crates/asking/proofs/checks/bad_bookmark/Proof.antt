@@ -8,11 +8,11 @@ use Rattle.asking.proofs.checks.bad_bookmark.Tie as tie
 outside-requires : tie.Need-outside-requires
 outside-requires c κs = search needs
 
-out-of-range-requires : tie.Need-out-of-range-requires
-out-of-range-requires c κs = search needs
+out-as-requires : tie.Need-out-as-requires
+out-as-requires c κs = search needs
 
 returns : tie.Need-returns
-returns c = rw (c .before .before .outside .ensures, c .out-of-range .ensures, or-assoc) (search needs)
+returns c = rw (c .before .before .outside .ensures, c .out-as .ensures, or-assoc) (search needs)
 
 pub bad-bookmark-spec : {M : Type 1} → statement M
-bad-bookmark-spec = tie.close (tie.spec outside-requires out-of-range-requires returns)
+bad-bookmark-spec = tie.close (tie.spec outside-requires out-as-requires returns)

@@ -2,7 +2,7 @@
 -- nothing.
 use borrow.Author.Needs.{needs}
 use Rattle.score.specs.Score.{columnsIn}
-use Rattle.ways.specs.Way.{rangeOf}
+use Rattle.ways.specs.Way.{rangeAs}
 use Rattle.asking.specs.Limits.{mostNotes}
 use Rattle.asking.specs.Refusals.{requestRows, pageRows}
 use Rattle.asking.proofs.checks.Laws.{turned-away, gone-on}
@@ -20,7 +20,7 @@ returns c =
     let k = c .before .before .before in
     let a = k .before .before .before .args in
     turned-away (requestRows mostNotes (a .cells .now) (a .tracks) (a .theme .now))
-    (pageRows (rangeOf (a .way)) (columnsIn (a .cells .now) (a .tracks)) (a .bookmark) (a .r) (a .other)) (k .check-request .ensures) (c .before .e .given .1)
+    (pageRows (rangeAs (a .way)) (columnsIn (a .cells .now) (a .tracks)) (a .bookmark) (a .r) (a .other)) (k .check-request .ensures) (c .before .e .given .1)
 
 enum-told : tie.Need-enum-told
 enum-told c = search needs
@@ -36,7 +36,7 @@ returns-2 c =
     let k = c .before .before .before .before in
     let a = k .before .before .before .args in
     gone-on (requestRows mostNotes (a .cells .now) (a .tracks) (a .theme .now))
-    (pageRows (rangeOf (a .way)) (columnsIn (a .cells .now) (a .tracks)) (a .bookmark) (a .r) (a .other)) (k .check-request .ensures) (c .before .before .enum-told .given .1)
+    (pageRows (rangeAs (a .way)) (columnsIn (a .cells .now) (a .tracks)) (a .bookmark) (a .r) (a .other)) (k .check-request .ensures) (c .before .before .enum-told .given .1)
     (rw (c .before .columns-in .ensures) at (c .check-page .ensures))
 
 pub check-plain-spec : {M : Type 1} → statement M

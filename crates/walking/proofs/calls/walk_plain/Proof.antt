@@ -1,6 +1,7 @@
 -- `walking::calls::walk_plain` meets its contract: the checks turn away, or what is asked is accepted and the walk along every column is made.
 -- Assumes nothing.
 use borrow.Author.Needs.{needs}
+use Rattle.ways.specs.declared.way.AnyWay.the-variants.{Moved}
 use Rattle.asking.specs.Asking.{PlainAsks}
 use Rattle.asking.proofs.Rows.{plain-clear}
 use Rattle.walking.proofs.Answers.{finds-away, finds-done, plain-asks}
@@ -21,7 +22,7 @@ enum-told c = search needs
 
 -- what is asked is accepted
 asked : (c : tie.After-enum-told) → let a = c .before .before .before .before .before .before .args in PlainAsks (a .cells .now) (a .tracks)
-    (a .theme .now) (a .way) (a .bookmark) (a .columns .now) (a .shifts .now)
+    (a .theme .now) (Moved (a .way)) (a .bookmark) (a .columns .now) (a .shifts .now)
 asked c =
     let a = c .before .before .before .before .before .before .args in
     plain-asks (a .cells .now) (a .tracks) (a .theme .now) (a .way) (a .bookmark) (a .columns .now) (a .shifts .now)

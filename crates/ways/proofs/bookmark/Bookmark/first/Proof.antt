@@ -6,11 +6,11 @@ use mir.Facts.{toZ-ofZ}
 use Rattle.ways.proofs.bookmark.Bookmark.first.Statement.{statement}
 use Rattle.ways.proofs.bookmark.Bookmark.first.Tie as tie
 
-lowest-of-requires : tie.Need-lowest-of-requires
-lowest-of-requires c κs = search needs
+lowest-as-requires : tie.Need-lowest-as-requires
+lowest-as-requires c κs = search needs
 
 returns : tie.Need-returns
-returns c = rw (toZ-ofZ {w = w16} (record { sfits = c .lowest-of .ok }), c .lowest-of .ensures)
+returns c = rw (toZ-ofZ {w = w16} (record { sfits = c .lowest-as .ok }), c .lowest-as .ensures)
 
 pub first-spec : {M : Type 1} → statement M
-first-spec = tie.close (tie.spec lowest-of-requires returns)
+first-spec = tie.close (tie.spec lowest-as-requires returns)
