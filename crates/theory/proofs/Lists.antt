@@ -7,9 +7,12 @@ use mathlib.Core.List.{List, [], _∷_, _++_, map, append-assoc, append-nil, map
 use Prim.Native.Nat.{ℕ, zero, suc, _+_, _-_, _≤_, _<_, zero-le, suc-le-suc}
 use native.Mathlib.Nat.{eq-or-lt-of-le, lt-irrefl, le-refl, not-suc-le-zero, le-of-suc-le-suc, add-zero}
 use native.Mathlib.Numerals.{add-one}
+use native.Mathlib.Decide.{decLt}
 use native.Mathlib.Omega.{arith}
-use lib.ListN.{length, drop, getD, set, length-append, length-drop, length-map}
+use lib.Dec.{ltb}
+use lib.ListN.{length, drop, getD, set, length-append, length-drop, length-map, List·getD-eq-default}
 use lib.Seq.{drop-cons, drop-at, set-at, getD-set-same, getD-set-other, sets}
+use borrow.Author.Tests.{ltb-false}
 use Rattle.theory.specs.Lists.{over, count, some, first, join}
 
 -- ---- over
@@ -182,3 +185,12 @@ count-append a (suc m) n =
     let e : suc m + n ≡ suc (m + n) = omega arith in
     let f : a + suc m ≡ suc a + m = omega arith in
     rw (e, f) (ap (λ (l : List ℕ). a ∷ l) (count-append (suc a) m n))
+
+-- ---- a bound that no entry breaks
+
+pub none-over : (limit : ℕ) (xs : List ℕ) → some (λ x. ltb limit x) xs ≡ false → (i : ℕ) → getD xs i 0 ≤ limit
+none-over limit xs e i = pick (decLt i (length xs))
+  where
+    pick : Dec (i < length xs) → getD xs i 0 ≤ limit
+    pick (yes h) = ltb-false limit (getD xs i 0) (some-none (λ x. ltb limit x) xs 0 e i h)
+    pick (no h) = subst (λ (n : ℕ). n ≤ limit) (sym (List·getD-eq-default xs 0 {n = i} (omega arith))) zero-le

@@ -1,18 +1,14 @@
 -- The two walks of a page. What is accepted is what a walk asks for; each way out of a call is what its definition says;
 -- and what an answer tells: a refused call is refused by its rows, and one that is done was asked right. Assumes nothing.
-use mathlib.Core.Path.{_≡_, sym, ap, ap₂, _∙_, subst}
+use mathlib.Core.Path.{_≡_, sym, ap, ap₂, _∙_}
 use mathlib.Core.Bool.{Bool, true, false, true≢false}
 use mathlib.Core.List.{List}
-use Prim.Native.Nat.{ℕ, _+_, _≤_, _<_, zero-le}
-use native.Mathlib.Decide.{decLt}
+use Prim.Native.Nat.{ℕ, _+_, _≤_, _<_}
 use native.Mathlib.Omega.{arith}
-use lib.Dec.{ltb}
 use lib.IntN.{ℤ}
-use lib.ListN.{length, getD, List·getD-eq-default}
-use borrow.Author.Tests.{ltb-false}
-use Rattle.theory.specs.Lists.{some}
+use lib.ListN.{length, getD}
 use Rattle.theory.specs.Pages.{from}
-use Rattle.theory.proofs.Lists.{some-none}
+use Rattle.theory.proofs.Lists.{none-over}
 use Rattle.score.specs.declared.refusals.Refusal.{Refusal}
 use Rattle.score.specs.declared.refusals.Verdict.{Verdict}
 use Rattle.score.specs.declared.refusals.Verdict.the-variants.{Accepted as Passed, Refused as Away}
@@ -41,14 +37,6 @@ use Rattle.walking.specs.Walk.{Ready, endOf, Walks}
 
 -- ---- what is accepted is what a walk asks for
 
--- a bound that no entry breaks
-small : (limit : ℕ) (xs : List ℕ) → some (λ x. ltb limit x) xs ≡ false → (i : ℕ) → getD xs i 0 ≤ limit
-small limit xs e i = pick (decLt i (length xs))
-  where
-    pick : Dec (i < length xs) → getD xs i 0 ≤ limit
-    pick (yes h) = ltb-false limit (getD xs i 0) (some-none (λ x. ltb limit x) xs 0 e i h)
-    pick (no h) = subst (λ (n : ℕ). n ≤ limit) (sym (List·getD-eq-default xs 0 {n = i} (omega arith))) zero-le
-
 pub accepted-ready : {cells : List ℕ} {h : ℕ} {theme : List ℕ} → Accepted mostNotes cells h theme → Ready cells h theme
 accepted-ready {cells} {h} {theme} a =
     record {
@@ -58,7 +46,7 @@ accepted-ready {cells} {h} {theme} a =
       columns-most = a .columns-few;
       notes = a .notes-some;
       notes-most = a .notes-few;
-      sung = small 127 theme (a .notes-good);
+      sung = none-over 127 theme (a .notes-good);
     }
 
 module _ {cells : List ℕ} {h : ℕ} {theme : List ℕ} {way : Way} {b : Bookmark} {sets table columns : List ℕ} {shifts : List ℤ}
@@ -67,7 +55,7 @@ module _ {cells : List ℕ} {h : ℕ} {theme : List ℕ} {way : Way} {b : Bookma
   asked-sets = omega (arith, a .with-sets .one-less, a .plain .accepted .columns-some)
 
   pub asked-small : (k : ℕ) → getD sets k 0 < 4096
-  asked-small k = let q : getD sets k 0 ≤ 4095 = small 4095 sets (a .with-sets .sets-good) k in omega arith
+  asked-small k = let q : getD sets k 0 ≤ 4095 = none-over 4095 sets (a .with-sets .sets-good) k in omega arith
 
   pub asked-lent : {j end : ℕ} → 1 ≤ j → j < end → end ≡ endOf cells h theme → Lent sets table (length theme) j end
   asked-lent first more e =

@@ -44,15 +44,6 @@ use Rattle.walking.proofs.starts.Trying.{column-cells}
 
 -- ---- a word's codes
 
-pub both-left : (a b : Bool) → (a && b) ≡ true → a ≡ true
-both-left true b e = refl
-both-left false b e = e
-
-pub both-right : (a b : Bool) → (a && b) ≡ true → b ≡ true
-both-right true b e = e
-both-right false true e = refl
-both-right false false e = e
-
 -- a word of either way is one of 128 bits
 pub word-small : (way : Way) (word : ℕ) → word < 2 ^ width way → word < 2 ^ 128
 word-small way word s = lt-of-lt-of-le s (pow-mono (width-le way))

@@ -7,7 +7,7 @@ use mathlib.Core.Logic.{⊎-elim}
 use native.Mathlib.Omega.{arith}
 use Rattle.masks.proofs.Halves.{Halves, value-ones-le, value-ones}
 use Rattle.walking.specs.Alive.{Cached}
-use Rattle.walking.proofs.alive.Laws.{both-left}
+use Rattle.theory.proofs.Either.{both-left}
 use Rattle.walking.proofs.alive.AtOnce.{at-once}
 use Rattle.walking.proofs.alive.try_all.Statement.{statement}
 use Rattle.walking.proofs.alive.try_all.Tie as tie

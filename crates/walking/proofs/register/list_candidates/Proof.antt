@@ -7,7 +7,7 @@ use mathlib.Core.Path.{_≡_}
 use mathlib.Core.Bool.{Bool, true, false, cond}
 use Prim.Native.Nat.{ℕ, _+_, _-_, _≤_, _<_, zero-le}
 use lib.Dec.{ltb}
-use Rattle.walking.proofs.alive.Laws.{both-left, both-right}
+use Rattle.theory.proofs.Either.{both-left, both-right}
 use Rattle.walking.proofs.register.Laws.{lent-on, Listing, list-start, list-long, list-turn, list-end}
 use Rattle.walking.proofs.register.list_candidates.Statement.{statement}
 use Rattle.walking.proofs.register.list_candidates.Tie as tie

@@ -8,7 +8,7 @@ use native.Mathlib.Omega.{arith}
 use lib.ListN.{length}
 use Rattle.score.specs.Score.{scoreOf}
 use Rattle.walking.specs.Alive.{Cached}
-use Rattle.walking.proofs.alive.Laws.{both-left}
+use Rattle.theory.proofs.Either.{both-left}
 use Rattle.walking.proofs.walk.Trying.{Trying, along-start, along-over, along-stands, along-bound, along-turn}
 use Rattle.walking.proofs.walk.walk_along.Statement.{statement}
 use Rattle.walking.proofs.walk.walk_along.Tie as tie

@@ -18,7 +18,7 @@ use Rattle.walking.specs.Walk.{endOf, listed}
 use Rattle.walking.specs.Alive.{Cached}
 use Rattle.walking.proofs.Answers.{accepted-ready, asked-sets, asked-small, asked-lent}
 use Rattle.walking.proofs.ring.Laws.{cached-none}
-use Rattle.walking.proofs.alive.Laws.{both-left, both-right}
+use Rattle.theory.proofs.Either.{both-left, both-right}
 use Rattle.walking.proofs.register.Laws.{warmed-filters}
 use Rattle.walking.proofs.walk.Walking.{Walking, spotKey, begun-key, begun-first, quick-start, turn-asks, turn-bound, turn-on, walk-over}
 use Rattle.walking.proofs.walk.Walking.{candidates-long, candidates-turn}

@@ -15,7 +15,7 @@ use Rattle.walking.specs.Walk.{endOf, listed}
 use Rattle.walking.specs.Alive.{Cached}
 use Rattle.walking.proofs.Answers.{accepted-ready}
 use Rattle.walking.proofs.ring.Laws.{cached-none}
-use Rattle.walking.proofs.alive.Laws.{both-left}
+use Rattle.theory.proofs.Either.{both-left}
 use Rattle.walking.proofs.walk.Walking.{Walking, spotKey, begun-key, every-start, turn-asks, turn-bound, turn-on, walk-over, every-long, every-turn}
 use Rattle.walking.proofs.walk.walk_every.Statement.{statement}
 use Rattle.walking.proofs.walk.walk_every.Tie as tie
