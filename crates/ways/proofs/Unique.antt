@@ -7,7 +7,7 @@ use Rattle.ways.proofs.bookmark.Bookmark.first
 use Rattle.ways.proofs.bookmark.Bookmark.after
 use Rattle.ways.proofs.bookmark.Bookmark.finished
 use Rattle.ways.proofs.codes.span_of
-use Rattle.ways.proofs.codes.out_of_range
+use Rattle.ways.proofs.codes.out_as
 use Rattle.ways.proofs.codes.code_of
 use Rattle.ways.proofs.codes.shift_of
 
@@ -23,8 +23,8 @@ bookmark-finished-unique κs args x y = (settled-unique (x .meets) (y .meets), r
 pub span-of-unique : Settles span_of.Kinds.ps span_of.Kinds.r span_of.Reads.Post
 span-of-unique κs args x y = (settled-unique (x .meets) (y .meets), refl)
 
-pub out-of-range-unique : Settles out_of_range.Kinds.ps out_of_range.Kinds.r out_of_range.Reads.Post
-out-of-range-unique κs args x y = (settled-unique (x .meets) (y .meets), refl)
+pub out-as-unique : Settles out_as.Kinds.ps out_as.Kinds.r out_as.Reads.Post
+out-as-unique κs args x y = (settled-unique (x .meets) (y .meets), refl)
 
 pub code-of-unique : Settles code_of.Kinds.ps code_of.Kinds.r code_of.Reads.Post
 code-of-unique κs args x y = (settled-unique (x .meets) (y .meets), refl)
