@@ -19,6 +19,7 @@ use Rattle.score.proofs.Columns.{score-length}
 use Rattle.score.proofs.IntervalSets.{sets-length, sets-lt}
 use Rattle.score.proofs.Judged.{clear-append, judge-skip}
 use Rattle.ways.specs.declared.way.Way.{Way}
+use Rattle.ways.specs.declared.way.AnyWay.the-variants.{Moved}
 use Rattle.ways.specs.declared.bookmark.Pair.{Pair}
 use Rattle.ways.specs.declared.bookmark.Bookmark.{Bookmark}
 use Rattle.ways.specs.Way.{rangeOf}
@@ -89,7 +90,7 @@ module _ (cells : List ℕ) (h : ℕ) (theme : List ℕ) (way : Way) (a : Accept
     abbrev lastRows : List Row
     lastRows = pageRows (rangeOf way) (columnsIn cells h) b (length (buffers .columns)) (length (buffers .shifts))
 
-    plain-skip : plainPage cells h theme way b buffers ≡ paged lastRows (plainSearch way score theme) b buffers
+    plain-skip : plainPage cells h theme (Moved way) b buffers ≡ paged lastRows (plainSearch way score theme) b buffers
     unfolding plainPage
     plain-skip =
         judge-skip (away buffers) (leaf (plainSearch way score theme) b buffers) (requestRows mostNotes cells h theme) lastRows (accepted-clear mostNotes cells h theme .0 a)
@@ -104,5 +105,5 @@ module _ (cells : List ℕ) (h : ℕ) (theme : List ℕ) (way : Way) (a : Accept
         (sets-clear cells h (sets score) table .0 (own-sets, e)))
 
     pub quick-same : (table : List ℕ) → length table ≡ tableWords
-        → SamePage (quickPage cells h theme way b (sets score) table buffers) (plainPage cells h theme way b buffers)
+        → SamePage (quickPage cells h theme way b (sets score) table buffers) (plainPage cells h theme (Moved way) b buffers)
     quick-same table e = rw (quick-skip table e, plain-skip) (same-paged keep (plainSearch way score theme) kept lastRows b buffers)

@@ -1,4 +1,4 @@
--- The plain and the quick search are right searches, and their calls turn the pages of them: all that `paging` asks. The quick search leaves
+-- The plain and the quick searches are right searches, and their calls turn the pages of them: all that `paging` asks. The quick search leaves
 -- out starts of the plain one. Assumes nothing.
 use mathlib.Core.Path.{_≡_, refl, sym, ap, _∙_, subst}
 use mathlib.Core.Bool.{Bool}
@@ -11,9 +11,11 @@ use Rattle.score.specs.Limits.{tableWords}
 use Rattle.score.specs.Score.{scoreOf}
 use Rattle.score.proofs.Columns.{score-length}
 use Rattle.ways.specs.declared.way.Way.{Way}
+use Rattle.ways.specs.declared.way.AnyWay.{AnyWay}
+use Rattle.ways.specs.declared.way.AnyWay.the-variants.{Moved, Written}
 use Rattle.ways.specs.declared.way.Way.the-variants.{Exact, Octave}
 use Rattle.ways.specs.declared.bookmark.Bookmark.{Bookmark}
-use Rattle.ways.specs.Way.{rangeOf}
+use Rattle.ways.specs.Way.{rangeOf, rangeAs}
 use Rattle.ways.proofs.Shifts.{shift-above, shift-below}
 use Rattle.asking.specs.Limits.{mostNotes}
 use Rattle.asking.specs.Asking.{Accepted, AcceptedSets, InRange, PlainAsks, QuickAsks}
@@ -29,7 +31,8 @@ use Rattle.paging.proofs.Paging.{Calls}
 use Rattle.walking.specs.Starts.{Place, starts}
 use Rattle.walking.specs.Candidates.{candidate}
 use Rattle.walking.proofs.Order.{in-starts}
-use Rattle.search.specs.Pairs.{pairAt, plainSearch, quickSearch}
+use Rattle.written.proofs.Listed.{written-right}
+use Rattle.search.specs.Pairs.{pairAt, plainSearch, quickSearch, searchAs}
 use Rattle.search.specs.Page.{rowsOfPlain, plainPage, rowsOfQuick, quickPage}
 use Rattle.search.proofs.Listed.{starts-ordered}
 
@@ -58,44 +61,50 @@ module _ (way : Way) (score : List (List ℕ)) (theme : List ℕ) (notes : 2 ≤
   pub quick-right : (w : ℕ) (table sets : List ℕ) → Right (quickSearch w way score theme table sets)
   quick-right w table sets = only-right (λ s. candidate w table sets (length theme) (s .column)) (plainSearch way score theme) plain-right
 
+-- all ways
+pub right-as : (way : AnyWay) (score : List (List ℕ)) (theme : List ℕ) → 2 ≤ length theme → length score < 65535 → Right (searchAs way score theme)
+right-as (Moved way) score theme notes few = plain-right way score theme notes few
+right-as Written score theme notes few = written-right score theme notes few
+
 -- ---- the calls
 
-module _ (cells : List ℕ) (h : ℕ) (theme : List ℕ) (way : Way) (a : Accepted mostNotes cells h theme) (r : ℕ) (room : 1 ≤ r) where
+module _ (cells : List ℕ) (h : ℕ) (theme : List ℕ) (way : AnyWay) (a : Accepted mostNotes cells h theme) (r : ℕ) (room : 1 ≤ r) where
   score-few : length (scoreOf cells h) < 65535
   score-few = omega (arith, score-length cells h, a .columns-few)
 
-  asks : (b : Bookmark) (buffers : Lent) → InRange (rangeOf way) (length (scoreOf cells h)) b → Room r buffers
+  asks : (b : Bookmark) (buffers : Lent) → InRange (rangeAs way) (length (scoreOf cells h)) b → Room r buffers
       → PlainAsks cells h theme way b (buffers .columns) (buffers .shifts)
   asks b buffers i m =
       record {
         accepted = a;
         room = omega (arith, m .of-columns);
         same-room = m .of-shifts ∙ sym (m .of-columns);
-        marked = subst (λ (n : ℕ). InRange (rangeOf way) n b) (score-length cells h) i;
+        marked = subst (λ (n : ℕ). InRange (rangeAs way) n b) (score-length cells h) i;
       }
 
-  pub plain-calls : Calls (plainSearch way (scoreOf cells h) theme) r (plainPage cells h theme way)
+  pub plain-calls : Calls (searchAs way (scoreOf cells h) theme) r (plainPage cells h theme way)
   unfolding plainPage
   plain-calls =
       record {
-        right = plain-right way (scoreOf cells h) theme (a .notes-some) score-few;
+        right = right-as way (scoreOf cells h) theme (a .notes-some) score-few;
         some-room = room;
-        turns = λ b buffers i m. paged-clear (rowsOfPlain cells h theme way b buffers) (plainSearch way (scoreOf cells h) theme) b buffers
+        turns = λ b buffers i m. paged-clear (rowsOfPlain cells h theme way b buffers) (searchAs way (scoreOf cells h) theme) b buffers
             (plain-clear cells h theme way b (buffers .columns) (buffers .shifts) .0 (asks b buffers i m));
       }
 
-  -- with sets that are accepted, and at each call any table of 4,096 places
-  module _ (sets : List ℕ) (s : AcceptedSets cells h sets) (table : Bookmark → Lent → List ℕ)
-      (long : (b : Bookmark) (buffers : Lent) → length (table b buffers) ≡ tableWords) where
-    pub quick-calls : Calls (quickSearch wordBits way (scoreOf cells h) theme (themeTable wordBits theme) sets) r (λ b buffers. quickPage cells h theme way b sets (table b buffers) buffers)
-    unfolding quickPage
-    quick-calls =
-        record {
-          right = quick-right way (scoreOf cells h) theme (a .notes-some) score-few wordBits (themeTable wordBits theme) sets;
-          some-room = room;
-          turns =
-              λ b buffers i m.
-              paged-clear (rowsOfQuick cells h theme way b sets (table b buffers) buffers) (quickSearch wordBits way (scoreOf cells h) theme (themeTable wordBits theme) sets) b buffers
-              (quick-clear cells h theme way b sets (table b buffers) (buffers .columns) (buffers .shifts) .0
-              (record { plain = asks b buffers i m; with-sets = s; table-long = long b buffers }));
-        }
+-- with sets that are accepted, and at each call any table of 4,096 places
+module _ (cells : List ℕ) (h : ℕ) (theme : List ℕ) (way : Way) (a : Accepted mostNotes cells h theme) (r : ℕ) (room : 1 ≤ r)
+    (sets : List ℕ) (s : AcceptedSets cells h sets) (table : Bookmark → Lent → List ℕ)
+    (long : (b : Bookmark) (buffers : Lent) → length (table b buffers) ≡ tableWords) where
+  pub quick-calls : Calls (quickSearch wordBits way (scoreOf cells h) theme (themeTable wordBits theme) sets) r (λ b buffers. quickPage cells h theme way b sets (table b buffers) buffers)
+  unfolding quickPage
+  quick-calls =
+      record {
+        right = quick-right way (scoreOf cells h) theme (a .notes-some) (score-few cells h theme (Moved way) a r room) wordBits (themeTable wordBits theme) sets;
+        some-room = room;
+        turns =
+            λ b buffers i m.
+            paged-clear (rowsOfQuick cells h theme way b sets (table b buffers) buffers) (quickSearch wordBits way (scoreOf cells h) theme (themeTable wordBits theme) sets) b buffers
+            (quick-clear cells h theme way b sets (table b buffers) (buffers .columns) (buffers .shifts) .0
+            (record { plain = asks cells h theme (Moved way) a r room b buffers i m; with-sets = s; table-long = long b buffers }));
+      }

@@ -22,14 +22,18 @@ use Prim.Native.Nat.{ℕ, _+_, _-_, _*_, _^_, _≤_, _<_}
 use native.Mathlib.Nat.{le-trans}
 use native.Mathlib.Omega.{arith}
 use lib.ListN.{length}
+use Rattle.theory.specs.Lists.{count}
+use Rattle.theory.proofs.Looks.{sum-none}
 use Rattle.score.specs.Limits.{tableWords}
 use Rattle.score.specs.Score.{columnsIn, scoreOf}
 use Rattle.score.specs.Sets.{sets}
 use Rattle.score.proofs.Columns.{score-length, column-le}
 use Rattle.ways.specs.declared.way.Way.{Way}
+use Rattle.ways.specs.declared.way.AnyWay.{AnyWay}
+use Rattle.ways.specs.declared.way.AnyWay.the-variants.{Moved, Written}
 use Rattle.ways.specs.declared.bookmark.Pair.{Pair}
 use Rattle.ways.specs.declared.bookmark.Bookmark.{Bookmark}
-use Rattle.ways.specs.Way.{rangeOf}
+use Rattle.ways.specs.Way.{rangeOf, rangeAs}
 use Rattle.ways.specs.Bookmarks.{firstBookmark}
 use Rattle.asking.specs.Limits.{mostNotes}
 use Rattle.asking.specs.Asking.{Accepted, AcceptedSets, InRange, PlainAsks}
@@ -45,7 +49,7 @@ use Rattle.paging.proofs.Readings.{search-lists}
 use Rattle.paging.proofs.OnePages.{call-page, page-within}
 use Rattle.walking.specs.Candidates.{candidate}
 use Rattle.walking.proofs.LookBound.{most-lt, sum-looks-le, sum-looks-none}
-use Rattle.search.specs.Pairs.{plainSearch, quickSearch, pairs}
+use Rattle.search.specs.Pairs.{plainSearch, quickSearch, pairs, searchAs, pairsAs}
 use Rattle.search.specs.Page.{plainPage, quickPage}
 use Rattle.search.specs.WholeList.{plainLooks, candidateLooks, mostLooks, candidatePairs}
 use Rattle.search.proofs.Searches.{plain-calls, quick-calls}
@@ -53,42 +57,47 @@ use Rattle.search.proofs.Quicker.{quick-pairs, own-sets, own-pairs}
 
 -- ---- looks: of a whole list and of a page at most `mostLooks`, which fits 32 bits
 
-module _ (cells : List ℕ) (h : ℕ) (theme : List ℕ) (way : Way) where
+module _ (cells : List ℕ) (h : ℕ) (theme : List ℕ) where
   most-is : (length (scoreOf cells h) + 1 - length theme) * h * (length theme - 1) ≡ mostLooks cells h theme
   most-is = ap (λ (n : ℕ). (n + 1 - length theme) * h * (length theme - 1)) (score-length cells h)
 
   pub most-fits : Accepted mostNotes cells h theme → mostLooks cells h theme < 2 ^ 32
   most-fits a = most-lt (columnsIn cells h) h (length theme) (a .columns-few) (a .tracks-few) (a .notes-some) (a .notes-few)
 
-  pub all-looks-le : plainLooks way (scoreOf cells h) theme ≤ mostLooks cells h theme
-  all-looks-le = rw (← most-is) (sum-looks-le way (scoreOf cells h) theme h (column-le (columnsIn cells h) h cells))
+  -- as the tune is written, none
+  pub all-looks-le : (way : AnyWay) → plainLooks way (scoreOf cells h) theme ≤ mostLooks cells h theme
+  all-looks-le (Moved way) = rw (← most-is) (sum-looks-le way (scoreOf cells h) theme h (column-le (columnsIn cells h) h cells))
+  all-looks-le Written = omega (arith, sum-none (count 1 (length (scoreOf cells h) + 1 - length theme)))
 
   -- none where the theme is longer than the score
-  pub all-looks-none : columnsIn cells h < length theme → plainLooks way (scoreOf cells h) theme ≡ 0
-  all-looks-none l = sum-looks-none way (scoreOf cells h) theme h (column-le (columnsIn cells h) h cells) (omega (arith, score-length cells h))
+  pub all-looks-none : (way : Way) → columnsIn cells h < length theme → plainLooks (Moved way) (scoreOf cells h) theme ≡ 0
+  all-looks-none way l = sum-looks-none way (scoreOf cells h) theme h (column-le (columnsIn cells h) h cells) (omega (arith, score-length cells h))
 
-  -- by any table and any sets
-  pub quick-looks-less : (w : ℕ) (table lent : List ℕ) → allLooks (quickSearch w way (scoreOf cells h) theme table lent) ≤ plainLooks way (scoreOf cells h) theme
-  quick-looks-less w table lent = only-looks (λ s. candidate w table lent (length theme) (s .column)) (plainSearch way (scoreOf cells h) theme)
+  -- of a page
+  pub plain-page-le : (way : AnyWay) (b : Bookmark) (r : ℕ) → spent (searchAs way (scoreOf cells h) theme) r b ≤ mostLooks cells h theme
+  plain-page-le way b r = le-trans (page-within (searchAs way (scoreOf cells h) theme) r b) (all-looks-le way)
 
-  pub candidate-looks-le : (lent : List ℕ) → candidateLooks way (scoreOf cells h) theme lent ≤ plainLooks way (scoreOf cells h) theme
-  candidate-looks-le lent = quick-looks-less wordBits (themeTable wordBits theme) lent
+  module _ (way : Way) where
+    -- by any table and any sets
+    pub quick-looks-less : (w : ℕ) (table lent : List ℕ) → allLooks (quickSearch w way (scoreOf cells h) theme table lent) ≤ plainLooks (Moved way) (scoreOf cells h) theme
+    quick-looks-less w table lent = only-looks (λ s. candidate w table lent (length theme) (s .column)) (plainSearch way (scoreOf cells h) theme)
 
-  module _ (b : Bookmark) (r : ℕ) where
-    pub plain-page-le : spent (plainSearch way (scoreOf cells h) theme) r b ≤ mostLooks cells h theme
-    plain-page-le = le-trans (page-within (plainSearch way (scoreOf cells h) theme) r b) all-looks-le
+    pub candidate-looks-le : (lent : List ℕ) → candidateLooks way (scoreOf cells h) theme lent ≤ plainLooks (Moved way) (scoreOf cells h) theme
+    candidate-looks-le lent = quick-looks-less wordBits (themeTable wordBits theme) lent
 
-    pub quick-page-le : (w : ℕ) (table lent : List ℕ) → spent (quickSearch w way (scoreOf cells h) theme table lent) r b ≤ mostLooks cells h theme
-    quick-page-le w table lent =
-        le-trans (page-within (quickSearch w way (scoreOf cells h) theme table lent) r b) (le-trans (quick-looks-less w table lent) all-looks-le)
+    pub quick-page-le : (b : Bookmark) (r w : ℕ) (table lent : List ℕ) → spent (quickSearch w way (scoreOf cells h) theme table lent) r b ≤ mostLooks cells h theme
+    quick-page-le b r w table lent =
+        le-trans (page-within (quickSearch w way (scoreOf cells h) theme table lent) r b) (le-trans (quick-looks-less w table lent) (all-looks-le (Moved way)))
 
 -- ---- demand 3
 
-module _ (cells : List ℕ) (h : ℕ) (theme : List ℕ) (way : Way) (a : Accepted mostNotes cells h theme) (r : ℕ) (room : 1 ≤ r) where
-  -- plain: all pairs
-  pub plain-lists : Lists (plainPage cells h theme way) r (firstBookmark (rangeOf way)) (pairs way (scoreOf cells h) theme) (plainLooks way (scoreOf cells h) theme)
-  plain-lists = search-lists (plain-calls cells h theme way a r room)
+module _ (cells : List ℕ) (h : ℕ) (theme : List ℕ) (a : Accepted mostNotes cells h theme) (r : ℕ) (room : 1 ≤ r) where
+  -- plain: all pairs, of any way
+  pub plain-lists : (way : AnyWay)
+      → Lists (plainPage cells h theme way) r (firstBookmark (rangeAs way)) (pairsAs way (scoreOf cells h) theme) (plainLooks way (scoreOf cells h) theme)
+  plain-lists way = search-lists (plain-calls cells h theme way a r room)
 
+module _ (cells : List ℕ) (h : ℕ) (theme : List ℕ) (way : Way) (a : Accepted mostNotes cells h theme) (r : ℕ) (room : 1 ≤ r) where
   -- quick, with sets of any score, and at each call any table of 4,096 places: the pairs at candidates
   module _ (lent : List ℕ) (s : AcceptedSets cells h lent) (table : Bookmark → Lent → List ℕ) (long : (b : Bookmark) (buffers : Lent) → length (table b buffers) ≡ tableWords) where
     pub quick-lists : Lists (λ b buffers. quickPage cells h theme way b lent (table b buffers) buffers) r (firstBookmark (rangeOf way))
@@ -107,25 +116,28 @@ module _ (cells : List ℕ) (h : ℕ) (theme : List ℕ) (way : Way) (a : Accept
 
 -- ---- one page: the first r pairs at or after the bookmark
 
-module _ (cells : List ℕ) (h : ℕ) (theme : List ℕ) (way : Way) (b : Bookmark) (buffers : Lent) (a : PlainAsks cells h theme way b (buffers .columns) (buffers .shifts)) where
-  in-score : InRange (rangeOf way) (length (scoreOf cells h)) b
+module _ (cells : List ℕ) (h : ℕ) (theme : List ℕ) (way : AnyWay) (b : Bookmark) (buffers : Lent) (a : PlainAsks cells h theme way b (buffers .columns) (buffers .shifts)) where
+  in-score : InRange (rangeAs way) (length (scoreOf cells h)) b
   in-score = rw (score-length cells h) (a .marked)
 
   of-room : Room (length (buffers .columns)) buffers
   of-room = record { of-columns = refl; of-shifts = a .same-room }
 
-  -- the looks of a page of the plain search, and of the quick search by these sets
+  -- the looks of a page of the plain search
   abbrev pub plainSpent : ℕ
-  plainSpent = spent (plainSearch way (scoreOf cells h) theme) (length (buffers .columns)) b
+  plainSpent = spent (searchAs way (scoreOf cells h) theme) (length (buffers .columns)) b
 
-  abbrev pub quickSpent : (lent : List ℕ) → ℕ
-  quickSpent lent = spent (quickSearch wordBits way (scoreOf cells h) theme (themeTable wordBits theme) lent) (length (buffers .columns)) b
-
-  pub plain-page : PageOf (pairs way (scoreOf cells h) theme) (rangeOf way) (columnsIn cells h) plainSpent b buffers (plainPage cells h theme way b buffers)
+  pub plain-page : PageOf (pairsAs way (scoreOf cells h) theme) (rangeAs way) (columnsIn cells h) plainSpent b buffers (plainPage cells h theme way b buffers)
   plain-page =
-      subst (λ (n : ℕ). PageOf (pairs way (scoreOf cells h) theme) (rangeOf way) n plainSpent b buffers (plainPage cells h theme way b buffers))
+      subst (λ (n : ℕ). PageOf (pairsAs way (scoreOf cells h) theme) (rangeAs way) n plainSpent b buffers (plainPage cells h theme way b buffers))
       (score-length cells h)
       (call-page (plain-calls cells h theme way (a .accepted) (length (buffers .columns)) (a .room)) b in-score buffers of-room)
+
+module _ (cells : List ℕ) (h : ℕ) (theme : List ℕ) (way : Way) (b : Bookmark) (buffers : Lent)
+    (a : PlainAsks cells h theme (Moved way) b (buffers .columns) (buffers .shifts)) where
+  -- and of the quick search by these sets
+  abbrev pub quickSpent : (lent : List ℕ) → ℕ
+  quickSpent lent = spent (quickSearch wordBits way (scoreOf cells h) theme (themeTable wordBits theme) lent) (length (buffers .columns)) b
 
   pub quick-page : (lent table : List ℕ) → AcceptedSets cells h lent → length table ≡ tableWords
       → PageOf (candidatePairs way (scoreOf cells h) theme lent) (rangeOf way) (columnsIn cells h) (quickSpent lent) b buffers
@@ -135,5 +147,5 @@ module _ (cells : List ℕ) (h : ℕ) (theme : List ℕ) (way : Way) (b : Bookma
       subst (λ (n : ℕ). PageOf (candidatePairs way (scoreOf cells h) theme lent) (rangeOf way) n (quickSpent lent) b buffers page) (score-length cells h)
       (subst (λ (list : List Pair). PageOf list (rangeOf way) (length (scoreOf cells h)) (quickSpent lent) b buffers page)
       (quick-pairs way (scoreOf cells h) theme lent)
-      (call-page (quick-calls cells h theme way (a .accepted) (length (buffers .columns)) (a .room) lent s (λ b buffers. table) (λ b buffers. e)) b in-score
-      buffers of-room))
+      (call-page (quick-calls cells h theme way (a .accepted) (length (buffers .columns)) (a .room) lent s (λ b buffers. table) (λ b buffers. e)) b
+      (in-score cells h theme (Moved way) b buffers a) buffers (of-room cells h theme (Moved way) b buffers a)))

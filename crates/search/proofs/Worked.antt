@@ -9,9 +9,10 @@ use Rattle.ways.specs.Way.{holds}
 use Rattle.walking.specs.Starts.{hit, looks}
 use Rattle.filter.specs.Table.{word, themeTable}
 use Rattle.walking.specs.Candidates.{candidate}
+use Rattle.written.specs.Written.{standsAt}
 use Rattle.search.specs.Page.{plainPage, quickPage}
 use Rattle.search.specs.Cases.{cases, made}
 
 pub cases-hold : map made cases ≡ cases
-unfolding plainPage quickPage candidate themeTable word register step bit number hit looks holds intervalSet apart
+unfolding plainPage quickPage candidate themeTable word register step bit number hit looks standsAt holds intervalSet apart
 cases-hold = refl

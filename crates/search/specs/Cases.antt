@@ -10,7 +10,9 @@ use Rattle.theory.specs.Pages.{hits}
 use Rattle.score.specs.Score.{columnAt, scoreOf}
 use Rattle.score.specs.Sets.{sets as setsOf}
 use Rattle.ways.specs.declared.way.Way.{Way}
-use Rattle.ways.specs.Way.{rangeOf}
+use Rattle.ways.specs.declared.way.AnyWay.{AnyWay}
+use Rattle.ways.specs.declared.way.AnyWay.the-variants.{Moved, Written}
+use Rattle.ways.specs.Way.{rangeOf, rangeAs}
 use Rattle.ways.specs.declared.way.Way.the-variants.{Exact, Octave}
 use Rattle.ways.specs.declared.bookmark.Pair.{Pair}
 use Rattle.ways.specs.declared.bookmark.Bookmark.{Bookmark}
@@ -41,12 +43,12 @@ abbrev mark : ℕ → ℤ → Bookmark
 mark j c = record { column = columnAt j; shift = c }
 
 -- the question: score, theme, way and room; the answers: the score's sets, the candidates that they make, the plain
--- pages up to the first that is finished (of three at most), and the looks of each quick page
+-- pages up to the first that is finished (of three at most), and the looks of each quick page, where the way has one
 pub record Case : Type 0 where
   pub cells : List ℕ
   pub tracks : ℕ
   pub theme : List ℕ
-  pub way : Way
+  pub way : AnyWay
   pub room : ℕ
   pub sets : List ℕ
   pub candidates : List ℕ
@@ -75,9 +77,14 @@ blank c = lent (replicate (c .room) 0) (replicate (c .room) (pos 0))
 abbrev plainly : Case → Bookmark → Leaf
 plainly c b = plainPage (c .cells) (c .tracks) (c .theme) (c .way) b (blank c)
 
-abbrev quickly : Case → Bookmark → Leaf
-quickly c b =
-    quickPage (c .cells) (c .tracks) (c .theme) (c .way) b (setsOf (scoreOf (c .cells) (c .tracks))) (replicate 4096 0) (blank c)
+abbrev quickly : Case → Way → Bookmark → Leaf
+quickly c way b =
+    quickPage (c .cells) (c .tracks) (c .theme) way b (setsOf (scoreOf (c .cells) (c .tracks))) (replicate 4096 0) (blank c)
+
+-- the looks of each quick page; there is none as the tune is written
+abbrev quickLooks : Case → AnyWay → List ℕ
+quickLooks c (Moved way) = map (λ p. p .looks) (read (quickly c way) 3 (firstBookmark (rangeOf way)))
+quickLooks c Written = []
 
 -- the same question, with the definitions' answers
 abbrev pub made : Case → Case
@@ -92,8 +99,8 @@ made c =
       candidates =
           hits (λ j. candidate wordBits (themeTable wordBits (c .theme)) (setsOf (scoreOf (c .cells) (c .tracks))) (length (c .theme)) j)
           (count 1 (length (scoreOf (c .cells) (c .tracks)) + 1 - length (c .theme)));
-      pages = read (plainly c) 3 (firstBookmark (rangeOf (c .way)));
-      quick = map (λ p. p .looks) (read (quickly c) 3 (firstBookmark (rangeOf (c .way))));
+      pages = read (plainly c) 3 (firstBookmark (rangeAs (c .way)));
+      quick = quickLooks c (c .way);
     }
 
 -- ---- the table
@@ -109,7 +116,7 @@ cases =
       cells = K;
       tracks = 2;
       theme = 60 ∷ 62 ∷ 64 ∷ [];
-      way = Exact;
+      way = Moved Exact;
       room = 9;
       sets = 3451 ∷ 3963 ∷ 3837 ∷ 3963 ∷ [];
       candidates = 1 ∷ [];
@@ -122,7 +129,7 @@ cases =
       cells = K;
       tracks = 2;
       theme = 67 ∷ 62 ∷ [];
-      way = Exact;
+      way = Moved Exact;
       room = 9;
       sets = 3451 ∷ 3963 ∷ 3837 ∷ 3963 ∷ [];
       candidates = 1 ∷ 2 ∷ 4 ∷ [];
@@ -135,7 +142,7 @@ cases =
       cells = K;
       tracks = 2;
       theme = 67 ∷ 62 ∷ [];
-      way = Exact;
+      way = Moved Exact;
       room = 2;
       sets = 3451 ∷ 3963 ∷ 3837 ∷ 3963 ∷ [];
       candidates = 1 ∷ 2 ∷ 4 ∷ [];
@@ -149,7 +156,7 @@ cases =
       cells = K;
       tracks = 2;
       theme = 67 ∷ 62 ∷ [];
-      way = Exact;
+      way = Moved Exact;
       room = 3;
       sets = 3451 ∷ 3963 ∷ 3837 ∷ 3963 ∷ [];
       candidates = 1 ∷ 2 ∷ 4 ∷ [];
@@ -163,7 +170,7 @@ cases =
       cells = K;
       tracks = 2;
       theme = 60 ∷ 67 ∷ 69 ∷ [];
-      way = Exact;
+      way = Moved Exact;
       room = 9;
       sets = 3451 ∷ 3963 ∷ 3837 ∷ 3963 ∷ [];
       candidates = 1 ∷ [];
@@ -176,7 +183,7 @@ cases =
       cells = K;
       tracks = 2;
       theme = 60 ∷ 67 ∷ 69 ∷ [];
-      way = Octave;
+      way = Moved Octave;
       room = 9;
       sets = 3451 ∷ 3963 ∷ 3837 ∷ 3963 ∷ [];
       candidates = 1 ∷ [];
@@ -189,7 +196,7 @@ cases =
       cells = K;
       tracks = 2;
       theme = 60 ∷ 69 ∷ 71 ∷ [];
-      way = Octave;
+      way = Moved Octave;
       room = 9;
       sets = 3451 ∷ 3963 ∷ 3837 ∷ 3963 ∷ [];
       candidates = 1 ∷ [];
@@ -202,7 +209,7 @@ cases =
       cells = 0 ∷ 0 ∷ [];
       tracks = 1;
       theme = 127 ∷ 127 ∷ [];
-      way = Exact;
+      way = Moved Exact;
       room = 9;
       sets = 4094 ∷ [];
       candidates = 1 ∷ [];
@@ -215,7 +222,7 @@ cases =
       cells = 127 ∷ 127 ∷ [];
       tracks = 1;
       theme = 0 ∷ 0 ∷ [];
-      way = Exact;
+      way = Moved Exact;
       room = 9;
       sets = 4094 ∷ [];
       candidates = 1 ∷ [];
@@ -228,7 +235,7 @@ cases =
       cells = 120 ∷ 0 ∷ [];
       tracks = 1;
       theme = 0 ∷ 12 ∷ [];
-      way = Exact;
+      way = Moved Exact;
       room = 9;
       sets = 4094 ∷ [];
       candidates = 1 ∷ [];
@@ -241,7 +248,7 @@ cases =
       cells = 120 ∷ 0 ∷ [];
       tracks = 1;
       theme = 0 ∷ 12 ∷ [];
-      way = Octave;
+      way = Moved Octave;
       room = 9;
       sets = 4094 ∷ [];
       candidates = 1 ∷ [];
@@ -254,7 +261,7 @@ cases =
       cells = 60 ∷ 255 ∷ 62 ∷ [];
       tracks = 1;
       theme = 60 ∷ 62 ∷ [];
-      way = Exact;
+      way = Moved Exact;
       room = 9;
       sets = 4095 ∷ 4095 ∷ [];
       candidates = [];
@@ -267,12 +274,65 @@ cases =
       cells = 60 ∷ 255 ∷ 62 ∷ [];
       tracks = 1;
       theme = 60 ∷ 62 ∷ [];
-      way = Octave;
+      way = Moved Octave;
       room = 9;
       sets = 4095 ∷ 4095 ∷ [];
       candidates = [];
       pages = page [] (mark 4 (pos 0)) true 1
           ∷ [];
       quick = 0 ∷ [];
+    }
+    -- K, as it is written: theme 60 62 64 at column 1, theme 67 62 at column 1 alone, theme 62 64 65 at column 2
+    ∷ record {
+      cells = K;
+      tracks = 2;
+      theme = 60 ∷ 62 ∷ 64 ∷ [];
+      way = Written;
+      room = 9;
+      sets = 3451 ∷ 3963 ∷ 3837 ∷ 3963 ∷ [];
+      candidates = 1 ∷ [];
+      pages = page (at 1 (pos 0) ∷ []) (mark 6 (pos 0)) true 0
+          ∷ [];
+      quick = [];
+    }
+    -- theme 67 62
+    ∷ record {
+      cells = K;
+      tracks = 2;
+      theme = 67 ∷ 62 ∷ [];
+      way = Written;
+      room = 9;
+      sets = 3451 ∷ 3963 ∷ 3837 ∷ 3963 ∷ [];
+      candidates = 1 ∷ 2 ∷ 4 ∷ [];
+      pages = page (at 1 (pos 0) ∷ []) (mark 6 (pos 0)) true 0
+          ∷ [];
+      quick = [];
+    }
+    -- at room 1: one, bookmark (1, 1), not finished; then none, finished, (6, 0)
+    ∷ record {
+      cells = K;
+      tracks = 2;
+      theme = 67 ∷ 62 ∷ [];
+      way = Written;
+      room = 1;
+      sets = 3451 ∷ 3963 ∷ 3837 ∷ 3963 ∷ [];
+      candidates = 1 ∷ 2 ∷ 4 ∷ [];
+      pages = page (at 1 (pos 0) ∷ []) (mark 1 (pos 1)) false 0
+          ∷ page [] (mark 6 (pos 0)) true 0
+          ∷ [];
+      quick = [];
+    }
+    -- theme 62 64 65
+    ∷ record {
+      cells = K;
+      tracks = 2;
+      theme = 62 ∷ 64 ∷ 65 ∷ [];
+      way = Written;
+      room = 9;
+      sets = 3451 ∷ 3963 ∷ 3837 ∷ 3963 ∷ [];
+      candidates = 2 ∷ [];
+      pages = page (at 2 (pos 0) ∷ []) (mark 6 (pos 0)) true 0
+          ∷ [];
+      quick = [];
     }
     ∷ []

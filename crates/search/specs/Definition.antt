@@ -1,11 +1,16 @@
 -- The definition: when the pair (j, c) stands for a theme p1..pm in a score of n columns. It is the published one and no
--- method: `Stands`. Notes and columns are numbered from 1. Assumes nothing.
+-- method: `Stands`, and `StandsAs` for all ways. Notes and columns are numbered from 1. Assumes nothing.
+use mathlib.Core.Path.{_≡_}
 use mathlib.Core.List.{List, []}
 use Prim.Native.Nat.{ℕ, _+_, _-_, _≤_}
+use lib.IntN.{pos}
 use lib.ListN.{length, getD}
 use lib.Signed.{_≤ℤ_}
 use Rattle.score.specs.Score.{onward, note}
 use Rattle.ways.specs.declared.way.Way.{Way}
+use Rattle.ways.specs.declared.way.Way.the-variants.{Exact}
+use Rattle.ways.specs.declared.way.AnyWay.{AnyWay}
+use Rattle.ways.specs.declared.way.AnyWay.the-variants.{Moved, Written}
 use Rattle.ways.specs.declared.bookmark.Pair.{Pair}
 use Rattle.ways.specs.Way.{Holds, lowest, highest}
 
@@ -17,3 +22,8 @@ pub record Stands (way : Way) (score : List (List ℕ)) (theme : List ℕ) (pair
   pub not-below : lowest way ≤ℤ pair .shift
   pub not-above : pair .shift ≤ℤ highest way
   pub each-note : (i : ℕ) → 1 ≤ i → i ≤ length theme → Holds way (getD (onward score (pair .column)) (i - 1) []) (note theme i) (pair .shift)
+
+-- all ways: a written pair is an exact one with shift 0
+abbrev pub StandsAs : AnyWay → (score : List (List ℕ)) (theme : List ℕ) → Pair → Type 0
+StandsAs (Moved way) score theme pair = Stands way score theme pair
+StandsAs Written score theme pair = Stands Exact score theme pair × (pair .shift ≡ pos 0)

@@ -6,6 +6,7 @@ use Prim.Native.Nat.{ℕ}
 use Rattle.score.specs.Score.{scoreOf}
 use Rattle.score.specs.Refusals.{Row, judge}
 use Rattle.ways.specs.declared.way.Way.{Way}
+use Rattle.ways.specs.declared.way.AnyWay.{AnyWay}
 use Rattle.ways.specs.declared.bookmark.Bookmark.{Bookmark}
 use Rattle.asking.specs.Refusals.{plainRows, quickRows}
 use Rattle.filter.specs.Limits.{wordBits}
@@ -13,22 +14,22 @@ use Rattle.filter.specs.Table.{themeTable}
 use Rattle.paging.specs.declared.page.Page.{Page}
 use Rattle.paging.specs.Lent.{Lent}
 use Rattle.paging.specs.Page.{Leaf, paged, Pages}
-use Rattle.search.specs.Pairs.{plainSearch, quickSearch}
+use Rattle.search.specs.Pairs.{searchAs, quickSearch}
 
--- ---- plain: refusals 1 to 5, 9, 10
+-- ---- plain: refusals 1 to 5, 9, 10; all ways
 
-abbrev pub rowsOfPlain : (cells : List ℕ) (h : ℕ) (theme : List ℕ) → Way → Bookmark → Lent → List Row
+abbrev pub rowsOfPlain : (cells : List ℕ) (h : ℕ) (theme : List ℕ) → AnyWay → Bookmark → Lent → List Row
 rowsOfPlain cells h theme way b buffers = plainRows cells h theme way b (buffers .columns) (buffers .shifts)
 
--- a page of every start
-unfoldable pub plainPage : (cells : List ℕ) (h : ℕ) (theme : List ℕ) → Way → Bookmark → Lent → Leaf
-plainPage cells h theme way b buffers = paged (rowsOfPlain cells h theme way b buffers) (plainSearch way (scoreOf cells h) theme) b buffers
+-- a page of every start, or of the columns at which the tune stands as it is written
+unfoldable pub plainPage : (cells : List ℕ) (h : ℕ) (theme : List ℕ) → AnyWay → Bookmark → Lent → Leaf
+plainPage cells h theme way b buffers = paged (rowsOfPlain cells h theme way b buffers) (searchAs way (scoreOf cells h) theme) b buffers
 
 -- what a plain call promises: this answer, and these buffers
-pub record PlainPages (cells : List ℕ) (h : ℕ) (theme : List ℕ) (way : Way) (b : Bookmark) (buffers : Lent) (answer : Page) (after : Lent) : Type 0 where
+pub record PlainPages (cells : List ℕ) (h : ℕ) (theme : List ℕ) (way : AnyWay) (b : Bookmark) (buffers : Lent) (answer : Page) (after : Lent) : Type 0 where
   pub pages : Pages (plainPage cells h theme way b buffers) answer after
 
--- ---- quick: refusals 1 to 10
+-- ---- quick: refusals 1 to 10; the ways that move the theme
 
 abbrev pub rowsOfQuick : (cells : List ℕ) (h : ℕ) (theme : List ℕ) → Way → Bookmark → (sets table : List ℕ) → Lent → List Row
 rowsOfQuick cells h theme way b sets table buffers = quickRows cells h theme way b sets table (buffers .columns) (buffers .shifts)

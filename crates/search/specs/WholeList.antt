@@ -6,16 +6,17 @@ use lib.ListN.{length}
 use Rattle.theory.specs.Pages.{hits}
 use Rattle.score.specs.Score.{columnsIn}
 use Rattle.ways.specs.declared.way.Way.{Way}
+use Rattle.ways.specs.declared.way.AnyWay.{AnyWay}
 use Rattle.ways.specs.declared.bookmark.Pair.{Pair}
 use Rattle.filter.specs.Limits.{wordBits}
 use Rattle.filter.specs.Table.{themeTable}
 use Rattle.paging.specs.Search.{allLooks}
 use Rattle.walking.specs.Candidates.{candidate}
-use Rattle.search.specs.Pairs.{plainSearch, quickSearch, pairs}
+use Rattle.search.specs.Pairs.{searchAs, quickSearch, pairs}
 
--- the looks of a whole list: plain, and quick with these sets
-abbrev pub plainLooks : Way → (score : List (List ℕ)) (theme : List ℕ) → ℕ
-plainLooks way score theme = allLooks (plainSearch way score theme)
+-- the looks of a whole list: plain, of any way, and quick with these sets
+abbrev pub plainLooks : AnyWay → (score : List (List ℕ)) (theme : List ℕ) → ℕ
+plainLooks way score theme = allLooks (searchAs way score theme)
 
 abbrev pub candidateLooks : Way → (score : List (List ℕ)) (theme sets : List ℕ) → ℕ
 candidateLooks way score theme sets = allLooks (quickSearch wordBits way score theme (themeTable wordBits theme) sets)

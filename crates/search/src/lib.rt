@@ -6,6 +6,7 @@ pub use page::plain_page;
 pub use page::quick_page;
 pub use paging::Page;
 pub use paging::Turn;
+pub use ways::AnyWay;
 pub use ways::Bookmark;
 pub use ways::Pair;
 pub use ways::Way;

@@ -5,4 +5,5 @@ pub mod Cells
 pub mod Standing
 pub mod Listing
 pub mod Paged
+pub mod Listed
 pub mod Unique

@@ -14,6 +14,7 @@ use Rattle.score.proofs.Columns.{score-length}
 use Rattle.score.proofs.Judging.{judge-away}
 use Rattle.score.proofs.Judged.{Clear}
 use Rattle.ways.specs.declared.way.Way.{Way}
+use Rattle.ways.specs.declared.way.AnyWay.the-variants.{Moved, Written}
 use Rattle.ways.specs.declared.bookmark.Bookmark.{Bookmark}
 use Rattle.ways.specs.Way.{rangeOf}
 use Rattle.ways.specs.Bookmarks.{keyOf, finishedBookmark}
@@ -34,6 +35,7 @@ use Rattle.walking.specs.Starts.{Place, key, starts, hit, looks}
 use Rattle.walking.specs.Candidates.{quickStarts}
 use Rattle.walking.specs.Found.{Finds, PlainWalks, QuickWalks}
 use Rattle.walking.proofs.Answers.{Went, finds-refused, finds-clear, finds-went, table-filled}
+use Rattle.written.specs.Written.{writtenPage, WrittenPages}
 use Rattle.search.specs.Pairs.{pairAt, plainSearch, quickSearch}
 use Rattle.search.specs.Page.{rowsOfPlain, plainPage, PlainPages, rowsOfQuick, quickPage, quickTable, QuickPages}
 use Rattle.search.proofs.Reached.{left-plain, left-quick, places-written}
@@ -70,16 +72,16 @@ module _ (rows : List Row) (way : Way) (score : List (List ℕ)) (theme : List �
 
 module _ (cells : List ℕ) (h : ℕ) (theme : List ℕ) (way : Way) (b : Bookmark) (columns : List ℕ) (shifts : List ℤ) {columns′ : List ℕ} {shifts′ : List ℤ} where
   pub plain-away : {e : Refusal} → PlainWalks cells h theme way b columns shifts (Away e) columns′ shifts′
-      → PlainPages cells h theme way b (lent columns shifts) (Refused e) (lent columns′ shifts′)
+      → PlainPages cells h theme (Moved way) b (lent columns shifts) (Refused e) (lent columns′ shifts′)
   unfolding plainPage
   plain-away l =
       record {
-        pages = search-away (rowsOfPlain cells h theme way b (lent columns shifts)) way (scoreOf cells h) theme (starts way (scoreOf cells h) theme) b columns shifts l;
+        pages = search-away (rowsOfPlain cells h theme (Moved way) b (lent columns shifts)) way (scoreOf cells h) theme (starts way (scoreOf cells h) theme) b columns shifts l;
       }
 
   module _ {w : Walked} (l : PlainWalks cells h theme way b columns shifts (Done w) columns′ shifts′) where
-    asked : PlainAsks cells h theme way b columns shifts
-    asked = plain-clear cells h theme way b columns shifts .1 (finds-clear _ _ _ _ _ _ _ _ l)
+    asked : PlainAsks cells h theme (Moved way) b columns shifts
+    asked = plain-clear cells h theme (Moved way) b columns shifts .1 (finds-clear _ _ _ _ _ _ _ _ l)
 
     -- the number of columns fits 16 bits
     pub plain-fits : {n : ℕ} → n ≡ columnsIn cells h → n < 65536
@@ -87,15 +89,21 @@ module _ (cells : List ℕ) (h : ℕ) (theme : List ℕ) (way : Way) (b : Bookma
 
     pub plain-turns : {n : ℕ} {page : Page} → n ≡ columnsIn cells h
         → page ≡ Turned (readTurn (finishedBookmark (rangeOf way) (columnAt n)) (w .found) (w .looks) (lent columns′ shifts′))
-        → PlainPages cells h theme way b (lent columns shifts) page (lent columns′ shifts′)
+        → PlainPages cells h theme (Moved way) b (lent columns shifts) page (lent columns′ shifts′)
     unfolding plainPage
     plain-turns e r =
         record {
           pages =
-              search-turns (rowsOfPlain cells h theme way b (lent columns shifts)) way (scoreOf cells h) theme (starts way (scoreOf cells h) theme) b columns shifts
+              search-turns (rowsOfPlain cells h theme (Moved way) b (lent columns shifts)) way (scoreOf cells h) theme (starts way (scoreOf cells h) theme) b columns shifts
               (asked .room) (asked .same-room) (left-plain way (scoreOf cells h) theme b (rw (score-length cells h) (asked .marked))) l
               (e ∙ sym (score-length cells h)) r;
         }
+
+-- a page of the tune as it is written is one of the plain call
+pub written-plain : {cells : List ℕ} {h : ℕ} {theme : List ℕ} {b : Bookmark} {buffers : Lent} {answer : Page} {after : Lent}
+    → WrittenPages cells h theme b buffers answer after → PlainPages cells h theme Written b buffers answer after
+unfolding plainPage writtenPage
+written-plain p = record { pages = p .pages }
 
 -- ---- quick
 

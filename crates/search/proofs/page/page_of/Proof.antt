@@ -3,8 +3,8 @@ use borrow.Author.Needs.{needs}
 use Rattle.search.proofs.page.page_of.Statement.{statement}
 use Rattle.search.proofs.page.page_of.Tie as tie
 
-cast-t7 : tie.Need-cast-t7
-cast-t7 c = search needs
+cast-t8 : tie.Need-cast-t8
+cast-t8 c = search needs
 
 finished-requires : tie.Need-finished-requires
 finished-requires c κs = search needs
@@ -16,4 +16,4 @@ returns : tie.Need-returns
 returns c = rw (c .turned .ensures, c .before .finished .ensures)
 
 pub page-of-spec : {M : Type 1} → statement M
-page-of-spec = tie.close (tie.spec cast-t7 finished-requires turned-requires returns)
+page-of-spec = tie.close (tie.spec cast-t8 finished-requires turned-requires returns)

@@ -1,28 +1,20 @@
--- `search::page::plain_page` meets its contract: a walk that is turned away, or the answer that is read off the buffers of one
--- that is done. Assumes nothing.
+-- `search::page::plain_page` meets its contract: by cases on the way. Assumes nothing.
 use borrow.Author.Needs.{needs}
-use Rattle.search.proofs.page.Calls.{plain-away, plain-fits, plain-turns}
+use Rattle.search.proofs.page.Calls.{written-plain}
 use Rattle.search.proofs.page.plain_page.Statement.{statement}
 use Rattle.search.proofs.page.plain_page.Tie as tie
 
-walk-plain-requires : tie.Need-walk-plain-requires
-walk-plain-requires c κs = search needs
+enum-known-way : tie.Need-enum-known-way
+enum-known-way c = search needs
 
-enum-known-w : tie.Need-enum-known-w
-enum-known-w c = search needs
+moved-page-requires : tie.Need-moved-page-requires
+moved-page-requires c κs = search needs
 
-columns-in-requires : tie.Need-columns-in-requires
-columns-in-requires c κs = search needs
+enum-told : tie.Need-enum-told
+enum-told c = search needs
 
-page-of-requires : tie.Need-page-of-requires
-page-of-requires c κs =
-    let found = c .before .before .before .before in
-    let a = found .before .before .before .before .before .before .before .before .before .before .before .args in
-    plain-fits (a .cells .now) (a .tracks) (a .theme .now) (a .way) (a .bookmark) (a .columns .now) (a .shifts .now)
-    (rw (found .w .given .1) at (found .before .before .before .before .before .walk-plain .ensures)) (c .before .before .columns-in .ensures)
-
-enum-known-e : tie.Need-enum-known-e
-enum-known-e c = search needs
+written-page-requires : tie.Need-written-page-requires
+written-page-requires c κs = search needs
 
 same-length : tie.Need-same-length
 same-length c = search needs
@@ -31,11 +23,7 @@ same-length-2 : tie.Need-same-length-2
 same-length-2 c = search needs
 
 returns : tie.Need-returns
-returns c =
-    let counted = c .before .before .before in
-    let found = counted .before .before in
-    plain-turns _ _ _ _ _ _ _
-    (rw (found .w .given .1) at (found .before .before .before .before .before .walk-plain .ensures)) (counted .columns-in .ensures) (c .page-of .ensures)
+returns c = let m = c .before .before .before in rw (m .before .before .before .before .way .given .1) (m .moved-page .ensures)
 
 same-length-3 : tie.Need-same-length-3
 same-length-3 c = search needs
@@ -44,17 +32,16 @@ same-length-4 : tie.Need-same-length-4
 same-length-4 c = search needs
 
 returns-2 : tie.Need-returns-2
-returns-2 c = plain-away _ _ _ _ _ _ _ (rw (c .before .e .given .1) at (c .before .before .before .before .before .before .walk-plain .ensures))
+returns-2 c = let m = c .before .before .before in rw (m .before .before .before .enum-told .given .1) (written-plain (m .written-page .ensures))
 
 pub plain-page-spec : {M : Type 1} → statement M
 plain-page-spec =
     tie.close
     (tie.spec
-    walk-plain-requires
-    enum-known-w
-    columns-in-requires
-    page-of-requires
-    enum-known-e
+    enum-known-way
+    moved-page-requires
+    enum-told
+    written-page-requires
     same-length
     same-length-2
     returns
