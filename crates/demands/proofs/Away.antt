@@ -13,6 +13,7 @@ use Rattle.preparing.specs.declared.sets.Preparation.the-variants.{Prepared, Re
 use Rattle.preparing.specs.Preparing.{prepareRows, Prepares}
 use Rattle.preparing.proofs.Prepared.{prepare-accepted, prepare-refused, prepare-kept}
 use Rattle.ways.specs.declared.way.Way.{Way}
+use Rattle.ways.specs.declared.way.AnyWay.{AnyWay}
 use Rattle.ways.specs.declared.bookmark.Bookmark.{Bookmark}
 use Rattle.asking.proofs.Rows.{plain-clear, quick-clear}
 use Rattle.paging.specs.declared.page.Turn.{Turn}
@@ -40,7 +41,7 @@ prepares-away cells h lent p =
       unwritten = λ r x. p .fills ∙ prepare-kept cells h lent r (sym (p .answers) ∙ x);
     }
 
-pub plain-away : (cells : List ℕ) (h : ℕ) (theme : List ℕ) (way : Way) (b : Bookmark) (buffers : Lent) {answer : Page} {after : Lent}
+pub plain-away : (cells : List ℕ) (h : ℕ) (theme : List ℕ) (way : AnyWay) (b : Bookmark) (buffers : Lent) {answer : Page} {after : Lent}
     → PlainPages cells h theme way b buffers answer after
     → TurnsAway (1 ∷ 2 ∷ 3 ∷ 4 ∷ 5 ∷ 9 ∷ 10 ∷ []) (rowsOfPlain cells h theme way b buffers)
     (λ r. answer ≡ Refused r) ((t : Turn) × (answer ≡ Turned t)) (after ≡ buffers)

@@ -7,6 +7,7 @@ use Rattle.score.specs.Sets.{sets}
 use Rattle.score.proofs.Judged.{verdict-clear}
 use Rattle.preparing.specs.Preparing.{prepared}
 use Rattle.ways.specs.declared.way.Way.{Way}
+use Rattle.ways.specs.declared.way.AnyWay.the-variants.{Moved}
 use Rattle.ways.specs.declared.bookmark.Bookmark.{Bookmark}
 use Rattle.asking.specs.Limits.{mostNotes}
 use Rattle.asking.specs.Refusals.{requestRows}
@@ -19,7 +20,7 @@ use Rattle.paging.proofs.Bookmarks.{first-range}
 use Rattle.search.specs.Page.{plainPage, quickPage, quickTable, QuickPages}
 use Rattle.demands.specs.Demands.{RightRequest, Demand1, Demand2, Demand3}
 use Rattle.demands.proofs.Away.{prepares-away, plain-away, quick-away}
-use Rattle.demands.proofs.True.{own-sets-left, plain-stands, quick-stands, prepared-intervals}
+use Rattle.demands.proofs.True.{own-sets-left, plain-stands, written-free, quick-stands, prepared-intervals}
 use Rattle.demands.proofs.Whole.{plainly, plain-all, quick-own, own-call}
 use Rattle.demands.proofs.Alike.{reading-same, one-page}
 
@@ -50,12 +51,13 @@ demand2 = record { plain = plain-stands; quick = quick-stands; prepared = prepar
 pub demand3 : Demand3
 demand3 =
     record {
-      plain = λ cells h theme way a r room p. plain-all cells h theme way (accepted a) r room p;
-      quick = λ cells h theme way a r room lent s q. quick-own cells h theme way (accepted a) r room (own-call cells h theme way (accepted a) r room s q);
+      plain = λ cells h theme way a r room p. plain-all cells h theme (accepted a) r room way p;
+      written = written-free;
+      quick = λ cells h theme way a r room lent s q. quick-own cells h theme (accepted a) r room way (own-call cells h theme (accepted a) r room way s q);
       same-page = λ cells h theme way b buffers buffers′ table same lent s {t} {u} {after} {after′} {table′} p q.
           one-page cells h theme way b buffers buffers′ table same p
           (subst (λ (l : List ℕ). QuickPages cells h theme way b l table buffers′ (Turned t) table′ after′) (own-sets-left s) q);
       same = λ cells h theme way a r room lent s p q x y.
-          reading-same cells h theme way (accepted a) r room p (own-call cells h theme way (accepted a) r room s q)
-          (first-range (plainly cells h theme way (accepted a) r room p .right .narrow) _) x y;
+          reading-same cells h theme way (accepted a) r room p (own-call cells h theme (accepted a) r room way s q)
+          (first-range (plainly cells h theme (accepted a) r room (Moved way) p .right .narrow) _) x y;
     }

@@ -13,18 +13,20 @@ use Rattle.preparing.specs.declared.sets.Preparation.the-variants.{Prepared}
 use Rattle.preparing.specs.Preparing.{Prepares}
 use Rattle.preparing.proofs.Prepared.{prepare-fills, prepare-bit}
 use Rattle.ways.specs.declared.way.Way.{Way}
+use Rattle.ways.specs.declared.way.AnyWay.{AnyWay}
+use Rattle.ways.specs.declared.way.AnyWay.the-variants.{Moved, Written}
 use Rattle.ways.specs.declared.bookmark.Pair.{Pair}
 use Rattle.ways.specs.declared.bookmark.Bookmark.{Bookmark}
 use Rattle.paging.specs.declared.page.Turn.{Turn}
 use Rattle.paging.specs.declared.page.Page.the-variants.{Turned}
 use Rattle.paging.specs.Lent.{Lent, readPairs}
 use Rattle.paging.proofs.Paging.{turned-same}
-use Rattle.search.specs.Definition.{Stands}
+use Rattle.search.specs.Definition.{Stands, StandsAs}
 use Rattle.search.specs.Page.{plainPage, PlainPages, quickPage, QuickPages}
 use Rattle.search.proofs.PlainCall.{plain-turned}
 use Rattle.search.proofs.QuickCall.{quick-turned}
 use Rattle.search.proofs.WholeLists.{plain-page, quick-page}
-use Rattle.search.proofs.Truths.{plain-true, quick-true}
+use Rattle.search.proofs.Truths.{plain-true, quick-true, written-looks}
 use Rattle.demands.specs.Demands.{IntervalsOf}
 
 -- the same pairs, where the answer and the buffers are the same
@@ -32,14 +34,18 @@ read-same : {t u : Turn} {l k : Lent} {pair : Pair} → t ≡ u → l ≡ k → 
 read-same {t} {u} {l} {k} {pair} e f m =
     subst (λ (x : Lent). In pair (readPairs (u .written) x)) f (subst (λ (x : Turn). In pair (readPairs (x .written) l)) e m)
 
-pub plain-stands : (cells : List ℕ) (h : ℕ) (theme : List ℕ) (way : Way) (b : Bookmark) (buffers : Lent) {t : Turn} {after : Lent}
+pub plain-stands : (cells : List ℕ) (h : ℕ) (theme : List ℕ) (way : AnyWay) (b : Bookmark) (buffers : Lent) {t : Turn} {after : Lent}
     → PlainPages cells h theme way b buffers (Turned t) after
-    → {pair : Pair} → In pair (readPairs (t .written) after) → Stands way (scoreOf cells h) theme pair
+    → {pair : Pair} → In pair (readPairs (t .written) after) → StandsAs way (scoreOf cells h) theme pair
 plain-stands cells h theme way b buffers {t} p m =
     let e = p .pages .answers in
     let a = plain-turned cells h theme way b buffers .0 (t, sym e) in
     let u = plain-page cells h theme way b buffers a in
-    plain-true cells h theme way b buffers a (read-same (turned-same (e ∙ u .answered)) (p .pages .writes) m)
+    plain-true cells h theme b buffers way a (read-same (turned-same (e ∙ u .answered)) (p .pages .writes) m)
+
+pub written-free : (cells : List ℕ) (h : ℕ) (theme : List ℕ) (b : Bookmark) (buffers : Lent) {t : Turn} {after : Lent}
+    → PlainPages cells h theme Written b buffers (Turned t) after → t .looks ≡ 0
+written-free cells h theme b buffers {t} p = written-looks cells h theme b buffers t (sym (p .pages .answers))
 
 pub quick-stands : (cells : List ℕ) (h : ℕ) (theme : List ℕ) (way : Way) (b : Bookmark) (sets table : List ℕ) (buffers : Lent)
     {t : Turn} {table′ : List ℕ} {after : Lent} → QuickPages cells h theme way b sets table buffers (Turned t) table′ after
@@ -48,7 +54,7 @@ quick-stands cells h theme way b sets table buffers {t} p m =
     let e = p .pages .answers in
     let a = quick-turned cells h theme way b sets table buffers .0 (t, sym e) in
     let u = quick-page cells h theme way b buffers (a .plain) sets table (a .with-sets) (a .table-long) in
-    quick-true cells h theme way b buffers (a .plain) sets table (a .with-sets) (a .table-long)
+    quick-true cells h theme b buffers way (a .plain) sets table (a .with-sets) (a .table-long)
     (read-same (turned-same (e ∙ u .answered)) (p .pages .writes) m)
 
 -- the sets that an accepted preparation leaves

@@ -21,9 +21,11 @@ use Rattle.preparing.specs.declared.sets.Preparation.{Preparation}
 use Rattle.preparing.specs.declared.sets.Preparation.the-variants.{Prepared, Refused as Unprepared}
 use Rattle.preparing.specs.Preparing.{prepareRows, Prepares}
 use Rattle.ways.specs.declared.way.Way.{Way}
+use Rattle.ways.specs.declared.way.AnyWay.{AnyWay}
+use Rattle.ways.specs.declared.way.AnyWay.the-variants.{Moved, Written}
 use Rattle.ways.specs.declared.bookmark.Pair.{Pair}
 use Rattle.ways.specs.declared.bookmark.Bookmark.{Bookmark}
-use Rattle.ways.specs.Way.{rangeOf}
+use Rattle.ways.specs.Way.{rangeAs}
 use Rattle.ways.specs.Bookmarks.{firstBookmark}
 use Rattle.asking.specs.Limits.{mostNotes}
 use Rattle.asking.specs.Refusals.{requestRows}
@@ -35,7 +37,7 @@ use Rattle.paging.specs.Order.{Ordered}
 use Rattle.paging.specs.Page.{Leaf}
 use Rattle.paging.specs.Reading.{Reading}
 use Rattle.paging.specs.Listing.{Read, NoDearer}
-use Rattle.search.specs.Definition.{Stands}
+use Rattle.search.specs.Definition.{Stands, StandsAs}
 use Rattle.search.specs.Page.{rowsOfPlain, PlainPages, rowsOfQuick, QuickPages}
 use Rattle.search.specs.WholeList.{mostLooks}
 
@@ -56,14 +58,14 @@ pub record TurnsAway (numbers : List ℕ) (rows : List Row) (Refuses : Refusal �
 pub record Demand1 : Type 0 where
   -- there is an answer, whatever is given
   pub preparation-answers : (cells : List ℕ) (h : ℕ) (lent : List ℕ) → (a : Preparation) × ((after : List ℕ) × Prepares cells h lent a after)
-  pub plain-answers : (cells : List ℕ) (h : ℕ) (theme : List ℕ) (way : Way) (b : Bookmark) (buffers : Lent)
+  pub plain-answers : (cells : List ℕ) (h : ℕ) (theme : List ℕ) (way : AnyWay) (b : Bookmark) (buffers : Lent)
       → (a : Page) × ((after : Lent) × PlainPages cells h theme way b buffers a after)
   pub quick-answers : (cells : List ℕ) (h : ℕ) (theme : List ℕ) (way : Way) (b : Bookmark) (sets table : List ℕ) (buffers : Lent)
       → (a : Page) × ((table′ : List ℕ) × ((after : Lent) × QuickPages cells h theme way b sets table buffers a table′ after))
   -- and it is a refusal exactly on a row
   pub preparation : (cells : List ℕ) (h : ℕ) (lent : List ℕ) {answer : Preparation} {after : List ℕ} → Prepares cells h lent answer after
       → TurnsAway (1 ∷ 2 ∷ 3 ∷ 6 ∷ []) (prepareRows cells h lent) (λ r. answer ≡ Unprepared r) (answer ≡ Prepared) (after ≡ lent)
-  pub plain : (cells : List ℕ) (h : ℕ) (theme : List ℕ) (way : Way) (b : Bookmark) (buffers : Lent) {answer : Page} {after : Lent}
+  pub plain : (cells : List ℕ) (h : ℕ) (theme : List ℕ) (way : AnyWay) (b : Bookmark) (buffers : Lent) {answer : Page} {after : Lent}
       → PlainPages cells h theme way b buffers answer after
       → TurnsAway (1 ∷ 2 ∷ 3 ∷ 4 ∷ 5 ∷ 9 ∷ 10 ∷ []) (rowsOfPlain cells h theme way b buffers)
       (λ r. answer ≡ Refused r) ((t : Turn) × (answer ≡ Turned t)) (after ≡ buffers)
@@ -83,16 +85,18 @@ pub record IntervalsOf (score : List (List ℕ)) (sets : List ℕ) : Type 0 wher
   pub no-other : (k q : ℕ) → 12 ≤ q → bit (getD sets (k - 1) 0) q ≡ 0
 
 pub record Demand2 : Type 0 where
-  pub plain : (cells : List ℕ) (h : ℕ) (theme : List ℕ) (way : Way) (b : Bookmark) (buffers : Lent) {t : Turn} {after : Lent}
+  -- of all three ways: exact, octave, and as the tune is written
+  pub plain : (cells : List ℕ) (h : ℕ) (theme : List ℕ) (way : AnyWay) (b : Bookmark) (buffers : Lent) {t : Turn} {after : Lent}
       → PlainPages cells h theme way b buffers (Turned t) after
-      → {pair : Pair} → In pair (readPairs (t .written) after) → Stands way (scoreOf cells h) theme pair
+      → {pair : Pair} → In pair (readPairs (t .written) after) → StandsAs way (scoreOf cells h) theme pair
+  -- of the two that move it
   pub quick : (cells : List ℕ) (h : ℕ) (theme : List ℕ) (way : Way) (b : Bookmark) (sets table : List ℕ) (buffers : Lent)
       {t : Turn} {table′ : List ℕ} {after : Lent} → QuickPages cells h theme way b sets table buffers (Turned t) table′ after
       → {pair : Pair} → In pair (readPairs (t .written) after) → Stands way (scoreOf cells h) theme pair
   pub prepared : (cells : List ℕ) (h : ℕ) (lent : List ℕ) {after : List ℕ} → Prepares cells h lent Prepared after → IntervalsOf (scoreOf cells h) after
 
 -- ---- demand 3: whoever reads plain pages from the first bookmark on, and asks again with each bookmark that comes back until a page is finished,
--- has read every pair that stands, once and in order; quick pages by the score's own sets hold the same pairs, bookmarks and ends, with no
+-- has read every pair that stands, once and in order, in each of the three ways; quick pages by the score's own sets hold the same pairs, bookmarks and ends, with no
 -- more looks; a list of L pairs takes L / r + 1 pages
 
 -- no row of a score and a theme applies (1 to 5)
@@ -101,7 +105,7 @@ RightRequest cells h theme = verdict (requestRows mostNotes cells h theme) ≡ P
 
 -- any call that promises what a plain or a quick call does, at every bookmark and for whatever buffers it is lent. A quick call is lent these
 -- sets, and at each call any table of 4,096 places
-abbrev pub PlainCall : (cells : List ℕ) (h : ℕ) (theme : List ℕ) → Way → (Bookmark → Lent → Leaf) → Type 0
+abbrev pub PlainCall : (cells : List ℕ) (h : ℕ) (theme : List ℕ) → AnyWay → (Bookmark → Lent → Leaf) → Type 0
 PlainCall cells h theme way call = (b : Bookmark) (buffers : Lent) → PlainPages cells h theme way b buffers (call b buffers .answer) (call b buffers .buffers)
 
 pub record QuickCall (cells : List ℕ) (h : ℕ) (theme : List ℕ) (way : Way) (sets : List ℕ) (call : Bookmark → Lent → Leaf) : Type 0 where
@@ -113,16 +117,16 @@ pub record QuickCall (cells : List ℕ) (h : ℕ) (theme : List ℕ) (way : Way)
 
 -- with room r and from the first bookmark: whatever buffers are lent there is a reading; and of every reading the pages, joined, hold exactly the
 -- pairs that stand, each once and in order; there are L / r + 1 of them; and their looks are within the bound
-pub record ListsAll (cells : List ℕ) (h : ℕ) (theme : List ℕ) (way : Way) (r : ℕ) (call : Bookmark → Lent → Leaf) : Type 0 where
-  pub read : (supply : ℕ → Lent) → ((i : ℕ) → Room r (supply i)) → Read supply call r 0 (firstBookmark (rangeOf way))
-  pub exactly : {pages : List (List Pair)} {turns : List Turn} → Reading call r (firstBookmark (rangeOf way)) pages turns
-      → (pair : Pair) → In pair (join pages) ↔ Stands way (scoreOf cells h) theme pair
-  pub ordered : {pages : List (List Pair)} {turns : List Turn} → Reading call r (firstBookmark (rangeOf way)) pages turns → Ordered (join pages)
-  pub once : {pages : List (List Pair)} {turns : List Turn} → Reading call r (firstBookmark (rangeOf way)) pages turns
+pub record ListsAll (cells : List ℕ) (h : ℕ) (theme : List ℕ) (way : AnyWay) (r : ℕ) (call : Bookmark → Lent → Leaf) : Type 0 where
+  pub read : (supply : ℕ → Lent) → ((i : ℕ) → Room r (supply i)) → Read supply call r 0 (firstBookmark (rangeAs way))
+  pub exactly : {pages : List (List Pair)} {turns : List Turn} → Reading call r (firstBookmark (rangeAs way)) pages turns
+      → (pair : Pair) → In pair (join pages) ↔ StandsAs way (scoreOf cells h) theme pair
+  pub ordered : {pages : List (List Pair)} {turns : List Turn} → Reading call r (firstBookmark (rangeAs way)) pages turns → Ordered (join pages)
+  pub once : {pages : List (List Pair)} {turns : List Turn} → Reading call r (firstBookmark (rangeAs way)) pages turns
       → (before : List Pair) (pair : Pair) (behind : List Pair) → join pages ≡ before ++ pair ∷ behind → In pair behind → ⊥
-  pub counted : {pages : List (List Pair)} {turns : List Turn} → Reading call r (firstBookmark (rangeOf way)) pages turns
+  pub counted : {pages : List (List Pair)} {turns : List Turn} → Reading call r (firstBookmark (rangeAs way)) pages turns
       → length pages ≡ length (join pages) / r + 1
-  pub looked : {pages : List (List Pair)} {turns : List Turn} → Reading call r (firstBookmark (rangeOf way)) pages turns
+  pub looked : {pages : List (List Pair)} {turns : List Turn} → Reading call r (firstBookmark (rangeAs way)) pages turns
       → sum (map (λ (t : Turn). t .looks) turns) ≤ mostLooks cells h theme
 
 -- page by page the same count, the same bookmark and the same end, with no more looks
@@ -131,22 +135,26 @@ pub data NoneDearer : (quick plain : List Turn) → Type 0 where
   more : {t u : Turn} {ts us : List Turn} → NoDearer (Turned t) (Turned u) → NoneDearer ts us → NoneDearer (t ∷ ts) (u ∷ us)
 
 pub record Demand3 : Type 0 where
-  pub plain : (cells : List ℕ) (h : ℕ) (theme : List ℕ) (way : Way) → RightRequest cells h theme → (r : ℕ) → 1 ≤ r
+  -- all three ways
+  pub plain : (cells : List ℕ) (h : ℕ) (theme : List ℕ) (way : AnyWay) → RightRequest cells h theme → (r : ℕ) → 1 ≤ r
       → {call : Bookmark → Lent → Leaf} → PlainCall cells h theme way call → ListsAll cells h theme way r call
-  -- with the sets that a preparation left for that same score
+  -- as the tune is written, no page takes a look
+  pub written : (cells : List ℕ) (h : ℕ) (theme : List ℕ) (b : Bookmark) (buffers : Lent) {t : Turn} {after : Lent}
+      → PlainPages cells h theme Written b buffers (Turned t) after → t .looks ≡ 0
+  -- with the sets that a preparation left for that same score, the two ways that move the theme
   pub quick : (cells : List ℕ) (h : ℕ) (theme : List ℕ) (way : Way) → RightRequest cells h theme → (r : ℕ) → 1 ≤ r
       → (lent : List ℕ) {sets : List ℕ} → Prepares cells h lent Prepared sets
-      → {call : Bookmark → Lent → Leaf} → QuickCall cells h theme way sets call → ListsAll cells h theme way r call
+      → {call : Bookmark → Lent → Leaf} → QuickCall cells h theme way sets call → ListsAll cells h theme (Moved way) r call
   -- and then every page holds what the plain one does, page after page from the first bookmark, or one page from any bookmark
   pub same-page : (cells : List ℕ) (h : ℕ) (theme : List ℕ) (way : Way) (b : Bookmark) (buffers buffers′ : Lent) (table : List ℕ)
       → length (buffers′ .columns) ≡ length (buffers .columns)
       → (lent : List ℕ) {sets : List ℕ} → Prepares cells h lent Prepared sets
-      → {t u : Turn} {after after′ : Lent} {table′ : List ℕ} → PlainPages cells h theme way b buffers (Turned u) after
+      → {t u : Turn} {after after′ : Lent} {table′ : List ℕ} → PlainPages cells h theme (Moved way) b buffers (Turned u) after
       → QuickPages cells h theme way b sets table buffers′ (Turned t) table′ after′
       → (readPairs (t .written) after′ ≡ readPairs (u .written) after) × NoDearer (Turned t) (Turned u)
   pub same : (cells : List ℕ) (h : ℕ) (theme : List ℕ) (way : Way) → RightRequest cells h theme → (r : ℕ) → 1 ≤ r
       → (lent : List ℕ) {sets : List ℕ} → Prepares cells h lent Prepared sets
-      → {plainly quickly : Bookmark → Lent → Leaf} → PlainCall cells h theme way plainly → QuickCall cells h theme way sets quickly
+      → {plainly quickly : Bookmark → Lent → Leaf} → PlainCall cells h theme (Moved way) plainly → QuickCall cells h theme way sets quickly
       → {pages pages′ : List (List Pair)} {turns turns′ : List Turn}
-      → Reading plainly r (firstBookmark (rangeOf way)) pages turns → Reading quickly r (firstBookmark (rangeOf way)) pages′ turns′
+      → Reading plainly r (firstBookmark (rangeAs (Moved way))) pages turns → Reading quickly r (firstBookmark (rangeAs (Moved way))) pages′ turns′
       → (pages′ ≡ pages) × NoneDearer turns′ turns
