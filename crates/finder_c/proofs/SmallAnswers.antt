@@ -1,15 +1,17 @@
--- Every answer of the finder is small: a refused place is below 65,536, and no page has more pairs than looks. The idea: a
--- row names a place only after the rows that bound the length of what it goes through, and each start costs a look at
--- least. Assumes nothing.
+-- Every answer of the finder is small: a refused place is below 65,536, and the pairs of a page are a number of 32 bits. The
+-- idea: a row names a place only after the rows that bound the length of what it goes through; a start of a theme that is
+-- moved costs a look at least, and as the tune is written a column has one pair at most. Assumes nothing.
 use mathlib.Core.Path.{_≡_, refl}
 use mathlib.Core.Bool.{Bool, true, false, cond}
 use mathlib.Core.List.{List, [], _∷_}
-use Prim.Native.Nat.{ℕ, zero, suc, _+_, _≤_, zero-le}
-use native.Mathlib.Nat.{mul-le-mul}
+use Prim.Native.Nat.{ℕ, zero, suc, _+_, _-_, _^_, _≤_, _<_, zero-le}
+use native.Mathlib.Nat.{mul-le-mul, lt-of-le-of-lt}
 use native.Mathlib.Omega.{arith}
 use lib.ListN.{length, length-map}
 use Rattle.theory.specs.Pages.{pageHits, pageLooks}
-use Rattle.theory.proofs.Lists.{some-first}
+use Rattle.theory.specs.Lists.{count}
+use Rattle.theory.proofs.Lists.{some-first, count-length}
+use Rattle.theory.proofs.Pages.{hits-le, page-le}
 use Rattle.score.specs.Limits.{mostTracks, mostColumns, mostCells}
 use Rattle.score.specs.declared.refusals.Refusal.{Refusal}
 use Rattle.score.specs.Score.{columnsIn, scoreOf}
@@ -17,34 +19,41 @@ use Rattle.score.specs.Refusals.{Row, judge, row1, row2, row3, row6, row7, badC
 use Rattle.score.specs.Sets.{sets as setsOf}
 use Rattle.preparing.specs.declared.sets.Preparation.the-variants.{Prepared, Refused as Away}
 use Rattle.preparing.specs.Preparing.{Filled, prepared}
-use Rattle.score.proofs.Columns.{columns-whole}
+use Rattle.score.proofs.Columns.{columns-whole, score-length}
+use Rattle.score.proofs.Judged.{Clear}
 use Rattle.ways.specs.declared.way.Way.{Way}
+use Rattle.ways.specs.declared.way.AnyWay.{AnyWay}
+use Rattle.ways.specs.declared.way.AnyWay.the-variants.{Moved, Written}
 use Rattle.ways.specs.declared.bookmark.Bookmark.{Bookmark}
 use Rattle.asking.specs.Limits.{mostNotes}
+use Rattle.asking.specs.Asking.{Accepted}
 use Rattle.walking.specs.Starts.{Place, looks}
-use Rattle.ways.specs.Way.{rangeOf}
+use Rattle.ways.specs.Way.{Range, rangeOf, rangeAs}
 use Rattle.asking.specs.Refusals.{row4, row5, row8, badNote, pageRows}
 use Rattle.filter.specs.Limits.{wordBits}
 use Rattle.filter.specs.Table.{themeTable}
 use Rattle.paging.specs.Lent.{Lent}
-use Rattle.paging.specs.Search.{Search, left}
+use Rattle.paging.specs.Order.{atOrAfter}
+use Rattle.paging.specs.Search.{Search, left, found, spent}
 use Rattle.paging.specs.Page.{Leaf, leaf, away}
-use Rattle.search.specs.Pairs.{plainSearch, quickSearch}
+use Rattle.written.specs.Written.{writtenSearch}
+use Rattle.search.specs.Pairs.{plainSearch, quickSearch, searchAs}
 use Rattle.search.specs.Page.{rowsOfPlain, rowsOfQuick, plainPage, quickPage}
-use Rattle.asking.proofs.Rows.{row1-clear, row2-clear, row4-clear, row6-clear}
+use Rattle.search.proofs.WholeLists.{most-fits, plain-page-le, quick-page-le}
+use Rattle.asking.proofs.Rows.{row1-clear, row2-clear, row4-clear, row6-clear, plain-clear, quick-clear}
 use Rattle.finder_c.specs.Small.{SmallPlace, SmallPreparation, SmallPage}
 
 -- ---- rows
 
--- each row that applies after those that do not names a small place, and after all rows X
-abbrev SmallRows : (X : Type 0) → List Row → Type 0
-SmallRows X [] = X
-SmallRows X (r ∷ rows) = (r .applies ≡ true → SmallPlace (r .given)) × (r .applies ≡ false → SmallRows X rows)
+-- each row that applies after those that do not names a small place
+abbrev SmallRows : List Row → Type 0
+SmallRows [] = Unit {0}
+SmallRows (r ∷ rows) = (r .applies ≡ true → SmallPlace (r .given)) × (r .applies ≡ false → SmallRows rows)
 
 judge-small : {A : Type 0} (P : A → Type 0) (refused : Refusal → A) (accepted : A) → ((r : Refusal) → SmallPlace r → P (refused r)) → (rows : List Row)
-    → SmallRows (P accepted) rows → P (judge rows refused accepted)
-judge-small P refused accepted f [] s = s
-judge-small P refused accepted f (r ∷ rows) s = step (r .applies) refl (λ e. judge-small P refused accepted f rows (s .1 e))
+    → SmallRows rows → (Clear rows → P accepted) → P (judge rows refused accepted)
+judge-small P refused accepted f [] s x = x tt
+judge-small P refused accepted f (r ∷ rows) s x = step (r .applies) refl (λ e. judge-small P refused accepted f rows (s .1 e) (λ c. x (e, c)))
   where
     step : (b : Bool) → r .applies ≡ b → (r .applies ≡ false → P (judge rows refused accepted)) → P (cond b (refused (r .given)) (judge rows refused accepted))
     step true e more = f (r .given) (s .0 e)
@@ -62,22 +71,22 @@ cells-few cells h a b =
     let two = row2-clear cells h .0 b in
     omega (arith, columns-whole cells h (two .0 .0), mul-le-mul {n₁ = columnsIn cells h} {m₁ = h} {n₂ = mostColumns} {m₂ = mostTracks} (two .1) (one .1))
 
-score-small : (X : Type 0) (cells : List ℕ) (h : ℕ) (rows : List Row) → (row2 cells h .applies ≡ false → SmallRows X rows)
-    → SmallRows X (row1 h ∷ row2 cells h ∷ row3 cells ∷ rows)
-score-small X cells h rows more = (
+score-small : (cells : List ℕ) (h : ℕ) (rows : List Row) → (row2 cells h .applies ≡ false → SmallRows rows)
+    → SmallRows (row1 h ∷ row2 cells h ∷ row3 cells ∷ rows)
+score-small cells h rows more = (
   λ e. nowhere,
   λ a. (λ e. nowhere, λ b. (λ e. record { place = omega (arith, some-first badCell cells e, cells-few cells h a b) }, λ d. more b)),
 )
 
-theme-small : (X : Type 0) (theme : List ℕ) (rows : List Row) → (2 ≤ length theme → SmallRows X rows) → SmallRows X (row4 mostNotes theme ∷ row5 theme ∷ rows)
-theme-small X theme rows more = (
+theme-small : (theme : List ℕ) (rows : List Row) → SmallRows rows → SmallRows (row4 mostNotes theme ∷ row5 theme ∷ rows)
+theme-small theme rows more = (
   λ e. nowhere,
-  λ a. (λ e. record { place = omega (arith, some-first badNote theme e, row4-clear mostNotes theme .0 a .1) }, λ d. more (row4-clear mostNotes theme .0 a .0)),
+  λ a. (λ e. record { place = omega (arith, some-first badNote theme e, row4-clear mostNotes theme .0 a .1) }, λ d. more),
 )
 
-sets-small : (X : Type 0) (cells : List ℕ) (h : ℕ) (sets : List ℕ) (rows : List Row) → row2 cells h .applies ≡ false → SmallRows X rows
-    → SmallRows X (row6 cells h sets ∷ row7 sets ∷ rows)
-sets-small X cells h sets rows b more = (
+sets-small : (cells : List ℕ) (h : ℕ) (sets : List ℕ) (rows : List Row) → row2 cells h .applies ≡ false → SmallRows rows
+    → SmallRows (row6 cells h sets ∷ row7 sets ∷ rows)
+sets-small cells h sets rows b more = (
   λ e. nowhere,
   λ a. (λ e. record { place = omega (arith, some-first badSet sets e, row6-clear cells h sets .0 a, row2-clear cells h .0 b .1) }, λ d. more),
 )
@@ -107,34 +116,61 @@ pub prepared-small : (cells : List ℕ) (h : ℕ) (sets : List ℕ) → SmallPre
 prepared-small cells h sets =
     judge-small (λ (f : Filled). SmallPreparation (f .answer)) (λ r. record { answer = Away r; sets = sets })
     (record { answer = Prepared; sets = setsOf (scoreOf cells h) }) (λ r s. s) (row1 h ∷ row2 cells h ∷ row3 cells ∷ row6 cells h sets ∷ [])
-    (score-small _ cells h (row6 cells h sets ∷ []) (λ b. (λ e. nowhere, λ d. tt {0})))
+    (score-small cells h (row6 cells h sets ∷ []) (λ b. (λ e. nowhere, λ d. tt {0}))) (λ c. tt {0})
 
-module _ (cells : List ℕ) (h : ℕ) (theme : List ℕ) (way : Way) (b : Bookmark) (buffers : Lent) where
-  -- a page of any search whose starts cost a look at least
-  search-pays : (S : Search Place) → ((s : Place) → 1 ≤ S .looks s) → SmallPage (leaf S b buffers .answer)
-  search-pays S pays =
-      let r = length (buffers .columns) in
-      record { written = omega (arith, length-map (pageHits (S .hit) r (left S b)) (S .shown), page-pays (S .hit) (S .looks) pays r (left S b)) }
+-- the rows of the room and of the bookmark name no place
+page-small : (range : Range) (n : ℕ) (b : Bookmark) (r other : ℕ) → SmallRows (pageRows range n b r other)
+page-small range n b r other = (λ e. nowhere, λ a. (λ e. nowhere, λ d. tt {0}))
 
-  -- the rows of the room and of the bookmark, and then the page
-  page-small : (S : Search Place) → ((s : Place) → 1 ≤ S .looks s)
-      → SmallRows (SmallPage (leaf S b buffers .answer)) (pageRows (rangeOf way) (columnsIn cells h) b (length (buffers .columns)) (length (buffers .shifts)))
-  page-small S pays = (λ e. nowhere, λ a. (λ e. nowhere, λ d. search-pays S pays))
+module _ (cells : List ℕ) (h : ℕ) (theme : List ℕ) (b : Bookmark) (buffers : Lent) where
+  abbrev r : ℕ
+  r = length (buffers .columns)
 
-  pub plain-small : SmallPage (plainPage cells h theme way b buffers .answer)
+  -- a page whose looks are few, each start of which costs one at least
+  few-looks : {A : Type 0} (S : Search A) → ((s : A) → 1 ≤ S .looks s) → spent S r b < 2 ^ 32 → length (found S r b) < 2 ^ 32
+  few-looks S pays few =
+      omega (arith, length-map (pageHits (S .hit) r (left S b)) (S .shown), page-pays (S .hit) (S .looks) pays r (left S b), few)
+
+  -- all ways: as the tune is written no page has more pairs than there are columns
+  found-few : (way : AnyWay) → Accepted mostNotes cells h theme → length (found (searchAs way (scoreOf cells h) theme) r b) < 2 ^ 32
+  found-few (Moved way) a =
+      few-looks (plainSearch way (scoreOf cells h) theme) (looks-some way (scoreOf cells h) theme (a .notes-some))
+      (lt-of-le-of-lt (plain-page-le cells h theme (Moved way) b r) (most-fits cells h theme a))
+  found-few Written a =
+      let S = writtenSearch (scoreOf cells h) theme in
+      let n = length (scoreOf cells h) + 1 - length theme in
+      omega (
+        arith,
+        length-map (pageHits (S .hit) r (left S b)) (S .shown),
+        page-le (S .hit) r (left S b),
+        hits-le (λ j. atOrAfter b (S .shown j)) (count 1 n),
+        count-length 1 n,
+        score-length cells h,
+        a .columns-few,
+      )
+
+  pub plain-small : (way : AnyWay) → SmallPage (plainPage cells h theme way b buffers .answer)
   unfolding plainPage
-  plain-small =
-      let page = pageRows (rangeOf way) (columnsIn cells h) b (length (buffers .columns)) (length (buffers .shifts)) in
-      let S = plainSearch way (scoreOf cells h) theme in
+  plain-small way =
+      let page = pageRows (rangeAs way) (columnsIn cells h) b r (length (buffers .shifts)) in
+      let S = searchAs way (scoreOf cells h) theme in
       judge-small (λ (l : Leaf). SmallPage (l .answer)) (away buffers) (leaf S b buffers) (λ r s. s) (rowsOfPlain cells h theme way b buffers)
-      (score-small _ cells h (row4 mostNotes theme ∷ row5 theme ∷ page) (λ e. theme-small _ theme page (λ m. page-small S (looks-some way (scoreOf cells h) theme m))))
+      (score-small cells h (row4 mostNotes theme ∷ row5 theme ∷ page)
+      (λ e. theme-small theme page (page-small (rangeAs way) (columnsIn cells h) b r (length (buffers .shifts)))))
+      (λ c. record { written = found-few way (plain-clear cells h theme way b (buffers .columns) (buffers .shifts) .1 c .accepted) })
 
-  pub quick-small : (sets table : List ℕ) → SmallPage (quickPage cells h theme way b sets table buffers .answer)
+  pub quick-small : (way : Way) (sets table : List ℕ) → SmallPage (quickPage cells h theme way b sets table buffers .answer)
   unfolding quickPage
-  quick-small sets table =
-      let page = pageRows (rangeOf way) (columnsIn cells h) b (length (buffers .columns)) (length (buffers .shifts)) in
+  quick-small way sets table =
+      let page = pageRows (rangeOf way) (columnsIn cells h) b r (length (buffers .shifts)) in
       let rows = row6 cells h sets ∷ row7 sets ∷ row8 (length table) ∷ page in
       let S = quickSearch wordBits way (scoreOf cells h) theme (themeTable wordBits theme) sets in
       judge-small (λ (l : Leaf). SmallPage (l .answer)) (away buffers) (leaf S b buffers) (λ r s. s) (rowsOfQuick cells h theme way b sets table buffers)
-      (score-small _ cells h (row4 mostNotes theme ∷ row5 theme ∷ rows)
-      (λ e. theme-small _ theme rows (λ m. sets-small _ cells h sets (row8 (length table) ∷ page) e (λ t. nowhere, λ t. page-small S (looks-some way (scoreOf cells h) theme m)))))
+      (score-small cells h (row4 mostNotes theme ∷ row5 theme ∷ rows)
+      (λ e. theme-small theme rows
+          (sets-small cells h sets (row8 (length table) ∷ page) e (λ t. nowhere, λ t. page-small (rangeOf way) (columnsIn cells h) b r (length (buffers .shifts))))))
+      (λ c. let a = quick-clear cells h theme way b sets table (buffers .columns) (buffers .shifts) .1 c .plain .accepted in
+          record {
+            written = few-looks S (looks-some way (scoreOf cells h) theme (a .notes-some))
+                (lt-of-le-of-lt (quick-page-le cells h theme way b r wordBits (themeTable wordBits theme) sets) (most-fits cells h theme a));
+          })

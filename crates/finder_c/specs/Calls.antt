@@ -12,8 +12,8 @@ use Rattle.ways.specs.declared.bookmark.Bookmark.{Bookmark}
 use Rattle.paging.specs.Lent.{Lent}
 use Rattle.paging.specs.Page.{Leaf}
 use Rattle.search.specs.Page.{plainPage, quickPage, quickTable}
-use Rattle.finder_c.specs.Limits.{notCalled}
-use Rattle.finder_c.specs.Numbers.{wayOf, noCall, preparationNumber, pageNumber, pageNumbers}
+use Rattle.finder_c.specs.Limits.{octave, written, notCalled}
+use Rattle.finder_c.specs.Numbers.{wayOf, anyWayOf, noCall, preparationNumber, pageNumber, pageNumbers}
 
 -- finder_prepare
 pub record CPrepares (cells : List ℕ) (h : ℕ) (sets : List ℕ) (result : ℤ) (sets′ : List ℕ) : Type 0 where
@@ -47,8 +47,8 @@ pub record CPages (leaf : CLeaf) (result : ℤ) (after : Lent) (answer′ : List
 
 abbrev pub cPlainPage : (cells : List ℕ) (h : ℕ) (theme : List ℕ) (way column : ℕ) (shift : ℤ) → Lent → (answer : List ℤ) → CLeaf
 cPlainPage cells h theme way column shift buffers answer =
-    cond (noCall way (length answer)) (noLeaf buffers answer)
-    (leafNumbers (plainPage cells h theme (wayOf way) (bookmark column shift) buffers) answer)
+    cond (noCall written way (length answer)) (noLeaf buffers answer)
+    (leafNumbers (plainPage cells h theme (anyWayOf way) (bookmark column shift) buffers) answer)
 
 pub record CPlainPages (cells : List ℕ) (h : ℕ) (theme : List ℕ) (way column : ℕ) (shift : ℤ) (buffers : Lent) (answer : List ℤ)
     (result : ℤ) (after : Lent) (answer′ : List ℤ) : Type 0 where
@@ -58,13 +58,13 @@ pub record CPlainPages (cells : List ℕ) (h : ℕ) (theme : List ℕ) (way colu
 
 abbrev pub cQuickPage : (cells : List ℕ) (h : ℕ) (theme : List ℕ) (way column : ℕ) (shift : ℤ) (sets table : List ℕ) → Lent → (answer : List ℤ) → CLeaf
 cQuickPage cells h theme way column shift sets table buffers answer =
-    cond (noCall way (length answer)) (noLeaf buffers answer)
+    cond (noCall octave way (length answer)) (noLeaf buffers answer)
     (leafNumbers (quickPage cells h theme (wayOf way) (bookmark column shift) sets table buffers) answer)
 
 -- a quick call leaves a table, too
 abbrev pub cQuickTable : (cells : List ℕ) (h : ℕ) (theme : List ℕ) (way column : ℕ) (shift : ℤ) (sets table : List ℕ) → Lent → (answer : List ℤ) → List ℕ
 cQuickTable cells h theme way column shift sets table buffers answer =
-    cond (noCall way (length answer)) table (quickTable cells h theme (wayOf way) (bookmark column shift) sets table buffers)
+    cond (noCall octave way (length answer)) table (quickTable cells h theme (wayOf way) (bookmark column shift) sets table buffers)
 
 pub record CQuickPages (cells : List ℕ) (h : ℕ) (theme : List ℕ) (way column : ℕ) (shift : ℤ) (sets table : List ℕ) (buffers : Lent) (answer : List ℤ)
     (result : ℤ) (table′ : List ℕ) (after : Lent) (answer′ : List ℤ) : Type 0 where

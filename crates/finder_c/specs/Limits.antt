@@ -1,6 +1,13 @@
 -- How an answer is told in numbers, each a constant of the code, in `src/limits`, by the same name. Assumes nothing.
 use Prim.Native.Nat.{ℕ}
 
+-- the numbers of ways: the plain page's go up to written, the quick page's to octave
+abbrev pub octave : ℕ
+octave = 1
+
+abbrev pub written : ℕ
+written = 2
+
 -- how many numbers the answer of a page has
 abbrev pub answerNumbers : ℕ
 answerNumbers = 5

@@ -1,4 +1,4 @@
--- Answers in numbers: a way is 0 or 1, an accepted call is 0, and a refusal is its number + 256 * its place. The definition
+-- Answers in numbers: a way is 0, 1 or 2, an accepted call is 0, and a refusal is its number + 256 * its place. The definition
 -- that matters is `pageNumbers`, the five places of a page's answer. Assumes nothing.
 use mathlib.Core.Bool.{Bool, cond, not, _||_}
 use mathlib.Core.List.{List, [], _∷_}
@@ -9,19 +9,25 @@ use Rattle.score.specs.declared.refusals.Refusal.{Refusal}
 use Rattle.preparing.specs.declared.sets.Preparation.{Preparation}
 use Rattle.preparing.specs.declared.sets.Preparation.the-variants as preparation
 use Rattle.ways.specs.declared.way.Way.{Way}
+use Rattle.ways.specs.declared.way.AnyWay.{AnyWay}
+use Rattle.ways.specs.declared.way.AnyWay.the-variants.{Moved, Written}
 use Rattle.ways.specs.declared.way.Way.the-variants.{Exact, Octave}
 use Rattle.paging.specs.declared.page.Turn.{Turn}
 use Rattle.paging.specs.declared.page.Page.{Page}
 use Rattle.paging.specs.declared.page.Page.the-variants.{Turned, Refused}
-use Rattle.finder_c.specs.Limits.{answerNumbers, placeWeight}
+use Rattle.finder_c.specs.Limits.{written, answerNumbers, placeWeight}
 
 -- 0 exact, 1 octave
 abbrev pub wayOf : ℕ → Way
 wayOf way = cond (eqb way 0) Exact Octave
 
--- the number is no way, or the answer has not five places: the result is 255
-abbrev pub noCall : (way len : ℕ) → Bool
-noCall way len = ltb 1 way || not (eqb len answerNumbers)
+-- and 2 written
+abbrev pub anyWayOf : ℕ → AnyWay
+anyWayOf way = cond (ltb way written) (Moved (wayOf way)) Written
+
+-- the number is above the highest way of a call, or the answer has not five places: the result is 255
+abbrev pub noCall : (highest way len : ℕ) → Bool
+noCall highest way len = ltb highest way || not (eqb len answerNumbers)
 
 abbrev pub refusalNumber : Refusal → ℤ
 refusalNumber r = pos (r .number + placeWeight * r .place)

@@ -1,6 +1,6 @@
--- What makes an answer's numbers fit 64 bits: a refused place is below 65,536, and no page has more pairs than looks. Asked
+-- What makes an answer's numbers fit 64 bits: a refused place is below 65,536, and the pairs of a page are a number of 32 bits. Asked
 -- by inner functions only; that every answer of the finder is so is a law of this crate. Assumes nothing.
-use Prim.Native.Nat.{_≤_, _<_}
+use Prim.Native.Nat.{_^_, _<_}
 use Rattle.score.specs.declared.refusals.Refusal.{Refusal}
 use Rattle.preparing.specs.declared.sets.Preparation.{Preparation}
 use Rattle.preparing.specs.declared.sets.Preparation.the-variants as preparation
@@ -12,7 +12,7 @@ pub record SmallPlace (r : Refusal) : Type 0 where
   pub place : r .place < 65536
 
 pub record SmallTurn (t : Turn) : Type 0 where
-  pub written : t .written ≤ t .looks
+  pub written : t .written < 2 ^ 32
 
 abbrev pub SmallPreparation : Preparation → Type 0
 SmallPreparation preparation.Prepared = Unit {0}

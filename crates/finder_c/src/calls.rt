@@ -2,6 +2,9 @@
 // but that the memory lent is there: what cannot be answered is refused, and a refused call writes nothing.
 
 use crate::limits::NOT_CALLED;
+use crate::limits::OCTAVE;
+use crate::limits::WRITTEN;
+use crate::told::any_way_of;
 use crate::told::no_call;
 use crate::told::told_page;
 use crate::told::told_preparation;
@@ -22,7 +25,7 @@ pub extern "C" fn finder_prepare(cells: &[u8], tracks: usize, sets: &mut [u16]) 
     told_preparation(prepare(cells, tracks, sets))
 }
 
-// A plain page from the bookmark (column, shift): 0, and the five numbers of the page in `answer`. Otherwise the refusal,
+// A plain page of a way, 0 exact, 1 octave, 2 written, from the bookmark (column, shift): 0, and the five numbers of the page in `answer`. Otherwise the refusal,
 // 1 to 5, 9 or 10, as number + 256 * place; or 255 where `way` is no way or `answer` is not 5 long.
 #[no_mangle]
 pub extern "C" fn finder_plain_page(
@@ -38,18 +41,19 @@ pub extern "C" fn finder_plain_page(
 ) -> i64
     ensures { λ r. ⌜ CPlainPages (now (cells .entry)) tracks (now (theme .entry)) way column shift (lent (now (columns .entry)) (now (shifts .entry))) (now (answer .entry)) r (lent (now (columns .exit)) (now (shifts .exit))) (now (answer .exit)) ⌝ }
 {
-    if no_call(way, answer.len()) {
+    if no_call(WRITTEN, way, answer.len()) {
         return NOT_CALLED;
     }
     let bookmark = Bookmark {
         column: Column(column),
         shift,
     };
-    let p = plain_page(cells, tracks, theme, way_of(way), bookmark, columns, shifts);
+    let p = plain_page(cells, tracks, theme, any_way_of(way), bookmark, columns, shifts);
     told_page(p, answer)
 }
 
-// A quick page: the same, with the prepared sets of the score; the theme's table is left in `table`. Refuses 1 to 10.
+// A quick page: the same of exact and octave, with the prepared sets of the score; the theme's table is left in `table`.
+// Refuses 1 to 10.
 #[no_mangle]
 pub extern "C" fn finder_quick_page(
     cells: &[u8],
@@ -66,7 +70,7 @@ pub extern "C" fn finder_quick_page(
 ) -> i64
     ensures { λ r. ⌜ CQuickPages (now (cells .entry)) tracks (now (theme .entry)) way column shift (now (sets .entry)) (now (table .entry)) (lent (now (columns .entry)) (now (shifts .entry))) (now (answer .entry)) r (now (table .exit)) (lent (now (columns .exit)) (now (shifts .exit))) (now (answer .exit)) ⌝ }
 {
-    if no_call(way, answer.len()) {
+    if no_call(OCTAVE, way, answer.len()) {
         return NOT_CALLED;
     }
     let bookmark = Bookmark {

@@ -1,4 +1,9 @@
-// How an answer is told in numbers.
+// How a way and an answer are told in numbers.
+
+// The numbers of ways: the plain page's go up to written, the quick page's to octave.
+pub const OCTAVE: u8 = 1;
+
+pub const WRITTEN: u8 = 2;
 
 // How many numbers the answer of a page has.
 pub const ANSWER_NUMBERS: usize = 5;

@@ -2,8 +2,10 @@
 
 use crate::limits::ANSWER_NUMBERS;
 use crate::limits::PLACE_WEIGHT;
+use crate::limits::WRITTEN;
 use preparing::Preparation;
 use score::Refusal;
+use search::AnyWay;
 use search::Page;
 use search::Turn;
 use search::Way;
@@ -11,7 +13,7 @@ ghost use mathlib.Core.Path.{_≡_};
 ghost use mathlib.Core.List.{[], _∷_};
 ghost use lib.ListN.{length};
 ghost use Rattle.finder_c.specs.Limits.{answerNumbers};
-ghost use Rattle.finder_c.specs.Numbers.{wayOf, noCall, refusalNumber, preparationNumber, pageNumber, turnNumbers, pageNumbers};
+ghost use Rattle.finder_c.specs.Numbers.{wayOf, anyWayOf, noCall, refusalNumber, preparationNumber, pageNumber, turnNumbers, pageNumbers};
 ghost use Rattle.finder_c.specs.Small.{SmallPlace, SmallPreparation, SmallPage, SmallTurn};
 
 // The way of a number that is one: 0 exact, 1 octave.
@@ -21,11 +23,21 @@ pub fn way_of(way: u8) -> Way
     if way == 0 { Way::Exact } else { Way::Octave }
 }
 
-// Whether the number is no way, or the answer has not five places.
-pub fn no_call(way: u8, len: usize) -> bool
-    ensures { λ r. ⌜ r ≡ noCall way len ⌝ }
+// The same with 2 written.
+pub fn any_way_of(way: u8) -> AnyWay
+    ensures { λ r. ⌜ r ≡ anyWayOf way ⌝ }
 {
-    (1 < way) | (len != ANSWER_NUMBERS)
+    if way < WRITTEN {
+        return AnyWay::Moved(way_of(way));
+    }
+    AnyWay::Written
+}
+
+// Whether the number is above the highest way of a call, or the answer has not five places.
+pub fn no_call(highest: u8, way: u8, len: usize) -> bool
+    ensures { λ r. ⌜ r ≡ noCall highest way len ⌝ }
+{
+    (highest < way) | (len != ANSWER_NUMBERS)
 }
 
 // A refusal's number + 256 * its place.

@@ -50,6 +50,10 @@ module _ {A : Type 0} (hit : A → Bool) where
       step true p = omega arith
       step false p = omega arith
 
+  -- a page has no more than there are starts
+  pub page-le : (r : ℕ) (xs : List A) → length (pageHits hit r xs) ≤ length xs
+  page-le r xs = omega (arith, ap length (page-take r xs), length-take r (hits hit xs), hits-le xs)
+
   pub length-page : (r : ℕ) (xs : List A) → full hit r xs ≡ true → r ≤ length (hits hit xs)
   length-page r xs e = omega (arith, leb-true r (length (pageHits hit r xs)) e, ap length (page-take r xs), length-take r (hits hit xs))
 

@@ -5,6 +5,7 @@ use mathlib.Core.Path.{sym, _∙_}
 use lib.ListN.{length}
 use mir.Syntax.{w16, w64}
 use mir.Facts.{toZ-ofZ}
+use Rattle.finder_c.specs.Limits.{octave}
 use Rattle.finder_c.proofs.Through.{call-long, quick-pages-small, quick-none, quick-through}
 use Rattle.finder_c.proofs.calls.finder_quick_page.Statement.{statement}
 use Rattle.finder_c.proofs.calls.finder_quick_page.Tie as tie
@@ -26,7 +27,7 @@ told-page-requires c κs =
     let page = c .before .before .before .before .before .before in
     let called = page .before .before .before .before .before in
     let start = called .before .before .before .before .before .before .before in
-    (quick-pages-small (page .quick-page .ensures), call-long (start .args .way) (length (start .args .answer .now)) (sym (called .before .no-call .ensures) ∙ called .if1 .left))
+    (quick-pages-small (page .quick-page .ensures), call-long octave (start .args .way) (length (start .args .answer .now)) (sym (called .before .no-call .ensures) ∙ called .if1 .left))
 
 same-length : tie.Need-same-length
 same-length c = search needs
