@@ -1,5 +1,5 @@
 -- How many bytes reading passes over at most, and so how long a line is (`theme-short`, `chord-short`): with its line feed a
--- theme line has at most 141 bytes and a chord line 70. So one of more than 160 before it is faulty (`long-faulty`), and would
+-- theme line has at most 142 bytes and a chord line 70. So one of more than 160 before it is faulty (`long-faulty`), and would
 -- be if no rule said how long a line may be (`long-theme`, `long-chord`). Assumes nothing.
 use mathlib.Core.Path.{subst}
 use mathlib.Core.Bool.{Bool, true, false, cond, _&&_}
@@ -11,11 +11,12 @@ use lib.ListN.{length, drop, length-drop}
 use Rattle.theory.proofs.Lists.{first-le}
 use Rattle.asking.specs.Limits.{mostNotes}
 use Rattle.score.specs.Limits.{mostTracks, highestPitch, restCell}
-use Rattle.ways.specs.declared.way.Way.{Way}
 use Rattle.ways.specs.declared.way.Way.the-variants.{Exact, Octave}
+use Rattle.ways.specs.declared.way.AnyWay.{AnyWay}
+use Rattle.ways.specs.declared.way.AnyWay.the-variants.{Moved, Written}
 use Rattle.words.specs.Words.{Read, got, bad, next, begins, isDigit, moreDigits, number, cell}
-use Rattle.reading.specs.Reading.{exactWord, octaveWord, themeWord, chordWord, fields, counted, tracksRight, chordLine}
-use Rattle.reading.specs.Reading.{notesOf, themeLine}
+use Rattle.reading.specs.Reading.{exactWord, octaveWord, writtenWord, themeWord, chordWord, fields, counted, tracksRight}
+use Rattle.reading.specs.Reading.{chordLine, Theme, notesOf, ofWay, themeLine}
 use Rattle.reading.specs.Lines.{lineFeed, lineBytes, lineAt, mostBytes, IsThemeLine, IsChordLine, FaultyLine}
 
 -- what was read of the text has at most k bytes
@@ -99,19 +100,26 @@ chord-within h text =
     within-cond (begins chordWord text)
     (within-drop 5 text (counted-within (tracksRight h) (fields-within true mostTracks (drop 5 text)))) none
 
-notes-within : (way : Way) (text : List ℕ) → Within 129 text (notesOf way text)
+notes-within : (way : AnyWay) (text : List ℕ) → Within 129 text (notesOf way text)
 notes-within way text =
     within-next 0 (λ notes rest. got (record { way = way; notes = notes }) rest)
     (counted-within (leb 2) (fields-within false mostNotes text))
     (λ notes rest. some (record { way = way; notes = notes }) rest (omega arith))
 
-theme-within : (text : List ℕ) → Within 141 text (themeLine text)
+-- a way's word has 7 bytes at most
+way-within : (word : List ℕ) → length word ≤ 7 → (way : AnyWay) {text : List ℕ} {others : Read Theme} → Within 142 text others
+    → Within 142 text (ofWay word way text others)
+way-within word h way {text} o =
+    let k = 6 + length word in
+    within-cond (begins word (drop 6 text))
+    (within-le {j = k + 129} (omega arith) (within-drop k text (notes-within way (drop k text)))) o
+
+theme-within : (text : List ℕ) → Within 142 text (themeLine text)
 unfolding themeLine
 theme-within text =
     within-cond (begins themeWord text)
-    (within-cond (begins exactWord (drop 6 text))
-    (within-le {j = 140} (omega arith) (within-drop 11 text (notes-within Exact (drop 11 text))))
-    (within-cond (begins octaveWord (drop 6 text)) (within-drop 12 text (notes-within Octave (drop 12 text))) none))
+    (way-within exactWord (omega arith) (Moved Exact)
+    (way-within octaveWord (omega arith) (Moved Octave) (way-within writtenWord (omega arith) Written none)))
     none
 
 -- ---- right lines
@@ -119,14 +127,14 @@ theme-within text =
 whole-within : {A : Type 0} {k : ℕ} {line : List ℕ} {a : A} → Within k line (got a []) → length line ≤ k
 whole-within (some a rest p) = omega arith
 
-pub theme-short : {line : List ℕ} → IsThemeLine line → length line ≤ 141
-theme-short {line} t = whole-within (subst (Within 141 line) (t .whole) (theme-within line))
+pub theme-short : {line : List ℕ} → IsThemeLine line → length line ≤ 142
+theme-short {line} t = whole-within (subst (Within 142 line) (t .whole) (theme-within line))
 
 pub chord-short : {h : ℕ} {line : List ℕ} → IsChordLine h line → length line ≤ 70
 chord-short {line = line} c = whole-within (subst (Within 70 line) (c .whole) (chord-within 0 line))
 
 -- so the bytes before the line feed are never too many
-pub bytes-short : (line : List ℕ) → length line ≤ 141 → lineBytes line ≤ mostBytes
+pub bytes-short : (line : List ℕ) → length line ≤ 142 → lineBytes line ≤ mostBytes
 bytes-short line h = omega (arith, first-le (λ b. eqb b lineFeed) line)
 
 -- ---- a line of more than 160 bytes before its line feed

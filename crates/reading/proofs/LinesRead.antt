@@ -13,11 +13,12 @@ use borrow.Author.Tests.{eqb-true, eqb-false, ne-eqb}
 use Rattle.theory.specs.Lists.{some}
 use Rattle.asking.specs.Limits.{mostNotes}
 use Rattle.score.specs.Limits.{mostTracks, highestPitch}
-use Rattle.ways.specs.declared.way.Way.{Way}
 use Rattle.ways.specs.declared.way.Way.the-variants.{Exact, Octave}
+use Rattle.ways.specs.declared.way.AnyWay.{AnyWay}
+use Rattle.ways.specs.declared.way.AnyWay.the-variants.{Moved, Written}
 use Rattle.words.specs.Words.{Read, got, bad, next, begins, isDigit, moreDigits, number, cell}
-use Rattle.reading.specs.Reading.{themeWord, exactWord, octaveWord, chordWord, fields, counted, tracksRight}
-use Rattle.reading.specs.Reading.{chordLine, notesOf, themeLine}
+use Rattle.reading.specs.Reading.{themeWord, exactWord, octaveWord, writtenWord, chordWord, fields, counted, tracksRight}
+use Rattle.reading.specs.Reading.{chordLine, Theme, notesOf, ofWay, themeLine}
 use Rattle.reading.specs.Lines.{lineFeed, lines}
 
 -- ---- the first line of a text
@@ -193,7 +194,7 @@ unfolding chordLine
 chord-alone h d =
     begun-ended (begins-both chordWord refl d) (λ e. counted-ended (tracksRight h) (fields-ended true mostTracks e)) bads
 
-notes-ended : (way : Way) {fed : Bool} {line rest text : List ℕ} → Divided fed line rest text
+notes-ended : (way : AnyWay) {fed : Bool} {line rest text : List ℕ} → Divided fed line rest text
     → Ended fed rest (notesOf way text) (notesOf way line)
 notes-ended way d =
     ended-next (λ notes behind. got (record { way = way; notes = notes }) behind)
@@ -204,13 +205,22 @@ twice : (j k : ℕ) {fed : Bool} (rest text line : List ℕ) → Divided fed (dr
     → Divided fed (drop (j + k) line) rest (drop (j + k) text)
 twice j k rest text line d = rw (drop-drop k j line, drop-drop k j text) at d
 
+-- behind `theme`, by one way's word where it stands there
+way-ended : {fed : Bool} (line rest text : List ℕ) → Divided fed (drop 6 line) rest (drop 6 text)
+    → (word : List ℕ) → feeds word ≡ false → (way : AnyWay) {whole alone : Read Theme} → Ended fed rest whole alone
+    → Ended fed rest (ofWay word way text whole) (ofWay word way line alone)
+way-ended line rest text d word p way others =
+    begun-ended (begins-both word p d) (λ e. notes-ended way (twice 6 (length word) rest text line e)) others
+
 pub theme-alone : {fed : Bool} {line rest text : List ℕ} → Divided fed line rest text
     → Ended fed rest (themeLine text) (themeLine line)
 unfolding themeLine
-theme-alone {fed} {line} {rest} {text} d =
+theme-alone {line = line} {rest} {text} d =
     begun-ended (begins-both themeWord refl d)
-    (λ e. begun-ended (begins-both exactWord refl e) (λ f. notes-ended Exact (twice 6 5 rest text line f))
-    (begun-ended (begins-both octaveWord refl e) (λ f. notes-ended Octave (twice 6 6 rest text line f)) bads))
+    (λ e.
+    way-ended line rest text e exactWord refl (Moved Exact)
+    (way-ended line rest text e octaveWord refl (Moved Octave)
+    (way-ended line rest text e writtenWord refl Written bads)))
     bads
 
 -- ---- a line without a line feed

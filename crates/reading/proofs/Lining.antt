@@ -11,14 +11,16 @@ use lib.Seq.{drop-drop, length-take-le}
 use borrow.Author.Tests.{le-leb, lt-leb}
 use Rattle.asking.specs.Limits.{mostNotes}
 use Rattle.score.specs.Limits.{mostTracks}
-use Rattle.ways.specs.declared.way.Way.{Way}
 use Rattle.ways.specs.declared.way.Way.the-variants.{Exact, Octave}
+use Rattle.ways.specs.declared.way.AnyWay.{AnyWay}
+use Rattle.ways.specs.declared.way.AnyWay.the-variants.{Moved, Written}
 use Rattle.reading.specs.declared.lines.Line.{Line}
 use Rattle.reading.specs.declared.lines.Line.the-variants.{Read as Lined, Bad}
 use Rattle.reading.specs.declared.lines.ThemeLine.{ThemeLine}
 use Rattle.reading.specs.declared.lines.ThemeLine.the-variants as Themes
 use Rattle.words.specs.Words.{Read, got, bad, next, begins}
-use Rattle.reading.specs.Reading.{themeWord, exactWord, octaveWord, chordWord, fields, counted, tracksRight, chordLine, Theme, notesOf, themeLine}
+use Rattle.reading.specs.Reading.{themeWord, exactWord, octaveWord, writtenWord, chordWord, fields, counted, tracksRight}
+use Rattle.reading.specs.Reading.{chordLine, Theme, notesOf, themeLine}
 use Rattle.reading.specs.Steps.{lineRead, lineNext, lineCount, Filled, Themed}
 
 pub begins-length : (word text : List ℕ) → begins word text ≡ true → length word ≤ length text
@@ -98,7 +100,7 @@ module _ (text : List ℕ) (from h base : ℕ) (into : List ℕ) (room : base + 
 
 -- ---- the notes of a theme line
 
-module _ (text : List ℕ) (from : ℕ) (way : Way) (into : List ℕ) (room : mostNotes ≤ length into) {r : Line} {into′ : List ℕ}
+module _ (text : List ℕ) (from : ℕ) (way : AnyWay) (into : List ℕ) (room : mostNotes ≤ length into) {r : Line} {into′ : List ℕ}
     (f : Filled text mostNotes 0 into r into′ (fields false mostNotes (drop from text))) where
   abbrev sung : Read (List ℕ) → Read Theme
   sung q = next q (λ notes rest. got (record { way = way; notes = notes }) rest)
@@ -143,19 +145,29 @@ module _ (text theme : List ℕ) where
   begins-not : (word : List ℕ) → Begins word ≡ false → begins themeWord text ≡ true → begins word (drop 6 text) ≡ false
   begins-not word n e = ap (λ (s : Bool). cond s (begins word (drop 6 text)) false) (sym e) ∙ sym (begins-append themeWord word text) ∙ n
 
-  pub theme-exact : Begins exactWord ≡ true → {r : ThemeLine} → Themed text r theme (notesOf Exact (drop 11 text)) → Themed text r theme (themeLine text)
+  pub theme-exact : Begins exactWord ≡ true → {r : ThemeLine} → Themed text r theme (notesOf (Moved Exact) (drop 11 text))
+      → Themed text r theme (themeLine text)
   unfolding themeLine
   theme-exact e t = let b = begins-both exactWord e in rw (b .0, b .1) t
 
   module _ (n : Begins exactWord ≡ false) where
-    pub theme-octave : Begins octaveWord ≡ true → {r : ThemeLine} → Themed text r theme (notesOf Octave (drop 12 text)) → Themed text r theme (themeLine text)
+    pub theme-octave : Begins octaveWord ≡ true → {r : ThemeLine} → Themed text r theme (notesOf (Moved Octave) (drop 12 text))
+        → Themed text r theme (themeLine text)
     unfolding themeLine
     theme-octave e t = let b = begins-both octaveWord e in rw (b .0, begins-not exactWord n (b .0), b .1) t
 
-    pub theme-neither : Begins octaveWord ≡ false → Themed text Themes.Bad theme (themeLine text)
-    unfolding themeLine
-    theme-neither o = record { is = step (begins themeWord text) refl; within = omega arith; few = omega arith }
-      where
-        step : (s : Bool) → begins themeWord text ≡ s → bad ≡ themeLine text
-        step true e = rw (e, begins-not exactWord n e, begins-not octaveWord o e)
-        step false e = rw e
+    module _ (o : Begins octaveWord ≡ false) where
+      pub theme-written : Begins writtenWord ≡ true → {r : ThemeLine} → Themed text r theme (notesOf Written (drop 13 text))
+          → Themed text r theme (themeLine text)
+      unfolding themeLine
+      theme-written e t =
+          let b = begins-both writtenWord e in
+          rw (b .0, begins-not exactWord n (b .0), begins-not octaveWord o (b .0), b .1) t
+
+      pub theme-none : Begins writtenWord ≡ false → Themed text Themes.Bad theme (themeLine text)
+      unfolding themeLine
+      theme-none w = record { is = step (begins themeWord text) refl; within = omega arith; few = omega arith }
+        where
+          step : (s : Bool) → begins themeWord text ≡ s → bad ≡ themeLine text
+          step true e = rw (e, begins-not exactWord n e, begins-not octaveWord o e, begins-not writtenWord w e)
+          step false e = rw e

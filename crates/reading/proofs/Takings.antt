@@ -16,7 +16,7 @@ use Rattle.asking.specs.Limits.{mostNotes}
 use Rattle.score.specs.Limits.{mostTracks, mostColumns, mostCells}
 use Rattle.score.specs.Score.{cut}
 use Rattle.score.proofs.Columns.{cut-length, column-length}
-use Rattle.ways.specs.declared.way.Way.{Way}
+use Rattle.ways.specs.declared.way.AnyWay.{AnyWay}
 use Rattle.reading.specs.declared.request.Reading.{Reading}
 use Rattle.reading.specs.declared.request.Reading.the-variants.{Right, Bad, Short}
 use Rattle.reading.specs.Request.{Request, Meaning, right, faulty, meaning}
@@ -127,7 +127,7 @@ module _ (input theme cells : List ℕ) where
 
 -- only a right input is written
 pub takes-kept : {input theme cells : List ℕ} {r : Reading} {theme′ cells′ : List ℕ} → Takes input theme cells r theme′ cells′
-    → ((way : Way) (notes tracks columns : ℕ) → r ≡ Right way notes tracks columns → ⊥) → (theme′ ≡ theme) × (cells′ ≡ cells)
+    → ((way : AnyWay) (notes tracks columns : ℕ) → r ≡ Right way notes tracks columns → ⊥) → (theme′ ≡ theme) × (cells′ ≡ cells)
 unfolding taken
 takes-kept {input} {theme} {cells} {r} {theme′} {cells′} t other = by-room (short theme cells) refl
   where
@@ -141,7 +141,7 @@ takes-kept {input} {theme} {cells} {r} {theme′} {cells′} t other = by-room (
 
 -- ---- what a caller reads off
 
-pub record Took (input theme cells : List ℕ) (way : Way) (notes tracks columns : ℕ) (theme′ cells′ : List ℕ) : Type 0 where
+pub record Took (input theme cells : List ℕ) (way : AnyWay) (notes tracks columns : ℕ) (theme′ cells′ : List ℕ) : Type 0 where
   pub request : Request
   pub is : meaning input ≡ right request
   pub way-is : way ≡ request .theme .way
@@ -172,7 +172,8 @@ module _ {input theme cells : List ℕ} {r : Reading} {theme′ cells′ : List 
   pub bad-taken : {line : ℕ} → meaning input ≡ faulty line → r ≡ Bad line
   bad-taken e = read-as .answers ∙ ap (λ (m : Meaning). takenAs m theme cells .answer) e
 
-  pub took-right : {way : Way} {notes tracks columns : ℕ} → r ≡ Right way notes tracks columns → Took input theme cells way notes tracks columns theme′ cells′
+  pub took-right : {way : AnyWay} {notes tracks columns : ℕ} → r ≡ Right way notes tracks columns
+      → Took input theme cells way notes tracks columns theme′ cells′
   took-right {way} {notes} {tracks} {columns} e = step (meaning input) refl read-as
     where
       step : (m : Meaning) → meaning input ≡ m → As m theme cells r theme′ cells′ → Took input theme cells way notes tracks columns theme′ cells′

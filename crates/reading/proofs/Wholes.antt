@@ -8,7 +8,7 @@ use lib.ListN.{length, take, drop}
 use Rattle.asking.specs.Limits.{mostNotes}
 use Rattle.score.specs.Limits.{mostTracks, mostColumns}
 use Rattle.score.specs.Score.{cut}
-use Rattle.ways.specs.declared.way.Way.{Way}
+use Rattle.ways.specs.declared.way.AnyWay.{AnyWay}
 use Rattle.reading.specs.declared.lines.ThemeLine.{ThemeLine}
 use Rattle.reading.specs.declared.lines.ThemeLine.the-variants as ThemeLine
 use Rattle.reading.specs.declared.lines.ChordLines.{ChordLines}
@@ -20,10 +20,10 @@ use Rattle.reading.specs.Steps.{themeRead, themeNext, themeCount, Themed
 
 -- ---- what was read
 
-abbrev pub sung : Way → (count : ℕ) (theme : List ℕ) → Theme
+abbrev pub sung : AnyWay → (count : ℕ) (theme : List ℕ) → Theme
 sung way count theme = record { way = way; notes = take count theme }
 
-pub record ThemeGot (input theme : List ℕ) (way : Way) (count here : ℕ) : Type 0 where
+pub record ThemeGot (input theme : List ℕ) (way : AnyWay) (count here : ℕ) : Type 0 where
   pub is : themeLine input ≡ got (sung way count theme) (drop here input)
   pub within : here ≤ length input
   pub few : count ≤ mostNotes
@@ -38,7 +38,7 @@ pub record FaultGot (input : List ℕ) (here k : ℕ) : Type 0 where
   pub few : k ≤ mostColumns
 
 module _ {input theme : List ℕ} {r : ThemeLine} (t : Themed input r theme (themeLine input)) where
-  pub theme-got : {way : Way} {count here : ℕ} → r ≡ ThemeLine.Read way count here → ThemeGot input theme way count here
+  pub theme-got : {way : AnyWay} {count here : ℕ} → r ≡ ThemeLine.Read way count here → ThemeGot input theme way count here
   theme-got e = record { is = sym (t .is) ∙ ap (themeRead input theme) e; within = rw (ap themeNext e) at (t .within); few = rw (ap themeCount e) at (t .few) }
 
   pub whole-bad : r ≡ ThemeLine.Bad → meaning input ≡ faulty 1
@@ -54,7 +54,7 @@ module _ {input : List ℕ} {here : ℕ} {cells : List ℕ} {q : ChordLines} (s 
 
 -- ---- what it means
 
-module _ {input theme : List ℕ} {way : Way} {count here : ℕ} (t : ThemeGot input theme way count here) where
+module _ {input theme : List ℕ} {way : AnyWay} {count here : ℕ} (t : ThemeGot input theme way count here) where
   meaning-of : {q : Chords} → chords mostColumns 0 (drop here input) ≡ q → meaning input ≡ withChords (sung way count theme) q
   unfolding meaning
   meaning-of c = ap withTheme (t .is) ∙ ap (withChords (sung way count theme)) c

@@ -52,7 +52,7 @@ lineAt all n = getD all (n - 1) []
 abbrev pub mostBytes : ℕ
 mostBytes = 160
 
--- a theme line, whole: `theme`, `exact` or `octave`, 2 to 32 notes, a line feed, and nothing behind it
+-- a theme line, whole: `theme`, then `exact`, `octave` or `written`, 2 to 32 notes, a line feed, and nothing behind it
 pub record IsThemeLine (line : List ℕ) : Type 0 where
   pub theme : Theme
   pub whole : themeLine line ≡ got theme []

@@ -2,13 +2,14 @@
 -- line. The definitions that matter are `themeLine` and `chordLine`. Assumes nothing.
 use mathlib.Core.Bool.{Bool, true, false, cond, _&&_, _||_}
 use mathlib.Core.List.{List, [], _∷_}
-use Prim.Native.Nat.{ℕ, zero, suc}
+use Prim.Native.Nat.{ℕ, zero, suc, _+_}
 use lib.Dec.{leb, eqb}
 use lib.ListN.{length, drop}
 use Rattle.asking.specs.Limits.{mostNotes}
 use Rattle.score.specs.Limits.{mostTracks}
-use Rattle.ways.specs.declared.way.Way.{Way}
 use Rattle.ways.specs.declared.way.Way.the-variants.{Exact, Octave}
+use Rattle.ways.specs.declared.way.AnyWay.{AnyWay}
+use Rattle.ways.specs.declared.way.AnyWay.the-variants.{Moved, Written}
 use Rattle.words.specs.Words.{Read, got, bad, next, front, begins, cell}
 
 -- ---- words
@@ -22,6 +23,9 @@ exactWord = 101 ∷ 120 ∷ 97 ∷ 99 ∷ 116 ∷ []
 
 abbrev pub octaveWord : List ℕ
 octaveWord = 111 ∷ 99 ∷ 116 ∷ 97 ∷ 118 ∷ 101 ∷ []
+
+abbrev pub writtenWord : List ℕ
+writtenWord = 119 ∷ 114 ∷ 105 ∷ 116 ∷ 116 ∷ 101 ∷ 110 ∷ []
 
 abbrev pub chordWord : List ℕ
 chordWord = 99 ∷ 104 ∷ 111 ∷ 114 ∷ 100 ∷ []
@@ -47,17 +51,20 @@ tracksRight h k = leb 1 k && (eqb h 0 || eqb k h)
 unfoldable pub chordLine : (h : ℕ) → List ℕ → Read (List ℕ)
 chordLine h text = cond (begins chordWord text) (counted (tracksRight h) (fields true mostTracks (drop 5 text))) bad
 
--- a theme: exact or octave, and 2 to 32 notes
+-- a theme: exact, octave or written, and 2 to 32 notes
 pub record Theme : Type 0 where
-  pub way : Way
+  pub way : AnyWay
   pub notes : List ℕ
 
-abbrev pub notesOf : Way → List ℕ → Read Theme
+abbrev pub notesOf : AnyWay → List ℕ → Read Theme
 notesOf way text = next (counted (leb 2) (fields false mostNotes text)) (λ notes rest. got (record { way = way; notes = notes }) rest)
+
+-- the notes behind a way's word, where that stands behind `theme` and its tab; otherwise what the other ways read
+abbrev pub ofWay : (word : List ℕ) → AnyWay → (text : List ℕ) → Read Theme → Read Theme
+ofWay word way text others = cond (begins word (drop 6 text)) (notesOf way (drop (6 + length word) text)) others
 
 unfoldable pub themeLine : List ℕ → Read Theme
 themeLine text =
     cond (begins themeWord text)
-    (cond (begins exactWord (drop 6 text)) (notesOf Exact (drop 11 text))
-    (cond (begins octaveWord (drop 6 text)) (notesOf Octave (drop 12 text)) bad))
+    (ofWay exactWord (Moved Exact) text (ofWay octaveWord (Moved Octave) text (ofWay writtenWord Written text bad)))
     bad

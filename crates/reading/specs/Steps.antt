@@ -15,7 +15,7 @@ use Rattle.reading.specs.declared.lines.ChordLines.{ChordLines}
 use Rattle.reading.specs.declared.lines.ChordLines.the-variants as ChordLines
 use Rattle.reading.specs.declared.request.Reading.{Reading}
 use Rattle.reading.specs.declared.request.Reading.the-variants as Reading
-use Rattle.ways.specs.declared.way.Way.{Way}
+use Rattle.ways.specs.declared.way.AnyWay.{AnyWay}
 use Rattle.score.specs.Score.{cut}
 use Rattle.words.specs.Words.{Read, got, bad}
 use Rattle.reading.specs.Reading.{Theme}
@@ -80,7 +80,7 @@ pub record Scored (r : ChordLines) (cells : List ℕ) (want : Chords) : Type 0 w
   pub narrow : chordsTracks r ≤ mostTracks
 
 -- a whole input was read: its notes and its columns stand at the front of the buffers
-pub record Stood (input : List ℕ) (way : Way) (notes tracks columns : ℕ) (theme cells : List ℕ) : Type 0 where
+pub record Stood (input : List ℕ) (way : AnyWay) (notes tracks columns : ℕ) (theme cells : List ℕ) : Type 0 where
   pub is : meaning input ≡ right (record { theme = record { way = way; notes = take notes theme }; columns = cut columns tracks cells })
   pub notes-few : notes ≤ mostNotes
   pub tracks-few : tracks ≤ mostTracks

@@ -3,6 +3,7 @@
 use asking::MOST_NOTES;
 use score::MOST_COLUMNS;
 use score::MOST_TRACKS;
+use ways::AnyWay;
 use ways::Way;
 use words::Numeral;
 use words::cell;
@@ -23,7 +24,11 @@ pub enum Line {
 
 // A theme line was read.
 pub enum ThemeLine {
-    Read { way: Way, count: usize, next: usize },
+    Read {
+        way: AnyWay,
+        count: usize,
+        next: usize,
+    },
     Bad,
 }
 
@@ -114,7 +119,7 @@ pub fn chord_lines(text: &[u8], from: usize, cells: &mut [u8]) -> ChordLines
 }
 
 // The notes of a theme line, from the place behind its way on.
-fn notes(text: &[u8], from: usize, way: Way, theme: &mut [u8]) -> ThemeLine
+fn notes(text: &[u8], from: usize, way: AnyWay, theme: &mut [u8]) -> ThemeLine
     requires { ⌜ (from ≤ length (now text)) × (mostNotes ≤ length (now theme)) ⌝ }
     ensures { λ r. ⌜ Themed (now (text .entry)) r (now (theme .exit)) (notesOf way (drop from (now (text .entry)))) ⌝ }
 {
@@ -136,10 +141,13 @@ pub fn theme_line(text: &[u8], theme: &mut [u8]) -> ThemeLine
     ensures { λ r. ⌜ Themed (now (text .entry)) r (now (theme .exit)) (themeLine (now (text .entry))) ⌝ }
 {
     if stands(text, 0, b"theme\texact") {
-        return notes(text, 11, Way::Exact, theme);
+        return notes(text, 11, AnyWay::Moved(Way::Exact), theme);
     }
     if stands(text, 0, b"theme\toctave") {
-        return notes(text, 12, Way::Octave, theme);
+        return notes(text, 12, AnyWay::Moved(Way::Octave), theme);
+    }
+    if stands(text, 0, b"theme\twritten") {
+        return notes(text, 13, AnyWay::Written, theme);
     }
     ThemeLine::Bad
 }

@@ -6,7 +6,7 @@ use crate::lines::chord_lines;
 use crate::lines::theme_line;
 use asking::MOST_NOTES;
 use score::MOST_CELLS;
-use ways::Way;
+use ways::AnyWay;
 ghost use mathlib.Core.Path.{_≡_};
 ghost use Prim.Native.Nat.{_≤_};
 ghost use lib.ListN.{length};
@@ -19,7 +19,7 @@ ghost use Rattle.reading.specs.Steps.{heldNotes, heldCells, Held, Copied
 // its first faulty line; or a buffer is too short for some inputs. Only a right input is written into the buffers.
 pub enum Reading {
     Right {
-        way: Way,
+        way: AnyWay,
         notes: usize,
         tracks: usize,
         columns: usize,
