@@ -10,8 +10,7 @@ use Rattle.theory.specs.Pages.{hits}
 use Rattle.score.specs.declared.refusals.Refusal.{Refusal}
 use Rattle.score.specs.Limits.{tableWords}
 use Rattle.score.specs.Score.{scoreOf}
-use Rattle.score.specs.Sets.{sets as setsOf}
-use Rattle.ways.specs.declared.way.Way.{Way}
+use Rattle.ways.specs.declared.way.AnyWay.{AnyWay}
 use Rattle.ways.specs.declared.bookmark.Pair.{Pair}
 use Rattle.ways.specs.declared.bookmark.Bookmark.{Bookmark}
 use Rattle.paging.specs.declared.page.Turn.{Turn}
@@ -21,32 +20,29 @@ use Rattle.paging.specs.Lent.{Lent, Room as PairsRoom, readPairs}
 use Rattle.paging.specs.Search.{Search}
 use Rattle.paging.proofs.Paging.{Calls}
 use Rattle.paging.proofs.UnderWay.{UnderWay, toCome, turnsLeft, under-way-listed, under-way-paid, under-way-few, under-way-within, page-accepted, page-count, page-few, page-less, page-turned}
-use Rattle.walking.specs.Starts.{Place}
-use Rattle.search.specs.Pairs.{pairs}
-use Rattle.search.specs.Page.{QuickPages}
-use Rattle.search.specs.WholeList.{candidateLooks}
-use Rattle.telling.specs.Lines.{hitLines, endLine, linesOf}
+use Rattle.search.specs.Pairs.{StartAs, pairsAs}
+use Rattle.telling.specs.Lines.{hitLines, endLine, toldLooks, linesOf}
 use Rattle.telling.specs.Limits.{room, pagePairs, mostPairs}
-use Rattle.telling.specs.Steps.{Wrote}
+use Rattle.telling.specs.Steps.{Wrote, PageTold}
 use Rattle.telling.proofs.Puts.{wrote-then, wrote-room}
-use Rattle.telling.proofs.Searching.{searchOf, lines-append, pairs-few, looks-few, lines-few, Paging, own-list, callOf, calls}
+use Rattle.telling.proofs.Searching.{searchOf, lines-append, pairs-few, looks-few, lines-few, Paging, own-list, own-looks, callOf, calls}
 
-module _ (cells : List ℕ) (h : ℕ) (theme : List ℕ) (way : Way) (lent out₀ : List ℕ) where
-  abbrev S : Search Place
+module _ (cells : List ℕ) (h : ℕ) (theme : List ℕ) (way : AnyWay) (lent out₀ : List ℕ) where
+  abbrev S : Search (StartAs way)
   S = searchOf cells h theme way lent
 
   -- ---- what was read, and what is to come, has room
 
   module _ {table : List ℕ} {buffers : Lent} {out : List ℕ} {b : Bookmark} {at found spent : ℕ} {more : Bool}
       (p : Paging cells h theme way lent out₀ table buffers out b at found spent more) where
-    all-room : length (hitLines (pairs way (scoreOf cells h) theme)) ≤ room
+    all-room : length (hitLines (pairsAs way (scoreOf cells h) theme)) ≤ room
     unfolding linesOf
     all-room =
         omega (
           arith,
-          lines-few cells h theme way (p .accepted),
-          length-append (hitLines (pairs way (scoreOf cells h) theme))
-              (endLine (length (pairs way (scoreOf cells h) theme)) (candidateLooks way (scoreOf cells h) theme (setsOf (scoreOf cells h)))),
+          lines-few cells h theme (p .accepted) way,
+          length-append (hitLines (pairsAs way (scoreOf cells h) theme))
+              (endLine (length (pairsAs way (scoreOf cells h) theme)) (toldLooks way (scoreOf cells h) theme)),
         )
 
     -- the lines of any pairs so far
@@ -67,7 +63,7 @@ module _ (cells : List ℕ) (h : ℕ) (theme : List ℕ) (way : Way) (lent out�
           arith,
           under-way-few S u,
           ap length (own-list cells h theme way lent (p .accepted) (p .own)),
-          pairs-few cells h theme way (p .accepted),
+          pairs-few cells h theme (p .accepted) way,
         )
 
   -- ---- a page is turned
@@ -77,7 +73,7 @@ module _ (cells : List ℕ) (h : ℕ) (theme : List ℕ) (way : Way) (lent out�
     c : Calls S pagePairs (callOf cells h theme way lent (p .accepted) (p .own) table)
     c = calls cells h theme way lent (p .accepted) (p .own) table (p .room .table-long)
 
-    module _ {page : Page} {table′ : List ℕ} {after : Lent} (q : QuickPages cells h theme way b lent table buffers page table′ after) where
+    module _ {page : Page} {after : Lent} (q : PageTold cells h theme way b lent table buffers page after) where
       -- it is never refused
       pub turn-refused : {r : Refusal} → page ≡ Refused r → ⊥
       turn-refused e = page-accepted c b (p .under-way .marked) buffers (p .room .pairs-room) (q .pages) e
@@ -110,12 +106,12 @@ module _ (cells : List ℕ) (h : ℕ) (theme : List ℕ) (way : Way) (lent out�
         turn-found = omega (arith, done-few p next, length-append (p .done) read, counts, p .counted)
 
         pub turn-looks : spent + t .looks < 2 ^ 32
-        turn-looks = omega (arith, under-way-within S next, looks-few cells h theme way (p .accepted) lent)
+        turn-looks = omega (arith, under-way-within S next, looks-few cells h theme (p .accepted) way lent)
 
         pub turn-less : turnsLeft S (t .next) (not (t .finished)) < turnsLeft S b true
         turn-less = page-less c b (p .under-way .marked) buffers (p .room .pairs-room) (q .pages) e
 
-        pub turn-more : {at′ : ℕ} {out′ : List ℕ} → length table′ ≡ tableWords → PairsRoom pagePairs after → Wrote (hitLines read) at out at′ out′
+        pub turn-more : {table′ : List ℕ} {at′ : ℕ} {out′ : List ℕ} → length table′ ≡ tableWords → PairsRoom pagePairs after → Wrote (hitLines read) at out at′ out′
             → Paging cells h theme way lent out₀ table′ after out′ (t .next) at′ (found + t .written) (spent + t .looks) (not (t .finished))
         turn-more long of-pairs w =
             record {
@@ -132,24 +128,24 @@ module _ (cells : List ℕ) (h : ℕ) (theme : List ℕ) (way : Way) (lent out�
 
   module _ {table : List ℕ} {buffers : Lent} {out : List ℕ} {b : Bookmark} {at found spent : ℕ}
       (p : Paging cells h theme way lent out₀ table buffers out b at found spent false) where
-    done-all : p .done ≡ pairs way (scoreOf cells h) theme
+    done-all : p .done ≡ pairsAs way (scoreOf cells h) theme
     done-all = under-way-listed S (p .under-way) ∙ own-list cells h theme way lent (p .accepted) (p .own)
 
-    end-found : found ≡ length (pairs way (scoreOf cells h) theme)
+    end-found : found ≡ length (pairsAs way (scoreOf cells h) theme)
     end-found = p .counted ∙ ap length done-all
 
-    end-spent : spent ≡ candidateLooks way (scoreOf cells h) theme (setsOf (scoreOf cells h))
-    end-spent = under-way-paid S (p .under-way) ∙ ap (λ (l : List ℕ). candidateLooks way (scoreOf cells h) theme l) (p .own)
+    end-spent : spent ≡ toldLooks way (scoreOf cells h) theme
+    end-spent = under-way-paid S (p .under-way) ∙ own-looks cells h theme way lent (p .accepted) (p .own)
 
     pub end-few : found ≤ mostPairs
-    end-few = omega (arith, end-found, pairs-few cells h theme way (p .accepted))
+    end-few = omega (arith, end-found, pairs-few cells h theme (p .accepted) way)
 
     end-lines : hitLines (p .done) ++ endLine found spent ≡ linesOf way (scoreOf cells h) theme
     unfolding linesOf
     end-lines = rw (done-all, end-found, end-spent)
 
     pub end-room : at + length (endLine found spent) ≤ length out
-    end-room = wrote-room (p .wrote) (endLine found spent) (omega (arith, ap length end-lines, lines-few cells h theme way (p .accepted), p .room .out-long))
+    end-room = wrote-room (p .wrote) (endLine found spent) (omega (arith, ap length end-lines, lines-few cells h theme (p .accepted) way, p .room .out-long))
 
     pub end-wrote : {r : ℕ} {out′ : List ℕ} → Wrote (endLine found spent) at out r out′ → Wrote (linesOf way (scoreOf cells h) theme) 0 out₀ r out′
     end-wrote {r} {out′} w = subst (λ (l : List ℕ). Wrote l 0 out₀ r out′) end-lines (wrote-then (p .wrote) w)

@@ -8,13 +8,11 @@ use Prim.Native.Nat.{ℕ, zero, suc, _+_, _-_, _*_, _/_, _%_}
 use native.Mathlib.Omega.{arith}
 use lib.Dec.{ltb}
 use lib.ListN.{length, getD, drop}
-use Rattle.ways.specs.declared.way.Way.{Way}
+use Rattle.ways.specs.declared.way.AnyWay.{AnyWay}
 use Rattle.ways.specs.declared.bookmark.Pair.{Pair}
-use Rattle.score.specs.Sets.{sets}
-use Rattle.search.specs.Pairs.{pairs}
-use Rattle.search.specs.WholeList.{candidateLooks}
+use Rattle.search.specs.Pairs.{pairsAs}
 use Rattle.telling.specs.Text.{digits, decimal}
-use Rattle.telling.specs.Lines.{hitLine, endLine, refusedLine, hitLines, linesOf}
+use Rattle.telling.specs.Lines.{hitLine, endLine, refusedLine, hitLines, toldLooks, linesOf}
 
 -- ---- digits read back
 
@@ -69,8 +67,8 @@ unfolding hitLine endLine
 hits-front [] found looks e = omega arith
 hits-front (pair ∷ list) found looks e = omega arith
 
-pub refused-other : (way : Way) (score : List (List ℕ)) (theme : List ℕ) (n : ℕ) → linesOf way score theme ≡ refusedLine n → ⊥
+pub refused-other : (way : AnyWay) (score : List (List ℕ)) (theme : List ℕ) (n : ℕ) → linesOf way score theme ≡ refusedLine n → ⊥
 unfolding linesOf
 refused-other way score theme n e =
-    hits-front (pairs way score theme) (length (pairs way score theme)) (candidateLooks way score theme (sets score))
+    hits-front (pairsAs way score theme) (length (pairsAs way score theme)) (toldLooks way score theme)
     (ap (λ (l : List ℕ). getD l 0 0) e ∙ refused-front n)

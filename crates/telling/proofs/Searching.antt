@@ -2,16 +2,18 @@
 -- that are left are those of the starts left at the bookmark. Laws: start, the turn of a page, end. Assumes nothing.
 use mathlib.Core.Path.{_≡_, refl, sym, ap, _∙_, subst}
 use mathlib.Core.Bool.{Bool, true, cond}
-use mathlib.Core.List.{List, [], _∷_, _++_, map, map-append, append-assoc, List·Memᴰ as In}
-use Prim.Native.Nat.{ℕ, _+_, _-_, _*_, _≤_, _<_}
+use mathlib.Core.List.{List, [], _∷_, _++_, map, map-append, append-assoc, List·Memᴰ as In, Memᴰ·of-map}
+use Prim.Native.Nat.{ℕ, _+_, _-_, _*_, _≤_, _<_, zero-le}
 use native.Mathlib.Nat.{zero-add, mul-le-mul}
 use native.Mathlib.Omega.{arith}
 use lib.IntN.{ℤ}
 use lib.ListN.{length, length-append, length-map}
-use Rattle.theory.specs.Lists.{join}
+use Rattle.theory.specs.Lists.{join, count}
 use Rattle.theory.specs.Pages.{hits}
 use Rattle.theory.proofs.Pages.{hits-le}
-use Rattle.theory.proofs.Members.{in-hits}
+use Rattle.theory.proofs.Lists.{count-length, map-twice}
+use Rattle.theory.proofs.Looks.{sum-none}
+use Rattle.theory.proofs.Members.{in-hits, in-count}
 use Rattle.score.specs.Limits.{mostTracks, mostColumns, tableWords}
 use Rattle.preparing.specs.declared.sets.Preparation.{Preparation}
 use Rattle.preparing.specs.declared.sets.Preparation.the-variants as Preparations
@@ -23,36 +25,57 @@ use Rattle.asking.specs.Limits.{mostNotes}
 use Rattle.asking.proofs.Rows.{accepted-clear, row6-clear}
 use Rattle.score.proofs.Columns.{score-length, column-le}
 use Rattle.ways.specs.declared.way.Way.{Way}
+use Rattle.ways.specs.declared.way.Way.the-variants.{Exact}
+use Rattle.ways.specs.declared.way.AnyWay.{AnyWay}
+use Rattle.ways.specs.declared.way.AnyWay.the-variants.{Moved, Written}
 use Rattle.ways.specs.declared.bookmark.Pair.{Pair}
 use Rattle.ways.specs.declared.bookmark.Bookmark.{Bookmark}
-use Rattle.ways.specs.Way.{span, rangeOf}
-use Rattle.walking.specs.Starts.{Place, starts, hit}
-use Rattle.search.specs.Pairs.{pairAt, quickSearch, pairs}
-use Rattle.search.specs.Page.{quickPage}
+use Rattle.ways.specs.Way.{span, rangeAs}
+use Rattle.walking.specs.Starts.{Place, place, starts, hit}
+use Rattle.written.specs.Written.{standsAt, writtenSearch}
+use Rattle.written.proofs.Listed.{asPair}
+use Rattle.search.specs.Pairs.{pairAt, quickSearch, StartAs, pairsAs}
+use Rattle.search.specs.Page.{PlainPages, QuickPages}
 use Rattle.filter.specs.Limits.{wordBits}
 use Rattle.filter.specs.Table.{themeTable}
 use Rattle.ways.specs.Bookmarks.{firstBookmark}
 use Rattle.asking.specs.Asking.{Accepted, AcceptedSets}
+use Rattle.paging.specs.declared.page.Page.{Page}
 use Rattle.paging.specs.Lent.{Lent}
-use Rattle.paging.specs.Search.{Search, listed}
+use Rattle.paging.specs.Search.{Search, listed, allLooks}
 use Rattle.paging.specs.Page.{Leaf}
 use Rattle.paging.proofs.Paging.{Calls}
 use Rattle.paging.proofs.UnderWay.{UnderWay, under-way-start}
 use Rattle.search.specs.WholeList.{candidateLooks}
 use Rattle.walking.proofs.Order.{in-starts}
 use Rattle.walking.proofs.LookBound.{starts-le}
-use Rattle.search.proofs.Searches.{quick-calls}
+use Rattle.search.proofs.Searches.{plain-calls, quick-calls}
 use Rattle.search.proofs.Quicker.{own-sets, own-listed}
 use Rattle.search.proofs.WholeLists.{all-looks-le, candidate-looks-le}
-use Rattle.telling.specs.Lines.{hitLine, hitLines, endLine, linesOf}
+use Rattle.telling.specs.Lines.{hitLine, hitLines, endLine, toldLooks, linesOf}
 use Rattle.telling.specs.Limits.{room, pagePairs, mostPairs, mostAllLooks}
-use Rattle.telling.specs.Steps.{Wrote, Room}
+use Rattle.telling.specs.Steps.{Wrote, Room, toldPage, PageTold}
 use Rattle.telling.proofs.Puts.{wrote-nil}
 use Rattle.telling.proofs.Widths.{lines-le, end-le}
 
--- what is sought: the quick search by the theme's table
-abbrev pub searchOf : (cells : List ℕ) (h : ℕ) (theme : List ℕ) → Way → (lent : List ℕ) → Search Place
-searchOf cells h theme way lent = quickSearch wordBits way (scoreOf cells h) theme (themeTable wordBits theme) lent
+-- what is sought: the quick search by the theme's table; or the columns at which the tune stands as it is written
+abbrev byWay : (cells : List ℕ) (h : ℕ) (theme : List ℕ) (way : AnyWay) (lent : List ℕ) → Search (StartAs way)
+byWay cells h theme (Moved way) lent = quickSearch wordBits way (scoreOf cells h) theme (themeTable wordBits theme) lent
+byWay cells h theme Written lent = writtenSearch (scoreOf cells h) theme
+
+abbrev pub searchOf : (cells : List ℕ) (h : ℕ) (theme : List ℕ) (way : AnyWay) (lent : List ℕ) → Search (StartAs way)
+searchOf cells h theme way lent =
+    let S = byWay cells h theme way lent in
+    record { columns = length (scoreOf cells h); range = rangeAs way; starts = S .starts; hit = S .hit; looks = S .looks; shown = S .shown }
+
+-- a page of it, as the two calls promise it
+module _ {cells : List ℕ} {h : ℕ} {theme : List ℕ} {b : Bookmark} {buffers : Lent} {answer : Page} {after : Lent} where
+  pub quick-told : {way : Way} {sets table table′ : List ℕ} → QuickPages cells h theme way b sets table buffers answer table′ after
+      → PageTold cells h theme (Moved way) b sets table buffers answer after
+  quick-told q = record { pages = q .pages }
+
+  pub plain-told : (sets table : List ℕ) → PlainPages cells h theme Written b buffers answer after → PageTold cells h theme Written b sets table buffers answer after
+  plain-told sets table q = record { pages = q .pages }
 
 -- ---- the sets that are prepared are the score's own
 
@@ -76,51 +99,97 @@ lines-append a b = ap join (map-append hitLine a b) ∙ join-append (map hitLine
 
 -- ---- bounds
 
-module _ (cells : List ℕ) (h : ℕ) (theme : List ℕ) (way : Way) (a : Accepted mostNotes cells h theme) where
-  pub pairs-few : length (pairs way (scoreOf cells h) theme) ≤ mostPairs
-  pairs-few =
+module _ (cells : List ℕ) (h : ℕ) (theme : List ℕ) (a : Accepted mostNotes cells h theme) where
+  -- the columns from which on the theme has room
+  abbrev fitting : ℕ
+  fitting = length (scoreOf cells h) + 1 - length theme
+
+  fitting-few : fitting ≤ mostColumns - 1
+  fitting-few = omega (arith, score-length cells h, a .columns-few, a .notes-some)
+
+  pub pairs-few : (way : AnyWay) → length (pairsAs way (scoreOf cells h) theme) ≤ mostPairs
+  pairs-few (Moved way) =
       omega (
         arith,
         length-map (hits (hit way (scoreOf cells h) theme) (starts way (scoreOf cells h) theme)) (pairAt way),
         hits-le (hit way (scoreOf cells h) theme) (starts way (scoreOf cells h) theme),
         starts-le way (scoreOf cells h) theme h (column-le (columnsIn cells h) h cells),
-        mul-le-mul {n₁ = length (scoreOf cells h) + 1 - length theme} {m₁ = h} {n₂ = mostColumns - 1} {m₂ = mostTracks}
-            (omega (arith, score-length cells h, a .columns-few, a .notes-some)) (a .tracks-few),
+        mul-le-mul {n₁ = fitting} {m₁ = h} {n₂ = mostColumns - 1} {m₂ = mostTracks} fitting-few (a .tracks-few),
+      )
+  pairs-few Written =
+      omega (
+        arith,
+        length-map (hits (standsAt (scoreOf cells h) theme) (count 1 fitting)) asPair,
+        hits-le (standsAt (scoreOf cells h) theme) (count 1 fitting),
+        count-length 1 fitting,
+        fitting-few,
       )
 
-  pub looks-few : (lent : List ℕ) → candidateLooks way (scoreOf cells h) theme lent ≤ mostAllLooks
-  looks-few lent =
+  looks-few-moved : (way : Way) (lent : List ℕ) → candidateLooks way (scoreOf cells h) theme lent ≤ mostAllLooks
+  looks-few-moved way lent =
       omega (
         arith,
         candidate-looks-le cells h theme way lent,
-        all-looks-le cells h theme way,
+        all-looks-le cells h theme (Moved way),
         mul-le-mul {n₁ = (columnsIn cells h + 1 - length theme) * h} {m₁ = length theme - 1} {n₂ = (mostColumns - 1) * mostTracks} {m₂ = mostNotes - 1}
             (mul-le-mul {n₁ = columnsIn cells h + 1 - length theme} {m₁ = h} {n₂ = mostColumns - 1} {m₂ = mostTracks} (omega (arith, a .columns-few, a .notes-some)) (a .tracks-few))
             (omega (arith, a .notes-few)),
       )
 
-  -- all lines have room
-  pub lines-few : length (linesOf way (scoreOf cells h) theme) ≤ room
-  unfolding linesOf
-  lines-few =
-      omega (
-        arith,
-        length-append (hitLines (pairs way (scoreOf cells h) theme)) (endLine (length (pairs way (scoreOf cells h) theme)) (candidateLooks way (scoreOf cells h) theme (setsOf (scoreOf cells h)))),
-        lines-le way (hits (hit way (scoreOf cells h) theme) (starts way (scoreOf cells h) theme)) inside-starts,
-        length-map (hits (hit way (scoreOf cells h) theme) (starts way (scoreOf cells h) theme)) (pairAt way),
-        pairs-few,
-        end-le (length (pairs way (scoreOf cells h) theme)) (candidateLooks way (scoreOf cells h) theme (setsOf (scoreOf cells h))) (omega (arith, pairs-few))
-            (omega (arith, looks-few (setsOf (scoreOf cells h)))),
-      )
+  pub looks-few : (way : AnyWay) (lent : List ℕ) → allLooks (searchOf cells h theme way lent) ≤ mostAllLooks
+  looks-few (Moved way) lent = looks-few-moved way lent
+  looks-few Written lent = omega (arith, sum-none (count 1 fitting))
+
+  -- and what is told of them
+  told-few : (way : AnyWay) → toldLooks way (scoreOf cells h) theme ≤ mostAllLooks
+  told-few (Moved way) = looks-few-moved way (setsOf (scoreOf cells h))
+  told-few Written = zero-le
+
+  -- the lines of the pairs, each of 14 bytes at most
+  hits-few : (way : AnyWay) → length (hitLines (pairsAs way (scoreOf cells h) theme)) ≤ length (pairsAs way (scoreOf cells h) theme) * 14
+  hits-few (Moved way) =
+      let found = hits (hit way (scoreOf cells h) theme) (starts way (scoreOf cells h) theme) in
+      omega (arith, length-map found (pairAt way), lines-le way found inside)
     where
-      inside-starts : (s : Place) → In s (hits (hit way (scoreOf cells h) theme) (starts way (scoreOf cells h) theme)) → (s .column < 10000) × (s .code < span way)
-      inside-starts s m =
+      inside : (s : Place) → In s (hits (hit way (scoreOf cells h) theme) (starts way (scoreOf cells h) theme)) → (s .column < 10000) × (s .code < span way)
+      inside s m =
           let f = in-starts way (scoreOf cells h) theme (in-hits (hit way (scoreOf cells h) theme) (starts way (scoreOf cells h) theme) m .0) in
           (omega (arith, f .to-last, score-length cells h, a .columns-few, a .notes-some), f .small)
+  hits-few Written =
+      let found = hits (standsAt (scoreOf cells h) theme) (count 1 fitting) in
+      let same : map (pairAt Exact) (map unmoved found) ≡ map asPair found = map-twice unmoved (pairAt Exact) found in
+      omega (
+        arith,
+        length-map found asPair,
+        length-map found unmoved,
+        ap (λ (l : List Pair). length (hitLines l)) same,
+        lines-le Exact (map unmoved found) inside,
+      )
+    where
+      unmoved : ℕ → Place
+      unmoved j = place j 127
+
+      inside : (s : Place) → In s (map unmoved (hits (standsAt (scoreOf cells h) theme) (count 1 fitting))) → (s .column < 10000) × (s .code < span Exact)
+      inside s m =
+          let f = Memᴰ·of-map unmoved (hits (standsAt (scoreOf cells h) theme) (count 1 fitting)) m in
+          let t = in-count 1 fitting (in-hits (standsAt (scoreOf cells h) theme) (count 1 fitting) (f .1) .0) in
+          subst (λ (x : Place). (x .column < 10000) × (x .code < span Exact)) (f .2) (omega (arith, t .1, fitting-few), omega arith)
+
+  -- all lines have room
+  pub lines-few : (way : AnyWay) → length (linesOf way (scoreOf cells h) theme) ≤ room
+  unfolding linesOf
+  lines-few way =
+      omega (
+        arith,
+        length-append (hitLines (pairsAs way (scoreOf cells h) theme)) (endLine (length (pairsAs way (scoreOf cells h) theme)) (toldLooks way (scoreOf cells h) theme)),
+        hits-few way,
+        pairs-few way,
+        end-le (length (pairsAs way (scoreOf cells h) theme)) (toldLooks way (scoreOf cells h) theme) (omega (arith, pairs-few way)) (omega (arith, told-few way)),
+      )
 
 -- ---- pages under way
 
-pub record Paging (cells : List ℕ) (h : ℕ) (theme : List ℕ) (way : Way) (lent out₀ table : List ℕ) (buffers : Lent) (out : List ℕ) (b : Bookmark)
+pub record Paging (cells : List ℕ) (h : ℕ) (theme : List ℕ) (way : AnyWay) (lent out₀ table : List ℕ) (buffers : Lent) (out : List ℕ) (b : Bookmark)
     (at found spent : ℕ) (more : Bool) : Type 0 where
   pub accepted : Accepted mostNotes cells h theme
   pub own : lent ≡ setsOf (scoreOf cells h)
@@ -130,22 +199,38 @@ pub record Paging (cells : List ℕ) (h : ℕ) (theme : List ℕ) (way : Way) (l
   pub wrote : Wrote (hitLines done) 0 out₀ at out
   pub counted : found ≡ length done
 
-module _ (cells : List ℕ) (h : ℕ) (theme : List ℕ) (way : Way) (lent : List ℕ) (a : Accepted mostNotes cells h theme) (o : lent ≡ setsOf (scoreOf cells h)) where
+module _ (cells : List ℕ) (h : ℕ) (theme : List ℕ) (way : AnyWay) (lent : List ℕ) (a : Accepted mostNotes cells h theme) (o : lent ≡ setsOf (scoreOf cells h)) where
   -- all pairs are listed
-  pub own-list : listed (searchOf cells h theme way lent) ≡ pairs way (scoreOf cells h) theme
-  own-list = rw o (own-listed cells h theme way a)
+  pub own-list : listed (searchOf cells h theme way lent) ≡ pairsAs way (scoreOf cells h) theme
+  own-list = by way
+    where
+      by : (way : AnyWay) → listed (searchOf cells h theme way lent) ≡ pairsAs way (scoreOf cells h) theme
+      by (Moved way) = rw o (own-listed cells h theme way a)
+      by Written = refl
+
+  -- and the looks are those told
+  pub own-looks : allLooks (searchOf cells h theme way lent) ≡ toldLooks way (scoreOf cells h) theme
+  own-looks = by way
+    where
+      by : (way : AnyWay) → allLooks (searchOf cells h theme way lent) ≡ toldLooks way (scoreOf cells h) theme
+      by (Moved way) = ap (λ (l : List ℕ). candidateLooks way (scoreOf cells h) theme l) o
+      by Written = sum-none (count 1 (length (scoreOf cells h) + 1 - length theme))
 
   abbrev pub callOf : (table : List ℕ) → Bookmark → Lent → Leaf
-  callOf table b buffers = quickPage cells h theme way b lent table buffers
+  callOf table b buffers = toldPage cells h theme way b lent table buffers
 
   lent-right : AcceptedSets cells h lent
   lent-right = subst (AcceptedSets cells h) (sym o) own-sets
 
   pub calls : (table : List ℕ) → length table ≡ tableWords → Calls (searchOf cells h theme way lent) pagePairs (callOf table)
-  calls table e = quick-calls cells h theme way a pagePairs (omega arith) lent lent-right (λ _ _. table) (λ _ _. e)
+  calls table e = by way
+    where
+      by : (way : AnyWay) → Calls (searchOf cells h theme way lent) pagePairs (λ b buffers. toldPage cells h theme way b lent table buffers)
+      by (Moved way) = quick-calls cells h theme way a pagePairs (omega arith) lent lent-right (λ _ _. table) (λ _ _. e)
+      by Written = plain-calls cells h theme Written a pagePairs (omega arith)
 
   pub paging-start : {table : List ℕ} {buffers : Lent} {out : List ℕ} → Room table buffers out
-      → Paging cells h theme way lent out table buffers out (firstBookmark (rangeOf way)) 0 0 0 true
+      → Paging cells h theme way lent out table buffers out (firstBookmark (rangeAs way)) 0 0 0 true
   paging-start {table} {out = out} r =
       record {
         accepted = a;

@@ -20,7 +20,7 @@ use Rattle.score.specs.Score.{scoreOf}
 use Rattle.score.specs.Refusals.{verdict, GivenBy, placeBy}
 use Rattle.score.proofs.Judging.{judge-away}
 use Rattle.score.proofs.Judged.{judge-either, judge-clear, judge-clear-of, verdict-clear, answer-refused}
-use Rattle.ways.specs.declared.way.Way.{Way}
+use Rattle.ways.specs.declared.way.AnyWay.{AnyWay}
 use Rattle.asking.specs.Limits.{mostNotes}
 use Rattle.asking.specs.Refusals.{requestRows}
 use Rattle.asking.specs.Asking.{Accepted}
@@ -76,7 +76,7 @@ module _ (text out : List ℕ) where
 
 -- ---- a search that is checked
 
-module _ (cells : List ℕ) (h : ℕ) (theme : List ℕ) (way : Way) where
+module _ (cells : List ℕ) (h : ℕ) (theme : List ℕ) (way : AnyWay) where
   module _ {v : Verdict} (checked : v ≡ verdict (requestRows mostNotes cells h theme)) where
     pub checked-accepted : v ≡ Passed → Accepted mostNotes cells h theme
     checked-accepted e = accepted-clear mostNotes cells h theme .1 (verdict-clear (requestRows mostNotes cells h theme) (sym checked ∙ e))

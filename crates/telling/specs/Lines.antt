@@ -7,9 +7,10 @@ use lib.ListN.{length}
 use Rattle.theory.specs.Lists.{join}
 use Rattle.score.specs.Score.{columnAt}
 use Rattle.score.specs.Sets.{sets}
-use Rattle.ways.specs.declared.way.Way.{Way}
+use Rattle.ways.specs.declared.way.AnyWay.{AnyWay}
+use Rattle.ways.specs.declared.way.AnyWay.the-variants.{Moved, Written}
 use Rattle.ways.specs.declared.bookmark.Pair.{Pair}
-use Rattle.search.specs.Pairs.{pairs}
+use Rattle.search.specs.Pairs.{pairsAs}
 use Rattle.search.specs.WholeList.{candidateLooks}
 use Rattle.telling.specs.Text.{hitWord, endWord, refusedWord, decimal, signed, line}
 
@@ -31,7 +32,11 @@ refusedLine n = line refusedWord (decimal 11) (decimal n)
 abbrev pub hitLines : List Pair → List ℕ
 hitLines list = join (map hitLine list)
 
--- a line for each pair, and the line behind them with the looks of all pages: the quick way, with the score's own sets
-unfoldable pub linesOf : Way → (score : List (List ℕ)) (theme : List ℕ) → List ℕ
-linesOf way score theme =
-    hitLines (pairs way score theme) ++ endLine (length (pairs way score theme)) (candidateLooks way score theme (sets score))
+-- the looks of all pages: the quick way, with the score's own sets; as the tune is written, none
+abbrev pub toldLooks : AnyWay → (score : List (List ℕ)) (theme : List ℕ) → ℕ
+toldLooks (Moved way) score theme = candidateLooks way score theme (sets score)
+toldLooks Written score theme = 0
+
+-- a line for each pair, and the line behind them
+unfoldable pub linesOf : AnyWay → (score : List (List ℕ)) (theme : List ℕ) → List ℕ
+linesOf way score theme = hitLines (pairsAs way score theme) ++ endLine (length (pairsAs way score theme)) (toldLooks way score theme)

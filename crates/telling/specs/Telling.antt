@@ -9,7 +9,7 @@ use lib.ListN.{length}
 use Rattle.theory.specs.Lists.{over}
 use Rattle.score.specs.Score.{scoreOf}
 use Rattle.score.specs.Refusals.{judge}
-use Rattle.ways.specs.declared.way.Way.{Way}
+use Rattle.ways.specs.declared.way.AnyWay.{AnyWay}
 use Rattle.asking.specs.Limits.{mostNotes}
 use Rattle.asking.specs.Refusals.{requestRows}
 use Rattle.telling.specs.declared.calls.Telling.{Telling}
@@ -27,7 +27,7 @@ unfoldable pub told : (text out : List ℕ) → Tale
 told text out = cond (ltb (length out) room) (record { answer = Short; out = out }) (record { answer = Told (length text); out = over out text })
 
 -- a search: refused, by 1 to 5 in this order, and not written; or the text of all its lines
-unfoldable pub searchTold : (cells : List ℕ) (h : ℕ) (theme : List ℕ) → Way → (out : List ℕ) → Tale
+unfoldable pub searchTold : (cells : List ℕ) (h : ℕ) (theme : List ℕ) → AnyWay → (out : List ℕ) → Tale
 searchTold cells h theme way out =
     judge (requestRows mostNotes cells h theme) (λ r. record { answer = Refused r; out = out }) (told (linesOf way (scoreOf cells h) theme) out)
 

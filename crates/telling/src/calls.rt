@@ -7,7 +7,7 @@ use asking::MOST_NOTES;
 use asking::check_request;
 use score::Refusal;
 use score::Verdict;
-use ways::Way;
+use ways::AnyWay;
 ghost use Rattle.telling.specs.Lines.{refusedLine};
 ghost use Rattle.telling.specs.Telling.{told, searchTold, Tells};
 
@@ -18,10 +18,10 @@ pub enum Telling {
     Short,
 }
 
-// Writes the lines of all pairs of a search, the quick way, and the line behind them, from the front of a buffer of 458,546
+// Writes the lines of all pairs of a search, the quick way, or plainly as the tune is written, and the line behind them, from the front of a buffer of 458,546
 // bytes or more, and keeps what stands behind them. No search needs more room. Refuses 1 to 5, before a shorter buffer is
 // turned away.
-pub fn tell(cells: &[u8], tracks: usize, theme: &[u8], way: Way, out: &mut [u8]) -> Telling
+pub fn tell(cells: &[u8], tracks: usize, theme: &[u8], way: AnyWay, out: &mut [u8]) -> Telling
     ensures { λ r. ⌜ Tells (searchTold (now (cells .entry)) tracks (now (theme .entry)) way (now (out .entry))) r (now (out .exit)) ⌝ }
 {
     if let Verdict::Refused(e) = check_request(cells, tracks, theme, MOST_NOTES) {

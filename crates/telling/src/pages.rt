@@ -1,4 +1,4 @@
-// The search: as many quick pages as there are, each written out as it comes, and the line behind them.
+// The search: as many pages as there are, each written out as it comes, and the line behind them.
 
 use crate::limits::PAGE_PAIRS;
 use crate::writing::end_line;
@@ -8,9 +8,10 @@ use score::MOST_COLUMNS;
 use score::TABLE_WORDS;
 use score::columns_in;
 use search::Page;
+use search::plain_page;
 use search::quick_page;
+use ways::AnyWay;
 use ways::Bookmark;
-use ways::Way;
 ghost use Prim.Native.Nat.{_≤_};
 ghost use lib.ListN.{length};
 ghost use Rattle.score.specs.Score.{scoreOf};
@@ -19,14 +20,52 @@ ghost use Rattle.asking.specs.Asking.{Accepted};
 ghost use Rattle.paging.specs.Lent.{lent};
 ghost use Rattle.telling.specs.Lines.{linesOf};
 ghost use Rattle.telling.specs.Limits.{room};
-ghost use Rattle.telling.specs.Steps.{Wrote, Sought, Asked};
+ghost use Rattle.telling.specs.Steps.{Wrote, Sought, Asked, PageTold};
+
+// One page of the search: a quick one, by the sets of the score; as the tune is written, a plain one.
+fn page_of(
+    cells: &[u8],
+    tracks: usize,
+    theme: &[u8],
+    way: AnyWay,
+    bookmark: Bookmark,
+    sets: &[u16],
+    table: &mut [u32],
+    columns: &mut [u16],
+    shifts: &mut [i16],
+) -> Page
+    ensures { λ r. ⌜ PageTold (now (cells .entry)) tracks (now (theme .entry)) way bookmark (now (sets .entry)) (now (table .entry)) (lent (now (columns .entry)) (now (shifts .entry))) r (lent (now (columns .exit)) (now (shifts .exit))) ⌝ }
+{
+    match way {
+        AnyWay::Moved(w) => quick_page(
+            cells,
+            tracks,
+            theme,
+            w,
+            bookmark,
+            sets,
+            table,
+            columns,
+            shifts,
+        ),
+        AnyWay::Written => plain_page(
+            cells,
+            tracks,
+            theme,
+            AnyWay::Written,
+            bookmark,
+            columns,
+            shifts,
+        ),
+    }
+}
 
 // All pages by the score's own sets, with room for some pairs in the two buffers, into the output from its front.
 fn pages(
     cells: &[u8],
     tracks: usize,
     theme: &[u8],
-    way: Way,
+    way: AnyWay,
     sets: &[u16],
     table: &mut [u32],
     columns: &mut [u16],
@@ -42,7 +81,7 @@ fn pages(
     let mut looks: u32 = 0;
     let mut more = true;
     while more {
-        match quick_page(
+        match page_of(
             cells,
             tracks,
             theme,
@@ -73,7 +112,7 @@ fn search_in(
     cells: &[u8],
     tracks: usize,
     theme: &[u8],
-    way: Way,
+    way: AnyWay,
     sets: &mut [u16],
     table: &mut [u32],
     columns: &mut [u16],
@@ -99,7 +138,7 @@ fn search_in(
 }
 
 // The same with room of its own for all that is between.
-pub fn search_lines(cells: &[u8], tracks: usize, theme: &[u8], way: Way, out: &mut [u8]) -> usize
+pub fn search_lines(cells: &[u8], tracks: usize, theme: &[u8], way: AnyWay, out: &mut [u8]) -> usize
     requires { ⌜ Accepted mostNotes (now cells) tracks (now theme) ⌝ }
     requires { ⌜ room ≤ length (now out) ⌝ }
     ensures { λ r. ⌜ Wrote (linesOf way (scoreOf (now (cells .entry)) tracks) (now (theme .entry))) 0 (now (out .entry)) r (now (out .exit)) ⌝ }

@@ -43,7 +43,7 @@ returns-3 : tie.Need-returns-3
 returns-3 c =
     let w = c .before .before in
     let e = w .before .before in
-    rw (accepted-told _ _ _ _ _ (accepted (e .before))) (tells-told _ _ (lines-few _ _ _ _ (accepted (e .before))) (e .if1 .left) (w .search-lines .ensures))
+    rw (accepted-told _ _ _ _ _ (accepted (e .before))) (tells-told _ _ (lines-few _ _ _ (accepted (e .before)) _) (e .if1 .left) (w .search-lines .ensures))
 
 pub tell-spec : {M : Type 1} → statement M
 tell-spec =

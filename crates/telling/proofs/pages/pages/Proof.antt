@@ -28,8 +28,8 @@ loop-holds c =
     rw (c .first .ensures)
     (paging-start _ _ _ _ _ (a .pre .accepted) (a .pre .own) (a .pre .room))
 
-quick-page-requires : tie.Need-quick-page-requires Inv-loop μ-loop
-quick-page-requires c κs = search needs
+page-of-requires : tie.Need-page-of-requires Inv-loop μ-loop
+page-of-requires c κs = search needs
 
 enum-known-t : tie.Need-enum-known-t Inv-loop μ-loop
 enum-known-t c = search needs
@@ -40,9 +40,9 @@ hit-lines-requires c κs =
     let l = q .before .before .before .before in
     let p = rw (l .loop-test .taken) at (l .before .loop .inv) in
     let e = c .before .before .before .before .t .given .1 in
-    let cl = (q .quick-page .kept .1 .1 .1 .1 .1 .1 .1 .0 ∙ p .room .pairs-room .of-columns) in
-    let w = turn-written _ _ _ _ _ _ p (q .quick-page .ensures) e in
-    ((omega arith, (q .quick-page .kept .1 .1 .1 .1 .1 .1 .1 .1 .0 ∙ p .room .pairs-room .of-shifts) ∙ sym cl), turn-room _ _ _ _ _ _ p (q .quick-page .ensures) e)
+    let cl = (q .page-of .kept .1 .1 .1 .1 .1 .1 .1 .0 ∙ p .room .pairs-room .of-columns) in
+    let w = turn-written _ _ _ _ _ _ p (q .page-of .ensures) e in
+    ((omega arith, (q .page-of .kept .1 .1 .1 .1 .1 .1 .1 .1 .0 ∙ p .room .pairs-room .of-shifts) ∙ sym cl), turn-room _ _ _ _ _ _ p (q .page-of .ensures) e)
 
 add-found : tie.Need-add-found Inv-loop μ-loop
 add-found c =
@@ -50,7 +50,7 @@ add-found c =
     let l = q .before .before .before .before in
     let p = rw (l .loop-test .taken) at (l .before .loop .inv) in
     let e = c .before .before .before .before .before .before .before .before .t .given .1 in
-    let w = turn-found _ _ _ _ _ _ p (q .quick-page .ensures) e in
+    let w = turn-found _ _ _ _ _ _ p (q .page-of .ensures) e in
     omega arith
 
 add-looks : tie.Need-add-looks Inv-loop μ-loop
@@ -59,7 +59,7 @@ add-looks c =
     let l = q .before .before .before .before in
     let p = rw (l .loop-test .taken) at (l .before .loop .inv) in
     let e = c .before .before .before .before .before .before .before .before .before .t .given .1 in
-    record { fits = turn-looks _ _ _ _ _ _ p (q .quick-page .ensures) e }
+    record { fits = turn-looks _ _ _ _ _ _ p (q .page-of .ensures) e }
 
 loop-less : tie.Need-loop-less Inv-loop μ-loop
 loop-less c =
@@ -67,7 +67,7 @@ loop-less c =
     let l = q .before .before .before .before in
     let p = rw (l .loop-test .taken) at (l .before .loop .inv) in
     let e = c .before .before .before .before .before .before .before .before .before .before .before .t .given .1 in
-    rw (l .loop-test .taken) (turn-less _ _ _ _ _ _ p (q .quick-page .ensures) e)
+    rw (l .loop-test .taken) (turn-less _ _ _ _ _ _ p (q .page-of .ensures) e)
 
 loop-again : tie.Need-loop-again Inv-loop μ-loop
 loop-again c =
@@ -75,7 +75,7 @@ loop-again c =
     let l = q .before .before .before .before in
     let p = rw (l .loop-test .taken) at (l .before .loop .inv) in
     let e = c .before .before .before .before .before .before .before .before .before .before .before .t .given .1 in
-    turn-more _ _ _ _ _ _ p (q .quick-page .ensures) e (q .quick-page .kept .1 .1 .1 .1 .1 .1 .0 ∙ p .room .table-long) (record { of-columns = q .quick-page .kept .1 .1 .1 .1 .1 .1 .1 .0 ∙ p .room .pairs-room .of-columns; of-shifts = q .quick-page .kept .1 .1 .1 .1 .1 .1 .1 .1 .0 ∙ p .room .pairs-room .of-shifts }) (c .before .before .before .before .before .before .hit-lines .ensures)
+    turn-more _ _ _ _ _ _ p (q .page-of .ensures) e (q .page-of .kept .1 .1 .1 .1 .1 .1 .0 ∙ p .room .table-long) (record { of-columns = q .page-of .kept .1 .1 .1 .1 .1 .1 .1 .0 ∙ p .room .pairs-room .of-columns; of-shifts = q .page-of .kept .1 .1 .1 .1 .1 .1 .1 .1 .0 ∙ p .room .pairs-room .of-shifts }) (c .before .before .before .before .before .before .hit-lines .ensures)
 
 enum-told : tie.Need-enum-told Inv-loop μ-loop
 enum-told c = search needs
@@ -85,14 +85,14 @@ loop-less-2 c =
     let q = c .before .before .before .before .before .before .before in
     let l = q .before .before .before .before in
     let p = rw (l .loop-test .taken) at (l .before .loop .inv) in
-    absurd (turn-refused _ _ _ _ _ _ p (q .quick-page .ensures) (c .enum-told .given .1))
+    absurd (turn-refused _ _ _ _ _ _ p (q .page-of .ensures) (c .enum-told .given .1))
 
 loop-again-2 : tie.Need-loop-again-2 Inv-loop μ-loop
 loop-again-2 c =
     let q = c .before .before .before .before .before .before .before in
     let l = q .before .before .before .before in
     let p = rw (l .loop-test .taken) at (l .before .loop .inv) in
-    absurd (turn-refused _ _ _ _ _ _ p (q .quick-page .ensures) (c .enum-told .given .1))
+    absurd (turn-refused _ _ _ _ _ _ p (q .page-of .ensures) (c .enum-told .given .1))
 
 cast-end-line : tie.Need-cast-end-line Inv-loop μ-loop
 cast-end-line c =
@@ -133,7 +133,7 @@ pages-spec =
     μ-loop
     first-requires
     loop-holds
-    quick-page-requires
+    page-of-requires
     enum-known-t
     hit-lines-requires
     add-found
