@@ -1,4 +1,4 @@
--- What lies behind the first 143,502 bytes of an input changes nothing of its meaning or of the output (`meaning-behind`,
+-- What lies behind the first 143,503 bytes of an input changes nothing of its meaning or of the output (`meaning-behind`,
 -- `output-behind`): a theme line has at most 141 bytes and a chord line at most 70, and what is read of a line does not depend on
 -- what lies behind it. Assumes nothing.
 use mathlib.Core.Path.{_≡_, refl, sym, ap, _∙_}
@@ -11,8 +11,9 @@ use lib.Dec.{eqb}
 use lib.ListN.{length, take, drop, length-append, take-append-drop}
 use Rattle.listing.specs.Limits.{inputRoom}
 use Rattle.score.specs.Limits.{mostTracks, mostColumns, highestPitch, restCell}
-use Rattle.ways.specs.declared.way.Way.{Way}
 use Rattle.ways.specs.declared.way.Way.the-variants.{Exact, Octave}
+use Rattle.ways.specs.declared.way.AnyWay.{AnyWay}
+use Rattle.ways.specs.declared.way.AnyWay.the-variants.{Moved, Written}
 use Rattle.words.specs.Words.{Read, got, bad}
 use Rattle.reading.specs.Reading.{themeWord, chordWord, chordLine, Theme, themeLine}
 use Rattle.reading.specs.Request.{Chords, all, above, onChord, chords, withChords, withTheme, meaning}
@@ -39,16 +40,17 @@ notes-cells : (notes : List ℕ) → Each IsNote notes → Each IsCell notes
 notes-cells [] h = h
 notes-cells (p ∷ notes) h = (inl (h .0), notes-cells notes (h .1))
 
--- with their line feeds a right chord line has at most 70 bytes and a right theme line 141, so that one of over 160 before it is
+-- with their line feeds a right chord line has at most 70 bytes and a right theme line 142, so that one of over 160 before it is
 -- faulty: `long-faulty` of `reading/proofs/LineLengths` says so of the lines of an input
 pub chord-length : (column : List ℕ) → length column ≤ mostTracks → Each IsCell column → length (chordText column) ≤ 70
 chord-length column l h = omega (arith, length-append chordWord (fieldsText column), fields-length column h)
 
-way-length : (way : Way) → length (wayWord way) ≤ 6
-way-length Exact = omega arith
-way-length Octave = omega arith
+way-length : (way : AnyWay) → length (wayWord way) ≤ 7
+way-length (Moved Exact) = omega arith
+way-length (Moved Octave) = omega arith
+way-length Written = omega arith
 
-pub theme-length : (theme : Theme) → IsTheme theme → length (themeText theme) ≤ 141
+pub theme-length : (theme : Theme) → IsTheme theme → length (themeText theme) ≤ 142
 theme-length theme h =
     omega (
       arith,
@@ -139,7 +141,7 @@ module _ (input : List ℕ) where
       step bad e = rw (e, theme-cut-bad e)
       step (got theme rest) e =
           let w = theme-is input e in
-          let l : length (themeText theme) ≤ 141 = theme-length theme (w .right) in
+          let l : length (themeText theme) ≤ 142 = theme-length theme (w .right) in
           let cut : themeLine (take inputRoom input) ≡ got theme (take (inputRoom - length (themeText theme)) rest) =
           ap (λ (t : List ℕ). themeLine (take inputRoom t)) (w .is)
           ∙ ap themeLine (take-front (themeText theme) rest (inputRoom - length (themeText theme)) inputRoom (omega arith))

@@ -9,7 +9,7 @@ use lib.Seq.{take-at}
 use Rattle.theory.specs.Lists.{over, join}
 use Rattle.asking.specs.Limits.{mostNotes}
 use Rattle.score.specs.Limits.{mostTracks, mostColumns, mostCells}
-use Rattle.ways.specs.declared.way.Way.{Way}
+use Rattle.ways.specs.declared.way.AnyWay.{AnyWay}
 use Rattle.reading.specs.declared.request.Reading.{Reading}
 use Rattle.reading.specs.declared.request.Reading.the-variants.{Bad}
 use Rattle.reading.specs.Request.{Meaning}
@@ -43,7 +43,7 @@ over-front buffer values n e = take-at values (drop (length values) buffer) n (s
 over-le : (buffer values : List ℕ) → length values ≤ length (over buffer values)
 over-le buffer values = omega (arith, length-append values (drop (length values) buffer))
 
-module _ {input theme cells : List ℕ} {way : Way} {notes tracks columns : ℕ} {theme′ cells′ : List ℕ} (t : Took input theme cells way notes tracks columns theme′ cells′) where
+module _ {input theme cells : List ℕ} {way : AnyWay} {notes tracks columns : ℕ} {theme′ cells′ : List ℕ} (t : Took input theme cells way notes tracks columns theme′ cells′) where
   limits : Right (t .request)
   limits = meaning-right input (t .is) .limits
 
@@ -71,7 +71,7 @@ module _ {input theme cells : List ℕ} {way : Way} {notes tracks columns : ℕ}
   request-told out =
       let q = t .request in
       ap (λ (h : ℕ). searchTold (join (q .columns)) h (q .theme .notes) way out) tracks-is
-      ∙ ap (λ (w : Way). searchTold (join (q .columns)) (limits .tracks) (q .theme .notes) w out) (t .way-is)
+      ∙ ap (λ (w : AnyWay). searchTold (join (q .columns)) (limits .tracks) (q .theme .notes) w out) (t .way-is)
       ∙ accepted-told (join (q .columns)) (limits .tracks) (q .theme .notes) (q .theme .way) out (right-accepted q limits)
       ∙ ap (λ (score : List (List ℕ)). told (linesOf (q .theme .way) score (q .theme .notes)) out) (right-score q limits)
       ∙ ap (λ (m : Meaning). told (answer m) out) (sym (t .is))

@@ -146,7 +146,7 @@ module _ (q : Request) (r : Right q) where
   pub right-few : length (linesOf (q .theme .way) (q .columns) (q .theme .notes)) ≤ room
   right-few =
       subst (λ (score : List (List ℕ)). length (linesOf (q .theme .way) score (q .theme .notes)) ≤ room) right-score
-      (lines-few (join (q .columns)) (r .tracks) (q .theme .notes) (q .theme .way) right-accepted)
+      (lines-few (join (q .columns)) (r .tracks) (q .theme .notes) right-accepted (q .theme .way))
 
 -- ---- the room
 

@@ -13,10 +13,11 @@ use borrow.Author.Tests.{leb-true, eqb-true}
 use Rattle.theory.specs.Lists.{join}
 use Rattle.asking.specs.Limits.{mostNotes}
 use Rattle.score.specs.Limits.{mostTracks}
-use Rattle.ways.specs.declared.way.Way.{Way}
 use Rattle.ways.specs.declared.way.Way.the-variants.{Exact, Octave}
+use Rattle.ways.specs.declared.way.AnyWay.{AnyWay}
+use Rattle.ways.specs.declared.way.AnyWay.the-variants.{Moved, Written}
 use Rattle.words.specs.Words.{Read, got, bad, next, begins}
-use Rattle.reading.specs.Reading.{themeWord, exactWord, octaveWord, chordWord, fields, counted, tracksRight, chordLine, Theme, notesOf, themeLine}
+use Rattle.reading.specs.Reading.{themeWord, exactWord, octaveWord, writtenWord, chordWord, fields, counted, tracksRight, chordLine, Theme, notesOf, themeLine}
 use Rattle.reading.specs.Request.{Chords, all, fault, above, onChord, chords}
 use Rattle.listing.specs.Texts.{chordText, themeText, wayWord, fieldsText, Each, IsChord, IsTheme}
 use Rattle.words.proofs.Places.{bad-got, got-value, got-rest}
@@ -82,7 +83,7 @@ pub record Sung (text : List ℕ) (theme : Theme) (rest : List ℕ) : Type 0 whe
   pub right : IsTheme theme
   pub is : text ≡ themeText theme ++ rest
 
-notes-is : (way : Way) (text : List ℕ) {theme : Theme} {rest : List ℕ} → notesOf way text ≡ got theme rest
+notes-is : (way : AnyWay) (text : List ℕ) {theme : Theme} {rest : List ℕ} → notesOf way text ≡ got theme rest
     → IsTheme theme × (theme .way ≡ way) × (text ≡ fieldsText (theme .notes) ++ rest)
 notes-is way text {theme} {rest} e = step (counted (leb 2) (fields false mostNotes text)) refl e
   where
@@ -96,7 +97,7 @@ notes-is way text {theme} {rest} e = step (counted (leb 2) (fields false mostNot
         subst (λ (u : Theme). IsTheme u × (u .way ≡ way) × (text ≡ fieldsText (u .notes) ++ rest)) (got-value k)
         (t, refl, c .fielded .is ∙ ap (λ (x : List ℕ). fieldsText notes ++ x) (got-rest k))
 
-theme-part : (way : Way) (text : List ℕ) {behind : List ℕ} {theme : Theme} {rest : List ℕ} → begins themeWord text ≡ true → begins (wayWord way) (drop 6 text) ≡ true
+theme-part : (way : AnyWay) (text : List ℕ) {behind : List ℕ} {theme : Theme} {rest : List ℕ} → begins themeWord text ≡ true → begins (wayWord way) (drop 6 text) ≡ true
     → drop (length (wayWord way)) (drop 6 text) ≡ behind → notesOf way behind ≡ got theme rest → Sung text theme rest
 theme-part way text {behind} {theme} {rest} p q d k =
     let n = notes-is way behind k in
@@ -107,20 +108,24 @@ theme-part way text {behind} {theme} {rest} p q d k =
           ∙ ap (λ (x : List ℕ). themeWord ++ x)
           (begins-is (wayWord way) (drop 6 text) q
           ∙ ap (λ (x : List ℕ). wayWord way ++ x) (d ∙ n .2)
-          ∙ ap (λ (w : Way). wayWord w ++ (fieldsText (theme .notes) ++ rest)) (sym (n .1))
+          ∙ ap (λ (w : AnyWay). wayWord w ++ (fieldsText (theme .notes) ++ rest)) (sym (n .1))
           ∙ sym (append-assoc (wayWord (theme .way)) (fieldsText (theme .notes)) rest));
     }
 
 pub theme-is : (text : List ℕ) {theme : Theme} {rest : List ℕ} → themeLine text ≡ got theme rest → Sung text theme rest
 unfolding themeLine
-theme-is text {theme} {rest} e = step (begins themeWord text) (begins exactWord (drop 6 text)) (begins octaveWord (drop 6 text)) refl refl refl e
+theme-is text {theme} {rest} e =
+    step (begins themeWord text) (begins exactWord (drop 6 text)) (begins octaveWord (drop 6 text)) (begins writtenWord (drop 6 text)) refl refl refl refl e
   where
-    step : (s t u : Bool) → begins themeWord text ≡ s → begins exactWord (drop 6 text) ≡ t → begins octaveWord (drop 6 text) ≡ u
-        → cond s (cond t (notesOf Exact (drop 11 text)) (cond u (notesOf Octave (drop 12 text)) bad)) bad ≡ got theme rest → Sung text theme rest
-    step true true u p q r k = theme-part Exact text p q (drop-drop 5 6 text) k
-    step true false true p q r k = theme-part Octave text p r (drop-drop 6 6 text) k
-    step true false false p q r k = absurd (bad-got k)
-    step false t u p q r k = absurd (bad-got k)
+    step : (s t u v : Bool) → begins themeWord text ≡ s → begins exactWord (drop 6 text) ≡ t → begins octaveWord (drop 6 text) ≡ u → begins writtenWord (drop 6 text) ≡ v
+        → cond s
+        (cond t (notesOf (Moved Exact) (drop 11 text)) (cond u (notesOf (Moved Octave) (drop 12 text)) (cond v (notesOf Written (drop 13 text)) bad))) bad ≡ got theme rest
+        → Sung text theme rest
+    step true true u v p q r w k = theme-part (Moved Exact) text p q (drop-drop 5 6 text) k
+    step true false true v p q r w k = theme-part (Moved Octave) text p r (drop-drop 6 6 text) k
+    step true false false true p q r w k = theme-part Written text p w (drop-drop 7 6 text) k
+    step true false false false p q r w k = absurd (bad-got k)
+    step false t u v p q r w k = absurd (bad-got k)
 
 -- ---- all chord lines
 

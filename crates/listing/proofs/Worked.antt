@@ -6,6 +6,7 @@ use Rattle.theory.specs.Bits.{bit, number as numberOf}
 use Rattle.theory.specs.Register.{step, register}
 use Rattle.score.specs.Sets.{apart, intervalSet}
 use Rattle.ways.specs.declared.way.Way.the-variants.{Exact}
+use Rattle.ways.specs.declared.way.AnyWay.the-variants.{Moved}
 use Rattle.ways.specs.Way.{holds}
 use Rattle.walking.specs.Starts.{hit, looks}
 use Rattle.filter.specs.Table.{word, themeTable}
@@ -23,7 +24,7 @@ use Rattle.listing.specs.Answer.{output}
 abbrev pub example : Request
 example =
     record {
-      theme = record { way = Exact; notes = 67 ∷ 62 ∷ [] };
+      theme = record { way = Moved Exact; notes = 67 ∷ 62 ∷ [] };
       columns = (60 ∷ 67 ∷ []) ∷ (62 ∷ 69 ∷ []) ∷ (64 ∷ 255 ∷ []) ∷ (65 ∷ 72 ∷ []) ∷ (255 ∷ 67 ∷ []) ∷ [];
     }
 

@@ -3,4 +3,4 @@ use Prim.Native.Nat.{ℕ}
 
 -- one byte more than any right input has: what lies behind it changes nothing of the output (`output-behind`)
 abbrev pub inputRoom : ℕ
-inputRoom = 143502
+inputRoom = 143503

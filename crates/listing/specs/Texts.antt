@@ -10,9 +10,10 @@ use lib.ListN.{length}
 use Rattle.theory.specs.Lists.{join}
 use Rattle.asking.specs.Limits.{mostNotes}
 use Rattle.score.specs.Limits.{mostTracks, mostColumns, highestPitch, restCell}
-use Rattle.ways.specs.declared.way.Way.{Way}
 use Rattle.ways.specs.declared.way.Way.the-variants.{Exact, Octave}
-use Rattle.reading.specs.Reading.{themeWord, exactWord, octaveWord, chordWord, Theme}
+use Rattle.ways.specs.declared.way.AnyWay.{AnyWay}
+use Rattle.ways.specs.declared.way.AnyWay.the-variants.{Moved, Written}
+use Rattle.reading.specs.Reading.{themeWord, exactWord, octaveWord, writtenWord, chordWord, Theme}
 use Rattle.reading.specs.Request.{Request}
 use Rattle.telling.specs.Text.{decimal}
 
@@ -25,9 +26,10 @@ unfoldable pub fieldsText : List ℕ → List ℕ
 fieldsText [] = 10 ∷ []
 fieldsText (value ∷ values) = 9 ∷ (cellText value ++ fieldsText values)
 
-abbrev pub wayWord : Way → List ℕ
-wayWord Exact = exactWord
-wayWord Octave = octaveWord
+abbrev pub wayWord : AnyWay → List ℕ
+wayWord (Moved Exact) = exactWord
+wayWord (Moved Octave) = octaveWord
+wayWord Written = writtenWord
 
 abbrev pub chordText : List ℕ → List ℕ
 chordText column = chordWord ++ fieldsText column
