@@ -141,7 +141,7 @@ module _ {cells : List ℕ} {h : ℕ} {theme : List ℕ} {from : ℕ} {columns�
       stands-there : from + (length theme - 1) ≤ k
           → Diagonal (wordAt wordBits cells h theme) (k - (length theme - 1)) (length theme - 1) ↔ (standsAt score theme (k - (length theme - 1) + 1) ≡ true)
       stands-there l =
-          diagonal-stands wordBits cells h theme (w .notes) (w .notes-most) (w .sung) (k - (length theme - 1)) (omega (arith, more, w .notes, l))
+          diagonal-stands wordBits cells h theme (omega (arith, w .notes)) (w .notes-most) (w .sung) (k - (length theme - 1)) (omega (arith, more, w .notes, l))
 
       -- it has: the start is behind the first m - 1 columns, and is listed
       pub hit-fits : marked ≡ true → length theme + from ≤ k + 1

@@ -130,7 +130,7 @@ module _ (cells : List ℕ) (h : ℕ) (theme : List ℕ) (b : Bookmark) (columns
           tracks = a .accepted .tracks-some;
           whole = columns-whole cells h (a .accepted .columns-whole);
           columns-most = a .accepted .columns-few;
-          notes = omega (arith, a .accepted .notes-some);
+          notes = a .accepted .notes-some;
           notes-most = a .accepted .notes-few;
           sung = none-over 127 theme (a .accepted .notes-good);
           same-room = a .same-room;

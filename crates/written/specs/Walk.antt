@@ -22,7 +22,7 @@ pub record Walkable (cells : List ℕ) (h : ℕ) (theme : List ℕ) (from : ℕ)
   pub tracks : 1 ≤ h
   pub whole : columnsIn cells h * h ≡ length cells
   pub columns-most : columnsIn cells h ≤ mostColumns
-  pub notes : 1 ≤ length theme
+  pub notes : 2 ≤ length theme
   pub notes-most : length theme ≤ wordBits
   pub sung : (i : ℕ) → getD theme i 0 ≤ highestPitch
   pub same-room : length shifts ≡ length columns
