@@ -168,9 +168,9 @@ module _ (cells : List ℕ) (h : ℕ) (theme : List ℕ) (b : Bookmark) (buffers
       judge-small (λ (l : Leaf). SmallPage (l .answer)) (away buffers) (leaf S b buffers) (λ r s. s) (rowsOfQuick cells h theme way b sets table buffers)
       (score-small cells h (row4 mostNotes theme ∷ row5 theme ∷ rows)
       (λ e. theme-small theme rows
-          (sets-small cells h sets (row8 (length table) ∷ page) e (λ t. nowhere, λ t. page-small (rangeOf way) (columnsIn cells h) b r (length (buffers .shifts))))))
+      (sets-small cells h sets (row8 (length table) ∷ page) e (λ t. nowhere, λ t. page-small (rangeOf way) (columnsIn cells h) b r (length (buffers .shifts))))))
       (λ c. let a = quick-clear cells h theme way b sets table (buffers .columns) (buffers .shifts) .1 c .plain .accepted in
-          record {
-            written = few-looks S (looks-some way (scoreOf cells h) theme (a .notes-some))
-                (lt-of-le-of-lt (quick-page-le cells h theme way b r wordBits (themeTable wordBits theme) sets) (most-fits cells h theme a));
-          })
+      record {
+        written = few-looks S (looks-some way (scoreOf cells h) theme (a .notes-some))
+            (lt-of-le-of-lt (quick-page-le cells h theme way b r wordBits (themeTable wordBits theme) sets) (most-fits cells h theme a));
+      })

@@ -48,7 +48,15 @@ pub extern "C" fn finder_plain_page(
         column: Column(column),
         shift,
     };
-    let p = plain_page(cells, tracks, theme, any_way_of(way), bookmark, columns, shifts);
+    let p = plain_page(
+        cells,
+        tracks,
+        theme,
+        any_way_of(way),
+        bookmark,
+        columns,
+        shifts,
+    );
     told_page(p, answer)
 }
 

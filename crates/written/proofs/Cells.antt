@@ -100,7 +100,7 @@ module _ (w : ℕ) (theme : List ℕ) where
   added k q =
       either (eqb q k)
       (λ e. let same : q ≡ k = eqb-true q k e in
-          rw (same, lt-ltb k (k + 1) (omega arith), le-ltb k k (omega arith), eq-eqb k k refl, eq-eqb (getD theme k 0) (getD theme k 0) refl))
+      rw (same, lt-ltb k (k + 1) (omega arith), le-ltb k k (omega arith), eq-eqb k k refl, eq-eqb (getD theme k 0) (getD theme k 0) refl))
       (λ e. rw (e, shorter k q (eqb-false q k e)) (nothing (among theme k (getD theme k 0 ∷ []) q)))
     where
       nothing : (b : Bool) → b ≡ (b || false)
@@ -111,7 +111,7 @@ module _ (w : ℕ) (theme : List ℕ) where
   not-added k q cell n =
       either (eqb q k)
       (λ e. let same : q ≡ k = eqb-true q k e in
-          rw (same, lt-ltb k (k + 1) (omega arith), le-ltb k k (omega arith), ne-eqb cell (getD theme k 0) n))
+      rw (same, lt-ltb k (k + 1) (omega arith), le-ltb k k (omega arith), ne-eqb cell (getD theme k 0) n))
       (λ e. rw (shorter k q (eqb-false q k e)))
 
   -- one more note
@@ -128,9 +128,9 @@ module _ (w : ℕ) (theme : List ℕ) where
         each = λ cell l. either (eqb cell p)
             (λ t. let same : cell ≡ p = eqb-true cell p t in rw (same, getD-set-same words p v 0 (omega (arith, m .long, b))) new)
             (λ t. let other = eqb-false cell p t in
-                getD-set-other words p cell v 0 other ∙ m .each cell l
-                ∙ number-same w (λ q. cond (among theme k (cell ∷ []) q) 0 1) (λ q. cond (among theme (k + 1) (cell ∷ []) q) 0 1)
-                (λ q. ap (λ (b : Bool). cond b 0 1) (sym (not-added k q cell other))));
+            getD-set-other words p cell v 0 other ∙ m .each cell l
+            ∙ number-same w (λ q. cond (among theme k (cell ∷ []) q) 0 1) (λ q. cond (among theme (k + 1) (cell ∷ []) q) 0 1)
+            (λ q. ap (λ (b : Bool). cond b 0 1) (sym (not-added k q cell other))));
       }
 
 -- all notes: the look-up has every byte's word

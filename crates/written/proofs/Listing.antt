@@ -117,9 +117,9 @@ module _ {cells : List ℕ} {h : ℕ} {theme : List ℕ} {from : ℕ} {columns�
         front =
             either (ltb k n)
             (λ t. let r : length columns₀ ≡ length (decided score theme from k) = omega (arith, a .few, a .counted, ltb-false found (length columns₀) (rw t at stop)) in
-                rw r (take-append-seam (decided score theme from k) rest))
+            rw r (take-append-seam (decided score theme from k) rest))
             (λ t. let z : left ≡ 0 = omega (arith, ltb-false k n t, e) in
-                rw (z, append-nil) (take-all (length columns₀) (decided score theme from k) (omega (arith, a .few, a .counted))))
+            rw (z, append-nil) (take-all (length columns₀) (decided score theme from k) (omega (arith, a .few, a .counted))))
 
         page : shownFrom score theme from (length columns₀) ≡ decided score theme from k
         page = page-take (standsAt score theme) (length columns₀) (count (from + 1) (length score + 1 - (length theme + from))) ∙ ap (take (length columns₀)) whole ∙ front

@@ -67,7 +67,7 @@ module _ (b : Bookmark) (some : 1 ≤ b .column .0) (j : ℕ) where
   there =
       either (ltb c j) (λ e. rw (e, le-leb (c - 1 + 1) j (omega (arith, ltb-true c j e))))
       (λ e. either (eqb c j) (λ f. rw (e, f, le-leb (c - 1 + 1) j (omega (arith, eqb-true c j f))))
-          (λ f. rw (e, f, lt-leb (c - 1 + 1) j (omega (arith, ltb-false c j e, eqb-false c j f)))))
+      (λ f. rw (e, f, lt-leb (c - 1 + 1) j (omega (arith, ltb-false c j e, eqb-false c j f)))))
 
   after-passed : atOrAfter b (record { column = columnAt j; shift = pos 0 }) ≡ leb (passed c (b .shift) + 1) j
   after-passed =

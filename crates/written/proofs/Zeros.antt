@@ -32,7 +32,7 @@ zeros-and w test one other h =
     bit-ext w (zeros w test) (bitAnd (zeros w one) (zeros w other)) (zeros-lt w test)
     (and-lt w (zeros w one) (zeros w other) (zeros-lt w one) (zeros-lt w other))
     (λ i k. zeros-bit w test i k ∙ ap (λ (b : Bool). cond b 0 1) (h i k) ∙ both (one i) (other i)
-        ∙ sym (bit-and (zeros w one) (zeros w other) i ∙ rw (zeros-bit w one i k, zeros-bit w other i k)))
+    ∙ sym (bit-and (zeros w one) (zeros w other) i ∙ rw (zeros-bit w one i k, zeros-bit w other i k)))
   where
     both : (a b : Bool) → cond (a || b) 0 1 ≡ min (cond a 0 1) (cond b 0 1)
     both true true = omega arith
