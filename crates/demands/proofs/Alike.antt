@@ -1,6 +1,7 @@
--- Demand 3, quick and plain: two readings from one bookmark, one by plain calls and one by quick calls with the score's own sets, have the same
--- pages, and each quick page has no more looks; and so have two pages from any one bookmark. The idea: a page rests on the bookmark and the room alone, so what the buffers held is the same to
--- both; and the next bookmarks are the same. Assumes nothing.
+-- Demand 3, quick and plain: two readings from one bookmark, one by plain calls and one by quick calls with the score's own
+-- sets, have the same pages, and each quick page has no more looks; and so have two pages from any one bookmark. The idea: a
+-- page rests on the bookmark and the room alone, so what the buffers held is the same to both; and the next bookmarks are the
+-- same. Assumes nothing.
 use mathlib.Core.Path.{_≡_, refl, sym, ap, ap₂, _∙_, subst}
 use mathlib.Core.Bool.{true≢false}
 use mathlib.Core.List.{List, [], _∷_}

@@ -1,5 +1,5 @@
--- Demand 1: each call, over its promise. The idea: an answer that meets the promise is the defined one, whose refusals are known. Assumes
--- nothing.
+-- Demand 1: each call, over its promise. The idea: an answer that meets the promise is the defined one, whose refusals are
+-- known. Assumes nothing.
 use mathlib.Core.Path.{_≡_, refl, sym, _∙_}
 use mathlib.Core.Logic.{_↔_}
 use mathlib.Core.List.{List, [], _∷_, map}

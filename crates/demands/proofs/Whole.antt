@@ -1,5 +1,6 @@
--- Demand 3, the list: a call that promises what a plain call does turns the pages of the plain search, and so lists all pairs that stand; a quick
--- one with the score's own sets lists the same. The idea: what meets a promise is the defined answer. Assumes nothing.
+-- Demand 3, the list: a call that promises what a plain call does turns the pages of the plain search, and so lists all pairs
+-- that stand; a quick one with the score's own sets lists the same. The idea: what meets a promise is the defined answer.
+-- Assumes nothing.
 use mathlib.Core.Path.{_≡_, sym, ap, ap₂, _∙_, subst}
 use mathlib.Core.List.{List, [], _∷_, _++_, List·Memᴰ as In}
 use Prim.Native.Nat.{ℕ, _+_, _/_, _≤_}

@@ -1,8 +1,8 @@
--- When a list is trusted: three demands, each a record over what the calls promise and over no method. `Demand1`: what is turned away, and
--- that nothing is then written. `Demand2`: what is listed and what is prepared is true. `Demand3`: pages joined are the whole list, and
--- quick pages hold the same. That all three hold is `proofs/Demands`. The calls are the three on which the others rest; `docs/CONTRACTS.md`
--- has them all. That every call ends is no field: the check proves of every function that it is safe and ends, and no public call has a
--- `requires`. Assumes nothing.
+-- When a list is trusted: three demands, each a record over what the calls promise and over no method. `Demand1`: what is
+-- turned away, and that nothing is then written. `Demand2`: what is listed and what is prepared is true. `Demand3`: pages
+-- joined are the whole list, and quick pages hold the same. That all three hold is `proofs/Demands`. The calls are the three on
+-- which the others rest; `docs/CONTRACTS.md` has them all. That every call ends is no field: the check proves of every function
+-- that it is safe and ends, and no public call has a `requires`. Assumes nothing.
 use mathlib.Core.Path.{_≡_}
 use mathlib.Core.Logic.{_↔_}
 use mathlib.Core.List.{List, [], _∷_, _++_, map, List·Memᴰ as In}
@@ -44,9 +44,9 @@ use Rattle.search.specs.WholeList.{mostLooks}
 -- ---- demand 1: every call has an answer to all that it may be given. What is bad gets its refusal and its place, exactly on its row, and then
 -- no buffer is written that is lent for writing
 
--- a call that is judged by these rows, which have these numbers in this order (rows 1 to 3, 6 and 7 are in `score/specs/Refusals`, the others in
--- `asking/specs/Refusals`). `Refuses r` says that its answer is refusal r, `Accepts` that it is none, and `Untouched` that the buffers that it may
--- write are what they were
+-- a call that is judged by these rows, which have these numbers in this order (rows 1 to 3, 6 and 7 are in
+-- `score/specs/Refusals`, the others in `asking/specs/Refusals`). `Refuses r` says that its answer is refusal r, `Accepts` that
+-- it is none, and `Untouched` that the buffers that it may write are what they were
 pub record TurnsAway (numbers : List ℕ) (rows : List Row) (Refuses : Refusal → Type 0) (Accepts Untouched : Type 0) : Type 0 where
   pub order : map (λ (row : Row). row .given .number) rows ≡ numbers
   -- number k and place p are given exactly where row k is the first that applies, and p is the place that it names
@@ -77,7 +77,8 @@ pub record Demand1 : Type 0 where
 -- ---- demand 2: what is listed stands by the published definition, whatever sets were lent; and what is prepared is, for each two neighbouring
 -- columns, exactly the intervals between them with octaves ignored
 
--- entry k, from 1, belongs to columns k and k + 1: its bit d, 0 to 11, is 0 exactly where they have pitches d apart; all its other bits are 0
+-- entry k, from 1, belongs to columns k and k + 1: its bit d, 0 to 11, is 0 exactly where they have pitches d apart; all its
+-- other bits are 0
 pub record IntervalsOf (score : List (List ℕ)) (sets : List ℕ) : Type 0 where
   pub one-less : length sets ≡ length score - 1
   pub each : (k : ℕ) → 1 ≤ k → k < length score → (d : Interval) → d .0 < 12
@@ -96,15 +97,15 @@ pub record Demand2 : Type 0 where
   pub prepared : (cells : List ℕ) (h : ℕ) (lent : List ℕ) {after : List ℕ} → Prepares cells h lent Prepared after → IntervalsOf (scoreOf cells h) after
 
 -- ---- demand 3: whoever reads plain pages from the first bookmark on, and asks again with each bookmark that comes back until a page is finished,
--- has read every pair that stands, once and in order, in each of the three ways; quick pages by the score's own sets hold the same pairs, bookmarks and ends, with no
--- more looks; a list of L pairs takes L / r + 1 pages
+-- has read every pair that stands, once and in order, in each of the three ways; quick pages by the score's own sets hold the
+-- same pairs, bookmarks and ends, with no more looks; a list of L pairs takes L / r + 1 pages
 
 -- no row of a score and a theme applies (1 to 5)
 abbrev pub RightRequest : (cells : List ℕ) (h : ℕ) (theme : List ℕ) → Type 0
 RightRequest cells h theme = verdict (requestRows mostNotes cells h theme) ≡ Passed
 
--- any call that promises what a plain or a quick call does, at every bookmark and for whatever buffers it is lent. A quick call is lent these
--- sets, and at each call any table of 4,096 places
+-- any call that promises what a plain or a quick call does, at every bookmark and for whatever buffers it is lent. A quick call
+-- is lent these sets, and at each call any table of 4,096 places
 abbrev pub PlainCall : (cells : List ℕ) (h : ℕ) (theme : List ℕ) → AnyWay → (Bookmark → Lent → Leaf) → Type 0
 PlainCall cells h theme way call = (b : Bookmark) (buffers : Lent) → PlainPages cells h theme way b buffers (call b buffers .answer) (call b buffers .buffers)
 
@@ -115,8 +116,9 @@ pub record QuickCall (cells : List ℕ) (h : ℕ) (theme : List ℕ) (way : Way)
   pub promises : (b : Bookmark) (buffers : Lent)
       → QuickPages cells h theme way b sets (table b buffers) buffers (call b buffers .answer) (table′ b buffers) (call b buffers .buffers)
 
--- with room r and from the first bookmark: whatever buffers are lent there is a reading; and of every reading the pages, joined, hold exactly the
--- pairs that stand, each once and in order; there are L / r + 1 of them; and their looks are within the bound
+-- with room r and from the first bookmark: whatever buffers are lent there is a reading; and of every reading the pages,
+-- joined, hold exactly the pairs that stand, each once and in order; there are L / r + 1 of them; and their looks are within
+-- the bound
 pub record ListsAll (cells : List ℕ) (h : ℕ) (theme : List ℕ) (way : AnyWay) (r : ℕ) (call : Bookmark → Lent → Leaf) : Type 0 where
   pub read : (supply : ℕ → Lent) → ((i : ℕ) → Room r (supply i)) → Read supply call r 0 (firstBookmark (rangeAs way))
   pub exactly : {pages : List (List Pair)} {turns : List Turn} → Reading call r (firstBookmark (rangeAs way)) pages turns

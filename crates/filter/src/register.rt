@@ -1,4 +1,4 @@
-// The filter register: one word more at each column, and whether a candidate is marked.
+// The register: one word more at each column, and whether a column is marked.
 
 use crate::limits::WORD_BITS;
 ghost use mathlib.Core.Path.{_≡_};
@@ -15,8 +15,8 @@ pub fn step(register: u32, word: u32) -> u32
     std::num::wrapping_add_u32(register, register) | word
 }
 
-// Whether the register marks a candidate: its bit `top`, which is m - 2 for a theme of m notes, is zero. Its bits go round:
-// bit 32 is bit 0.
+// Whether the register marks a column: its bit `top` is zero. For candidates of a theme of m notes that is bit m - 2, for the tune
+// as it is written bit m - 1. Bits go round: bit 32 is bit 0.
 pub fn marks(register: u32, top: u32) -> bool
     ensures { λ r. ⌜ r ≡ eqb (bit register (top % wordBits)) 0 ⌝ }
 {

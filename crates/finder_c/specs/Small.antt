@@ -1,5 +1,5 @@
--- What makes an answer's numbers fit 64 bits: a refused place is below 65,536, and the pairs of a page are a number of 32 bits. Asked
--- by inner functions only; that every answer of the finder is so is a law of this crate. Assumes nothing.
+-- What makes an answer's numbers fit 64 bits: a refused place is below 65,536, and the pairs of a page are a number of 32 bits.
+-- Asked by inner functions only; that every answer of the finder is so is a law of this crate. Assumes nothing.
 use Prim.Native.Nat.{_^_, _<_}
 use Rattle.score.specs.declared.refusals.Refusal.{Refusal}
 use Rattle.preparing.specs.declared.sets.Preparation.{Preparation}

@@ -25,8 +25,9 @@ pub extern "C" fn finder_prepare(cells: &[u8], tracks: usize, sets: &mut [u16]) 
     told_preparation(prepare(cells, tracks, sets))
 }
 
-// A plain page of a way, 0 exact, 1 octave, 2 written, from the bookmark (column, shift): 0, and the five numbers of the page in `answer`. Otherwise the refusal,
-// 1 to 5, 9 or 10, as number + 256 * place; or 255 where `way` is no way or `answer` is not 5 long.
+// A plain page of a way, 0 exact, 1 octave, 2 written, from the bookmark (column, shift): 0, and the five numbers of the page
+// in `answer`. Otherwise the refusal, 1 to 5, 9 or 10, as number + 256 * place; or 255 where `way` is above 2 or `answer` is not
+// 5 long.
 #[no_mangle]
 pub extern "C" fn finder_plain_page(
     cells: &[u8],
@@ -61,7 +62,7 @@ pub extern "C" fn finder_plain_page(
 }
 
 // A quick page: the same of exact and octave, with the prepared sets of the score; the theme's table is left in `table`.
-// Refuses 1 to 10.
+// Refuses 1 to 10; way 2 gives 255.
 #[no_mangle]
 pub extern "C" fn finder_quick_page(
     cells: &[u8],

@@ -1,6 +1,6 @@
 -- What lies behind the first 143,503 bytes of an input changes nothing of its meaning or of the output (`meaning-behind`,
--- `output-behind`): a theme line has at most 141 bytes and a chord line at most 70, and what is read of a line does not depend on
--- what lies behind it. Assumes nothing.
+-- `output-behind`): a theme line has at most 142 bytes and a chord line at most 70, and what is read of a line does not depend
+-- on what lies behind it. Assumes nothing.
 use mathlib.Core.Path.{_≡_, refl, sym, ap, _∙_}
 use mathlib.Core.Logic.{_⊎_, inl, ⊎-elim}
 use mathlib.Core.Bool.{cond}
@@ -40,8 +40,8 @@ notes-cells : (notes : List ℕ) → Each IsNote notes → Each IsCell notes
 notes-cells [] h = h
 notes-cells (p ∷ notes) h = (inl (h .0), notes-cells notes (h .1))
 
--- with their line feeds a right chord line has at most 70 bytes and a right theme line 142, so that one of over 160 before it is
--- faulty: `long-faulty` of `reading/proofs/LineLengths` says so of the lines of an input
+-- with their line feeds a right chord line has at most 70 bytes and a right theme line 142, so that one of over 160 before it
+-- is faulty: `long-faulty` of `reading/proofs/LineLengths` says so of the lines of an input
 pub chord-length : (column : List ℕ) → length column ≤ mostTracks → Each IsCell column → length (chordText column) ≤ 70
 chord-length column l h = omega (arith, length-append chordWord (fieldsText column), fields-length column h)
 

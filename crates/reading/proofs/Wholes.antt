@@ -1,5 +1,5 @@
--- From the lines that were read to the meaning of the whole input. What was read stands for the theme line (`ThemeGot`), and for
--- all chord lines (`ScoreGot`) or a faulty one (`FaultGot`). Assumes nothing.
+-- From the lines that were read to the meaning of the whole input. What was read stands for the theme line (`ThemeGot`), and
+-- for all chord lines (`ScoreGot`) or a faulty one (`FaultGot`). Assumes nothing.
 use mathlib.Core.Path.{_≡_, refl, sym, ap, _∙_}
 use mathlib.Core.List.{List}
 use Prim.Native.Nat.{ℕ, zero, suc, _+_, _≤_}

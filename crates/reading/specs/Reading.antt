@@ -44,7 +44,8 @@ fields rests (suc left) text =
 abbrev pub counted : (allowed : ℕ → Bool) → Read (List ℕ) → Read (List ℕ)
 counted allowed r = next r (λ values rest. cond (allowed (length values)) (got values rest) bad)
 
--- a chord: a cell or more, and 16 at most, which its reading sees to; as many as those before it have, which is h, or 0 where it is the first
+-- a chord: a cell or more, and 16 at most, which its reading sees to; as many as those before it have, which is h, or 0 where
+-- it is the first
 abbrev pub tracksRight : (h : ℕ) → ℕ → Bool
 tracksRight h k = leb 1 k && (eqb h 0 || eqb k h)
 

@@ -15,8 +15,8 @@ ghost use Rattle.asking.specs.Limits.{mostNotes};
 ghost use Rattle.reading.specs.Taking.{Takes};
 ghost use Rattle.reading.specs.Steps.{heldNotes, heldCells, Held, Copied};
 
-// A right input: its way, how many notes stand in the one buffer, and how many tracks and columns in the other; or the number of
-// its first faulty line; or a buffer is too short for some inputs. Only a right input is written into the buffers.
+// A right input: its way, how many notes stand in the one buffer, and how many tracks and columns in the other; or the number
+// of its first faulty line; or a buffer is too short for some inputs. Only a right input is written into the buffers.
 pub enum Reading {
     Right {
         way: AnyWay,
@@ -30,9 +30,9 @@ pub enum Reading {
     Short,
 }
 
-// Reads the notes to the front of a buffer of 32 bytes or more and the cells, column after column, to the front of one of 32,768
-// or more. Places behind them keep their contents, and all places do where a line is faulty. No input needs more room; where a
-// buffer is shorter, the call is turned away.
+// Reads the notes to the front of a buffer of 32 bytes or more and the cells, column after column, to the front of one of
+// 32,768 or more. Places behind them keep their contents, and all places do where a line is faulty. No input needs more room;
+// where a buffer is shorter, the call is turned away.
 pub fn read(input: &[u8], theme: &mut [u8], cells: &mut [u8]) -> Reading
     ensures { λ r. ⌜ Takes (now (input .entry)) (now (theme .entry)) (now (cells .entry)) r (now (theme .exit)) (now (cells .exit)) ⌝ }
 {

@@ -1,5 +1,5 @@
--- All ways: the list of the plain call holds exactly the pairs that stand, in order. Of the ways that move the theme that is `Listed`; the pairs of the tune
--- as it is written are the exact pairs with shift 0. Assumes nothing.
+-- All ways: the list of the plain call holds exactly the pairs that stand, in order. Of the ways that move the theme that is
+-- `Listed`; the pairs of the tune as it is written are the exact pairs with shift 0. Assumes nothing.
 use mathlib.Core.Path.{_≡_, sym, ap, _∙_}
 use mathlib.Core.Bool.{true}
 use mathlib.Core.List.{List, [], List·Memᴰ as In}

@@ -1,7 +1,7 @@
--- Laws of this crate's definitions. Places: `Notes` (all notes). The list: `Listed`, `AllWays`. Candidates: `Filtered`. The worked cases:
--- `Worked`. The calls: `PlainCall`, `QuickCall`. The two searches, for the laws of `paging`: `Searches`; quick and plain
--- compared: `Quicker`; what a walk has found is what a page shows: `Reached`; which starts it goes
--- through: `FromBookmarks`. Each contract settles its call: `Unique`. What all this comes to: `WholeLists`, `Truths`.
+-- Laws of this crate's definitions. Places: `Notes` (all notes). The list: `Listed`, `AllWays`. Candidates: `Filtered`. The
+-- worked cases: `Worked`. The calls: `PlainCall`, `QuickCall`. The two searches, for the laws of `paging`: `Searches`; quick
+-- and plain compared: `Quicker`; what a walk has found is what a page shows: `Reached`; which starts it goes through:
+-- `FromBookmarks`. Each contract settles its call: `Unique`. What all this comes to: `WholeLists`, `Truths`.
 pub mod Notes
 pub mod Listed
 pub mod AllWays

@@ -1,5 +1,6 @@
--- A plain call: it turns a page exactly where it is asked right, otherwise gives exactly the first refusal that applies and writes nothing; and
--- its contract leaves one answer. All by the laws of `paging`, at the rows of a plain call. Assumes nothing.
+-- A plain call: it turns a page exactly where it is asked right, otherwise gives exactly the first refusal that applies and
+-- writes nothing; and its contract leaves one answer. All by the laws of `paging`, at the rows of a plain call. Assumes
+-- nothing.
 use mathlib.Core.Path.{_≡_, refl}
 use mathlib.Core.Bool.{true, false}
 use mathlib.Core.Logic.{_↔_}

@@ -1,5 +1,5 @@
--- With the score's own sets a quick page is the plain page from the same bookmark, with no more looks: `quick-same`. The idea: what the
--- candidates leave out is no hit. Assumes nothing.
+-- With the score's own sets a quick page is the plain page from the same bookmark, with no more looks: `quick-same`. The idea:
+-- what the candidates leave out is no hit. Assumes nothing.
 use mathlib.Core.Path.{_≡_, sym, ap, _∙_}
 use mathlib.Core.Bool.{Bool, true}
 use mathlib.Core.List.{List, _++_, map, List·Memᴰ as In}

@@ -1,5 +1,5 @@
--- The plain and the quick searches are right searches, and their calls turn the pages of them: all that `paging` asks. The quick search leaves
--- out starts of the plain one. Assumes nothing.
+-- The plain and the quick searches are right searches, and their calls turn the pages of them: all that `paging` asks. The
+-- quick search leaves out starts of the plain one. Assumes nothing.
 use mathlib.Core.Path.{_≡_, refl, sym, ap, _∙_, subst}
 use mathlib.Core.Bool.{Bool}
 use mathlib.Core.List.{List, List·Memᴰ as In}

@@ -1,6 +1,7 @@
 -- Demand 2, and what joins it to the calls: every pair that a page writes stands by the published definition, plain and quick,
--- whatever sets were lent. Looks: an answer's looks are at most the bound. Then sentences that follow from the definition: a theme longer than the score has no
--- pairs, no pair passes over a column of rests, and a finished bookmark gives an empty finished page. Assumes nothing.
+-- whatever sets were lent. Looks: an answer's looks are at most the bound. Then sentences that follow from the definition: a
+-- theme longer than the score has no pairs, no pair passes over a column of rests, and a finished bookmark gives an empty
+-- finished page. Assumes nothing.
 use mathlib.Core.Path.{_≡_, sym, ap, _∙_, subst}
 use mathlib.Core.Bool.{true}
 use mathlib.Core.List.{List, [], _∷_, List·Memᴰ as In, List·Memᴰ·head as at-head, List·Memᴰ·tail as in-tail, List·Memᴰ·not-nil as not-nil}

@@ -1,21 +1,18 @@
--- The theorems about whole lists and whole calls, on which the three demands rest (`demands/specs/Demands`): calls are total and refuse exactly
--- as the table says; what is listed is true; everything true is listed, once and in order, page by page.
+-- The theorems about whole lists and whole calls, on which the three demands rest (`demands/specs/Demands`): calls are total
+-- and refuse exactly as the table says; what is listed is true; everything true is listed, once and in order, page by page.
 --
 -- What is turned away (demand 1), in `PlainCall` and `QuickCall`: a call turns a page exactly where it is asked right
--- (`plain-turned`, `quick-turned`); otherwise it gives exactly the first refusal of its rows that applies, with its number
--- and place (`plain-refused`, `quick-refused`), and nothing lent is written (`plain-kept`, `quick-kept`). `Rows` has the
--- rows as plain facts (3, 5 and 7 are plain themselves). The contracts leave one answer and one state of the buffers (`plain-unique`, `quick-unique`). An
--- accepted quick call leaves the theme's table (`quick-fills`).
--- One page, here: `plain-page` and `quick-page`, the first r pairs at or after the bookmark, what stays behind them, and
--- where it goes on.
--- What is listed (demand 3), here: `plain-lists` and `quick-lists`, page after page from the first bookmark, at any room
--- and whatever the buffers held; `own-lists` with the score's own sets. That the list holds exactly the pairs of the
--- definition, in order and each once, is `Listed`.
--- What is listed is true (demand 2): `plain-true` and `quick-true` of `Truths`.
--- Looks, here: those of a whole list and of a page are at most `mostLooks` (`all-looks-le` and `candidate-looks-le`,
--- `plain-page-le`, `quick-page-le`; of an answer, `plain-looks-le` and `quick-looks-le` of `Truths`), which fits 32 bits
--- (`most-fits`); `quick-same` of `Quicker` says that with the score's
--- own sets a quick page is the plain page with no more looks. Assumes nothing.
+-- (`plain-turned`, `quick-turned`); otherwise it gives exactly the first refusal of its rows that applies, with its number and
+-- place (`plain-refused`, `quick-refused`), and nothing lent is written (`plain-kept`, `quick-kept`). `Rows` has the rows as
+-- plain facts (3, 5 and 7 are plain themselves). The contracts leave one answer and one state of the buffers (`plain-unique`,
+-- `quick-unique`). An accepted quick call leaves the theme's table (`quick-fills`). One page, here: `plain-page` and
+-- `quick-page`, the first r pairs at or after the bookmark, what stays behind them, and where it goes on. What is listed
+-- (demand 3), here: `plain-lists` and `quick-lists`, page after page from the first bookmark, at any room and whatever the
+-- buffers held; `own-lists` with the score's own sets. That the list holds exactly the pairs of the definition, in order and
+-- each once, is `Listed`. What is listed is true (demand 2): `plain-true` and `quick-true` of `Truths`. Looks, here: those of a
+-- whole list and of a page are at most `mostLooks` (`all-looks-le` and `candidate-looks-le`, `plain-page-le`, `quick-page-le`;
+-- of an answer, `plain-looks-le` and `quick-looks-le` of `Truths`), which fits 32 bits (`most-fits`); `quick-same` of `Quicker`
+-- says that with the score's own sets a quick page is the plain page with no more looks. Assumes nothing.
 use mathlib.Core.Path.{_≡_, refl, sym, ap, _∙_, subst}
 use mathlib.Core.List.{List}
 use Prim.Native.Nat.{ℕ, _+_, _-_, _*_, _^_, _≤_, _<_}

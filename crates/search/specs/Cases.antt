@@ -335,4 +335,17 @@ cases =
           ∷ [];
       quick = [];
     }
+    -- one track 60, rest, 62; theme 60 62 as it is written: no pair
+    ∷ record {
+      cells = 60 ∷ 255 ∷ 62 ∷ [];
+      tracks = 1;
+      theme = 60 ∷ 62 ∷ [];
+      way = Written;
+      room = 9;
+      sets = 4095 ∷ 4095 ∷ [];
+      candidates = [];
+      pages = page [] (mark 4 (pos 0)) true 0
+          ∷ [];
+      quick = [];
+    }
     ∷ []

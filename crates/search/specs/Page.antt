@@ -1,5 +1,5 @@
--- The whole answer of a page call, and what every lent buffer holds afterwards: `plainPage`, `quickPage` and `quickTable`. A refused call
--- writes nothing. Assumes nothing.
+-- The whole answer of a page call, and what every lent buffer holds afterwards: `plainPage`, `quickPage` and `quickTable`. A
+-- refused call writes nothing. Assumes nothing.
 use mathlib.Core.Path.{_≡_}
 use mathlib.Core.List.{List}
 use Prim.Native.Nat.{ℕ}

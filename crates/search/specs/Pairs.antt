@@ -1,5 +1,5 @@
--- The searches, plain and quick, and the list of all pairs, by rising column and then rising shift. That the list holds exactly the pairs
--- of `Definition`, each once and in order, is proved (`proofs/Listed`). Assumes nothing.
+-- The searches, plain and quick, and the list of all pairs, by rising column and then rising shift. That the list holds exactly
+-- the pairs of `Definition`, each once and in order, is proved (`proofs/Listed`). Assumes nothing.
 use mathlib.Core.List.{List}
 use Prim.Native.Nat.{ℕ}
 use lib.ListN.{length}
@@ -30,7 +30,8 @@ plainSearch way score theme =
       shown = pairAt way;
     }
 
--- the quick search reaches those at the columns that a table and sets make candidates: words of any width, any table and any sets
+-- the quick search reaches those at the columns that a table and sets make candidates: words of any width, any table and any
+-- sets
 abbrev pub quickSearch : (w : ℕ) → Way → (score : List (List ℕ)) (theme table sets : List ℕ) → Search Place
 quickSearch w way score theme table sets = only (λ s. candidate w table sets (length theme) (s .column)) (plainSearch way score theme)
 
@@ -45,11 +46,12 @@ abbrev pub StartAs : AnyWay → Type 0
 StartAs (Moved way) = Place
 StartAs Written = ℕ
 
--- the search of the plain call: through the score's columns, with the way's shifts
+-- the search of each way
 abbrev byWay : (way : AnyWay) (score : List (List ℕ)) (theme : List ℕ) → Search (StartAs way)
 byWay (Moved way) score theme = plainSearch way score theme
 byWay Written score theme = writtenSearch score theme
 
+-- the search of the plain call: that of the way, with the score's columns and the way's range said for all ways alike
 abbrev pub searchAs : (way : AnyWay) (score : List (List ℕ)) (theme : List ℕ) → Search (StartAs way)
 searchAs way score theme =
     let S = byWay way score theme in

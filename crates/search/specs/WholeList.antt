@@ -1,5 +1,5 @@
--- What the theorems about whole calls name: the looks of a whole list and their bound, and the pairs at candidates. The theorems are in
--- `proofs/WholeLists`. Assumes nothing.
+-- What the theorems about whole calls name: the looks of a whole list and their bound, and the pairs at candidates. The
+-- theorems are in `proofs/WholeLists`. Assumes nothing.
 use mathlib.Core.List.{List}
 use Prim.Native.Nat.{ℕ, _+_, _-_, _*_}
 use lib.ListN.{length}

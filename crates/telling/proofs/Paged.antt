@@ -1,5 +1,5 @@
--- One page more of a search that is written out, and the end of it: the lines of its pairs follow those so far, and all of them have room.
--- Which pairs and looks they are is a law of `paging` (`UnderWay`). Assumes nothing.
+-- One page more of a search that is written out, and the end of it: the lines of its pairs follow those so far, and all of them
+-- have room. Which pairs and looks they are is a law of `paging` (`UnderWay`). Assumes nothing.
 use mathlib.Core.Path.{_≡_, sym, ap, _∙_, subst}
 use mathlib.Core.Bool.{Bool, true, false, not}
 use mathlib.Core.List.{List, _++_, map}

@@ -1,5 +1,5 @@
--- The calls' promise, from what was checked and written; and it leaves one answer and one state of the buffer (`tells-unique`). A
--- search is refused exactly where it is not accepted (`search-accepted`), by the first of the rows 1 to 5 that applies
+-- The calls' promise, from what was checked and written; and it leaves one answer and one state of the buffer (`tells-unique`).
+-- A search is refused exactly where it is not accepted (`search-accepted`), by the first of the rows 1 to 5 that applies
 -- (`search-refused`); where nothing is told, nothing is written (`search-kept`). Assumes nothing.
 use mathlib.Core.Path.{_≡_, refl, sym, ap, _∙_}
 use mathlib.Core.Bool.{Bool, true, false, cond}

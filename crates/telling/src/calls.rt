@@ -18,9 +18,9 @@ pub enum Telling {
     Short,
 }
 
-// Writes the lines of all pairs of a search, the quick way, or plainly as the tune is written, and the line behind them, from the front of a buffer of 458,546
-// bytes or more, and keeps what stands behind them. No search needs more room. Refuses 1 to 5, before a shorter buffer is
-// turned away.
+// Writes the lines of all pairs of a search, the quick way, or plainly as the tune is written, and the line behind them, from
+// the front of a buffer of 458,546 bytes or more, and keeps what stands behind them. No search needs more room. Refuses 1 to 5,
+// before a shorter buffer is turned away.
 pub fn tell(cells: &[u8], tracks: usize, theme: &[u8], way: AnyWay, out: &mut [u8]) -> Telling
     ensures { λ r. ⌜ Tells (searchTold (now (cells .entry)) tracks (now (theme .entry)) way (now (out .entry))) r (now (out .exit)) ⌝ }
 {

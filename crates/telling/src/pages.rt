@@ -60,7 +60,7 @@ fn page_of(
     }
 }
 
-// All pages by the score's own sets, with room for some pairs in the two buffers, into the output from its front.
+// All pages, the quick ones by the score's own sets, with room for some pairs in the two buffers, into the output from its front.
 fn pages(
     cells: &[u8],
     tracks: usize,

@@ -1,4 +1,4 @@
--- The register of w bits that a filter runs: over any width, and any words. Assumes nothing.
+-- The register of w bits, over any width and any words. Assumes nothing.
 use Prim.Native.Nat.{ℕ, zero, suc, _+_, _-_, _%_, _^_}
 use lib.Bits.{bitOr}
 

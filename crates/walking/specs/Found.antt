@@ -42,8 +42,8 @@ module _ (way : Way) (score : List (List ℕ)) (theme : List ℕ) (reached : Lis
   abbrev pub walked : Walk
   walked = Done (record { found = length found; looks = spent })
 
--- what a walk promises that is judged by these rows: where one applies it is refused, and writes nothing; otherwise it writes what it
--- finds from the front, and places behind keep their contents
+-- what a walk promises that is judged by these rows: where one applies it is refused, and writes nothing; otherwise it writes
+-- what it finds from the front, and places behind keep their contents
 module _ (rows : List Row) (way : Way) (score : List (List ℕ)) (theme : List ℕ) (reached : List Place) (b : Bookmark) (columns : List ℕ) (shifts : List ℤ) where
   pub record Finds (answer : Walk) (columns′ : List ℕ) (shifts′ : List ℤ) : Type 0 where
     pub answers : answer ≡ judge rows Refused (walked way score theme reached b columns shifts)

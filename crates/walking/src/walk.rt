@@ -135,8 +135,8 @@ pub fn walk_every(
     }
 }
 
-// The same along candidates. The register begins anew at the bookmark's column. No more candidates are listed at a time than there is
-// room for pairs.
+// The same along candidates. The register begins anew at the bookmark's column. No more candidates are listed at a time than
+// there is room for pairs.
 pub fn walk_candidates(
     cells: &[u8],
     h: usize,

@@ -11,7 +11,7 @@ use Rattle.ways.specs.declared.bookmark.Pair.{Pair}
 use Rattle.ways.specs.declared.bookmark.Bookmark.{Bookmark}
 use Rattle.ways.specs.Way.{Range, codeOf}
 
--- (1, lowest shift): (1, -127), or (1, 0) for octave
+-- (1, lowest shift): (1, -127), or (1, 0) for octave and written
 abbrev pub firstBookmark : Range → Bookmark
 firstBookmark range = record { column = columnAt 1; shift = range .lowest }
 

@@ -1,5 +1,5 @@
--- Codes of every shift and shifts of every code that 16 bits hold: what `code_of` and `shift_of` give. For what a bookmark may have
--- they are `codeOf` and `shiftOf` of `Way`. Assumes nothing.
+-- Codes of every shift and shifts of every code that 16 bits hold: what `code_of` and `shift_of` give. For what a bookmark may
+-- have they are `codeOf` and `shiftOf` of `Way`. Assumes nothing.
 use mathlib.Core.Bool.{Bool, cond, _||_}
 use Prim.Native.Nat.{ℕ}
 use lib.Dec.{leb}

@@ -1,4 +1,4 @@
--- The two ways of matching: the shifts of each, and when a column holds a note moved by a shift. `Holds` is the published
+-- The ways of matching: the shifts of each, of the two that move the theme and of written, and when a column holds a note moved by a shift. `Holds` is the published
 -- definition; `holds` computes it from the shift's code, which counts from the way's lowest shift. Assumes nothing.
 use mathlib.Core.Path.{_≡_}
 use mathlib.Core.Bool.{Bool}
@@ -42,7 +42,8 @@ abbrev pub highest : Way → ℤ
 highest Exact = pos 127
 highest Octave = pos 11
 
--- the shifts that the pairs of a search may have. A bookmark may have one more: one above the highest means `from the next column on`
+-- the shifts that the pairs of a search may have. A bookmark may have one more: one above the highest means `from the next
+-- column on`
 pub record Range : Type 0 where
   pub lowest : ℤ
   pub highest : ℤ

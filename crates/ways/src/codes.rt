@@ -1,5 +1,5 @@
-// The shifts of a way, which may be below zero, and their codes, which count from the lowest. No other module of a search knows a
-// shift's sign.
+// The shifts of a way, which may be below zero, and their codes, which count from the lowest. No other module of a search that
+// moves the theme knows a shift's sign.
 
 use crate::limits::EXACT_LOWEST;
 use crate::limits::EXACT_PAST;

@@ -1,7 +1,7 @@
 // Ways of matching, their shifts, and where a search goes on.
 //
-// A `way` is how notes are matched; `limits` names its shifts, and `codes` are the shifts counted from its lowest. A found place is a pair, and a
-// `bookmark` the first pair to consider.
+// A `way` is how notes are matched; `limits` names its shifts, and `codes` are the shifts counted from its lowest. A found
+// place is a pair, and a `bookmark` the first pair to consider.
 
 pub mod bookmark;
 mod codes;

@@ -1,5 +1,5 @@
--- The theme's word for cells: its bits, the word of no cells, and of one cell more. Then the look-up of every byte's word while it is made: the first
--- i notes of the theme have each taken their bit from the word of their pitch. Assumes nothing.
+-- The theme's word for cells: its bits, the word of no cells, and of one cell more. Then the look-up of every byte's word while
+-- it is made: the first i notes of the theme have each taken their bit from the word of their pitch. Assumes nothing.
 use mathlib.Core.Path.{_≡_, refl, sym, ap, _∙_}
 use mathlib.Core.Bool.{Bool, true, false, cond, _&&_, _||_}
 use mathlib.Core.List.{List, [], _∷_, _++_}

@@ -1,5 +1,5 @@
--- The search of the tune as it is written is a right search: its columns show pairs in order, each of the score and with shift 0. And where a column is
--- listed, each note is a pitch of its column (`listed-each`, `each-listed`). Assumes nothing.
+-- The search of the tune as it is written is a right search: its columns show pairs in order, each of the score and with shift
+-- 0. And where a column is listed, each note is a pitch of its column (`listed-each`, `each-listed`). Assumes nothing.
 use mathlib.Core.Path.{_≡_, refl, sym, ap, subst}
 use mathlib.Core.Bool.{true}
 use mathlib.Core.Logic.{inl}

@@ -1,6 +1,7 @@
--- A walk along the columns lists where the theme stands. After the columns before k, counted from 0, it has decided the starts of which the last note
--- stands before k, and listed those at which the theme stands (`Along`). One column more decides one start more, or none yet (`along-hit`,
--- `along-miss`); and where the columns end, or the room, the page is listed (`along-end`). Assumes nothing.
+-- A walk along the columns lists where the theme stands. After the columns before k, counted from 0, it has decided the starts
+-- of which the last note stands before k, and listed those at which the theme stands (`Along`). One column more decides one
+-- start more, or none yet (`along-hit`, `along-miss`); and where the columns end, or the room, the page is listed
+-- (`along-end`). Assumes nothing.
 use mathlib.Core.Path.{_≡_, refl, sym, ap, _∙_, subst}
 use mathlib.Core.Bool.{Bool, true, false, cond, _&&_}
 use mathlib.Core.Logic.{_↔_}

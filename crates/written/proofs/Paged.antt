@@ -1,5 +1,5 @@
--- From the walk to the page: what is accepted is what the walk asks for, the starts that the search has left from a bookmark on are the columns behind
--- those passed, and the answer that is read off the buffers is the page's. Assumes nothing.
+-- From the walk to the page: what is accepted is what the walk asks for, the starts that the search has left from a bookmark on
+-- are the columns behind those passed, and the answer that is read off the buffers is the page's. Assumes nothing.
 use mathlib.Core.Path.{_≡_, refl, sym, ap, _∙_}
 use mathlib.Core.Bool.{Bool, true, false, cond, not, _&&_, _||_}
 use mathlib.Core.List.{List, [], _∷_, _++_, map}

@@ -1,5 +1,5 @@
--- Where the theme stands: each of its notes is among the cells of its column (`stands-each`, `each-stands`), and that is where the words of the columns
--- have zeros on a diagonal (`diagonal-stands`). So the register's bit m - 1 says it. Assumes nothing.
+-- Where the theme stands: each of its notes is among the cells of its column (`stands-each`, `each-stands`), and that is where
+-- the words of the columns have zeros on a diagonal (`diagonal-stands`). So the register's bit m - 1 says it. Assumes nothing.
 use mathlib.Core.Path.{_≡_, refl, sym, ap, _∙_}
 use mathlib.Core.Bool.{Bool, true, false, cond, false≢true}
 use mathlib.Core.Logic.{_↔_}

@@ -1,5 +1,5 @@
--- The public call's contract settles it, over what the `ensures` in the source says: answer and buffers are settled by the laws of pages. Assumes
--- nothing.
+-- The public call's contract settles it, over what the `ensures` in the source says: answer and buffers are settled by the laws
+-- of pages. Assumes nothing.
 use mathlib.Core.Path.{refl}
 use Rattle.theory.specs.Settled.{Settles}
 use Rattle.theory.proofs.Unique.{_beside_}

@@ -1,4 +1,5 @@
--- What the walk asks for and leaves: the columns at which the theme stands, from one on, as many as there is room for. Assumes nothing.
+-- What the walk asks for and leaves: the columns at which the theme stands, from one on, as many as there is room for. Assumes
+-- nothing.
 use mathlib.Core.Path.{_≡_}
 use mathlib.Core.Bool.{cond}
 use mathlib.Core.List.{List, map}

@@ -1,4 +1,5 @@
--- What the inner functions of the words promise: the theme's word for some cells, and a look-up that has it for each byte. Assumes nothing.
+-- What the inner functions of the words promise: the theme's word for some cells, and a look-up that has it for each byte.
+-- Assumes nothing.
 use mathlib.Core.Path.{_≡_}
 use mathlib.Core.Bool.{cond, _&&_}
 use mathlib.Core.List.{List, [], _∷_}

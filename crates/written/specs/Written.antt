@@ -1,6 +1,6 @@
--- The tune in its own key: a theme stands at a column as it is written where each of its notes is a pitch of its own column. The definition that
--- matters is `standsAt`; that these are the exact pairs with shift 0 is proved (in `search`). The page call promises `WrittenPages`. Assumes
--- nothing.
+-- The tune in its own key: a theme stands at a column as it is written where each of its notes is a pitch of its own column.
+-- The definition that matters is `standsAt`; that these are the exact pairs with shift 0 is proved (in `search`). The page call
+-- promises `WrittenPages`. Assumes nothing.
 use mathlib.Core.Bool.{Bool, true, false, cond}
 use mathlib.Core.List.{List, [], _∷_}
 use Prim.Native.Nat.{ℕ, _+_, _-_}
@@ -31,7 +31,8 @@ sounds (p ∷ notes) columns = cond (has (getD columns 0 []) p) (sounds notes (d
 unfoldable pub standsAt : (score : List (List ℕ)) (theme : List ℕ) (j : ℕ) → Bool
 standsAt score theme j = sounds theme (onward score (columnAt j))
 
--- the search reaches each column from which on the theme has room, 1 to n - m + 1; each shows the pair with shift 0, and none costs a look
+-- the search reaches each column from which on the theme has room, 1 to n - m + 1; each shows the pair with shift 0, and none
+-- costs a look
 abbrev pub writtenSearch : (score : List (List ℕ)) (theme : List ℕ) → Search ℕ
 writtenSearch score theme =
     record {

@@ -22,7 +22,8 @@ ghost use Rattle.paging.specs.Turning.{readTurn};
 ghost use Rattle.written.specs.Written.{WrittenPages};
 ghost use Rattle.written.specs.Walk.{passed, ListsFrom};
 
-// How many columns lie before the first pair to consider, at this column and shift or later: a shift above 0 means the next column.
+// How many columns lie before the first pair to consider, at this column and shift or later: a shift above 0 means the next
+// column.
 fn passed(column: Column, shift: i16) -> usize
     requires { ⌜ 1 ≤ column .0 ⌝ }
     ensures { λ r. ⌜ r ≡ passed (column .0) shift ⌝ }
@@ -34,7 +35,7 @@ fn passed(column: Column, shift: i16) -> usize
     j - 1
 }
 
-// Lists what a page from the bookmark on shows, and gives how many pairs that are.
+// Lists what a page from the bookmark on shows, and gives how many pairs it wrote.
 fn list(
     cells: &[u8],
     tracks: usize,
@@ -61,8 +62,8 @@ fn answer(n: usize, found: usize, columns: &[u16], shifts: &[i16]) -> Turn
     turned(end, found, 0, columns, shifts)
 }
 
-// The first pairs at or after the bookmark, as many as there is room for, written from the front; places behind them keep their
-// contents. Refuses 1 to 5, 9 and 10, and then writes nothing.
+// The first pairs at or after the bookmark, as many as there is room for, listed from the front of the buffers; what stands behind them
+// stays. Refuses 1 to 5, 9 and 10, and then writes nothing.
 pub fn written_page(
     cells: &[u8],
     tracks: usize,

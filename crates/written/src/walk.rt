@@ -14,7 +14,7 @@ ghost use Rattle.filter.specs.Limits.{wordBits};
 ghost use Rattle.written.specs.Words.{wordAt, Words};
 ghost use Rattle.written.specs.Walk.{Walkable, ListsFrom};
 
-// One column more, that after k others: the word of its cells.
+// The register after one column more, that after k others: it takes the word of its cells.
 fn taken(register: u32, cells: &[u8], h: usize, words: &[u32; BYTES], k: usize) -> u32
     requires { ⌜ k * h + h ≤ length (now cells) ⌝ }
     ensures { λ r. ⌜ ((theme : List ℕ) → Words theme (now (words .entry)) → r ≡ Register.step wordBits register (wordAt wordBits (now (cells .entry)) h theme k)) ⌝ }
@@ -24,8 +24,8 @@ fn taken(register: u32, cells: &[u8], h: usize, words: &[u32; BYTES], k: usize) 
     step(register, column_word(&cells[base..end], words))
 }
 
-// Goes along the columns behind the first `from` and writes, from the front, the number of each at which the theme stands, with the
-// shift 0, until there is no column left or no room. Gives how many it wrote.
+// Goes along the columns behind the first `from` and writes, from the front, the number of each at which the theme stands, with
+// the shift 0, until there is no column left or no room. Gives how many it wrote.
 pub fn list_from(
     cells: &[u8],
     h: usize,

@@ -1,6 +1,5 @@
 // The theme's words: one for each byte that a cell may be, and one for a column.
 
-use filter::WORD_BITS;
 ghost use mathlib.Core.Path.{_≡_};
 ghost use mathlib.Core.List.{List};
 ghost use Prim.Native.Nat.{ℕ, _≤_};
@@ -11,8 +10,8 @@ ghost use Rattle.written.specs.Words.{cellsWord, Words};
 // How many bytes there are: a look-up has a place for each.
 pub const BYTES: usize = 256;
 
-// The word of every byte: bit i is 0 where note i + 1 of the theme is that pitch, and all other bits are 1. A rest is no note, so
-// its word is all ones.
+// The word of every byte: bit i is 0 where note i + 1 of the theme is that pitch, and all other bits are 1. A rest is no note,
+// so its word is all ones.
 pub fn words_of(theme: &[u8]) -> [u32; BYTES]
     requires { ⌜ length (now theme) ≤ wordBits ⌝ }
     ensures { λ r. ⌜ Words (now (theme .entry)) r ⌝ }

@@ -1,5 +1,5 @@
--- From a walk to a page: a walk that is turned away is a page that is turned away, and the answer that is read off the buffers of one that is
--- done is the page's. Assumes nothing.
+-- From a walk to a page: a walk that is turned away is a page that is turned away, and the answer that is read off the buffers
+-- of one that is done is the page's. Assumes nothing.
 use mathlib.Core.Path.{_≡_, refl, sym, ap, _∙_}
 use mathlib.Core.List.{List, [], map}
 use Prim.Native.Nat.{ℕ, _≤_, _<_}

@@ -1,6 +1,7 @@
--- What both walks keep: of the page over `whole`, all starts that a walk goes along, those before a spot are tried, and the starts kept from
--- there on are left. Which columns are kept is any choice. Laws: start; of a turn, in which some columns are listed: asks (what trying them
--- asks for), bound and on (they are tried); over. Then where each walk begins, and what each lists. Assumes nothing.
+-- What both walks keep: of the page over `whole`, all starts that a walk goes along, those before a spot are tried, and the
+-- starts kept from there on are left. Which columns are kept is any choice. Laws: start; of a turn, in which some columns are
+-- listed: asks (what trying them asks for), bound and on (they are tried); over. Then where each walk begins, and what each
+-- lists. Assumes nothing.
 use mathlib.Core.Path.{_≡_, refl, sym, ap, _∙_, subst}
 use mathlib.Core.Bool.{Bool, true, false, cond, _&&_}
 use mathlib.Core.List.{List, _∷_, _++_}
