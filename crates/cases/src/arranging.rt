@@ -1,18 +1,18 @@
 // A job put into the lent buffers: its score, the sets of that score or of another one, its theme, and the changes to them.
 
-use crate::buffers::Cells;
-use crate::buffers::Sets;
-use crate::buffers::Theme;
-use crate::changes::Change;
-use crate::changes::change_bytes;
-use crate::changes::change_sets;
-use crate::jobs::Job;
-use crate::jobs::Source;
 use crate::random::fill;
 use crate::random::fill_theme;
-use crate::worked::load;
-use crate::worked::load_theme;
 use crate::worlds::spell;
+use jobs::buffers::Cells;
+use jobs::buffers::Sets;
+use jobs::buffers::Theme;
+use jobs::changes::Change;
+use jobs::changes::change_bytes;
+use jobs::changes::change_sets;
+use jobs::job::Job;
+use jobs::job::Source;
+use jobs::worked::load;
+use jobs::worked::load_theme;
 use judging::answers::ask_prepare;
 use second::asks::Ask;
 

@@ -1,11 +1,11 @@
 // The families of jobs, one after the other: every job by its number.
 
-use crate::jobs::Job;
 use crate::random::random_job;
-use crate::refused::due_job;
-use crate::refused::end_job;
-use crate::worked::worked_job;
 use crate::worlds::world_job;
+use jobs::job::Job;
+use jobs::refused::due_job;
+use jobs::refused::end_job;
+use jobs::worked::worked_job;
 
 // How many jobs of each family there are: 14 cases four times; 60 ends at three places, both ways, by three calls; 121 pairs of
 // refusals, both ways, by nine pairs of faults and three calls; 4,452 scores with 36 themes, both ways, and their sets; and 1,500
@@ -22,7 +22,7 @@ const ROUNDS: usize = 12000;
 
 const JOBS: usize = CASES + ENDS + DUES + WORLDS + ROUNDS;
 
-pub fn jobs() -> usize {
+pub fn number_of_jobs() -> usize {
     JOBS
 }
 

@@ -1,13 +1,13 @@
 // Pseudo-random scores of all shapes up to the limits, with themes cut from them, moved, and spoilt.
 
-use crate::changes::at;
-use crate::changes::none;
-use crate::jobs::Head;
-use crate::jobs::Job;
-use crate::jobs::Source;
-use crate::shapes::ask_of;
-use crate::shapes::room_of;
-use crate::shapes::way_of;
+use jobs::changes::at;
+use jobs::changes::none;
+use jobs::job::Head;
+use jobs::job::Job;
+use jobs::job::Source;
+use jobs::shapes::ask_of;
+use jobs::shapes::room_of;
+use jobs::shapes::way_of;
 use second::asks::Ask;
 use second::asks::Call;
 use second::asks::columns_of;

@@ -1,13 +1,13 @@
 // A small world, whole: every score of one and two tracks and up to three columns over the cells 0, 12, 127 and rest, with every
 // theme of two and three notes over those pitches, both ways.
 
-use crate::changes::none;
-use crate::jobs::Head;
-use crate::jobs::Job;
-use crate::jobs::Source;
-use crate::shapes::ask_of;
-use crate::shapes::room_of;
-use crate::shapes::way_of;
+use jobs::changes::none;
+use jobs::job::Head;
+use jobs::job::Job;
+use jobs::job::Source;
+use jobs::shapes::ask_of;
+use jobs::shapes::room_of;
+use jobs::shapes::way_of;
 use second::asks::Call;
 use second::totals::more;
 use second::totals::put_byte;

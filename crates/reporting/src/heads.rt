@@ -8,10 +8,10 @@ use crate::pieces::sets;
 use crate::pieces::value_name;
 use crate::pieces::way_name;
 use crate::pieces::what_name;
-use cases::changes::Change;
-use cases::changes::placed;
-use cases::jobs::Head;
-use cases::jobs::Job;
+use jobs::changes::Change;
+use jobs::changes::placed;
+use jobs::job::Head;
+use jobs::job::Job;
 use second::asks::Ask;
 use second::ways::Way;
 

@@ -10,7 +10,7 @@ use crate::pieces::pairs;
 use crate::pieces::say;
 use crate::pieces::sets;
 use crate::pieces::tried;
-use cases::jobs::Job;
+use jobs::job::Job;
 use judging::answers::Got;
 use judging::compare::Seen;
 use second::asks::Ask;

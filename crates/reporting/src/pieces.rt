@@ -1,7 +1,7 @@
 // What a line is made of: numbers, places, and the names of things.
 
-use cases::changes::What;
-use cases::changes::end_shift;
+use jobs::changes::What;
+use jobs::changes::end_shift;
 use judging::compare::Fault;
 use libc::STDOUT_FILENO;
 use second::asks::Call;

@@ -4,18 +4,17 @@
 use crate::lists::list;
 use crate::lists::noted;
 use crate::lists::turned;
-use crate::turns::turn_prepare;
 use cases::arranging::arrange;
 use cases::arranging::arrange_theme;
-use cases::buffers::Cells;
-use cases::buffers::Columns;
-use cases::buffers::Sets;
-use cases::buffers::Shifts;
-use cases::buffers::Table;
-use cases::buffers::Tally;
-use cases::buffers::Theme;
-use cases::jobs::Job;
-use cases::refused::due;
+use jobs::buffers::Cells;
+use jobs::buffers::Columns;
+use jobs::buffers::Sets;
+use jobs::buffers::Shifts;
+use jobs::buffers::Table;
+use jobs::buffers::Tally;
+use jobs::buffers::Theme;
+use jobs::job::Job;
+use jobs::refused::due;
 use judging::compare::Fault;
 use judging::compare::Seen;
 use reporting::heads::head;
@@ -25,6 +24,7 @@ use reporting::lines::tail;
 use second::asks::Call;
 use second::totals::add;
 use second::totals::size;
+use turning::turns::turn_prepare;
 
 // One call, compared with the second finder.
 fn called(

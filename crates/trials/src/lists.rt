@@ -1,14 +1,11 @@
 // Whole lists: the pages from the first bookmark to the last, each beside the second finder's.
 
-use crate::turns::turn_both;
-use crate::turns::turn_plain;
-use crate::turns::turn_quick;
-use cases::buffers::Columns;
-use cases::buffers::Shifts;
-use cases::buffers::Table;
-use cases::buffers::Tally;
-use cases::changes::at;
-use cases::jobs::Job;
+use jobs::buffers::Columns;
+use jobs::buffers::Shifts;
+use jobs::buffers::Table;
+use jobs::buffers::Tally;
+use jobs::changes::at;
+use jobs::job::Job;
 use judging::answers::Got;
 use judging::answers::refused;
 use judging::compare::Fault;
@@ -30,6 +27,9 @@ use second::totals::more;
 use second::totals::product;
 use second::totals::size32;
 use second::ways::lowest;
+use turning::turns::turn_both;
+use turning::turns::turn_plain;
+use turning::turns::turn_quick;
 
 // No list has so many pages.
 const MOST: usize = 70000;

@@ -1,19 +1,17 @@
 // Trials: the cases that are run and not proved, each beside a second finder.
 mod attempts;
-mod calls;
 mod lists;
-mod turns;
 
 use attempts::attempt;
-use cases::buffers::Cells;
-use cases::buffers::Columns;
-use cases::buffers::Sets;
-use cases::buffers::Shifts;
-use cases::buffers::Table;
-use cases::buffers::Tally;
-use cases::buffers::Theme;
 use cases::families::job;
-use cases::families::jobs;
+use cases::families::number_of_jobs;
+use jobs::buffers::Cells;
+use jobs::buffers::Columns;
+use jobs::buffers::Sets;
+use jobs::buffers::Shifts;
+use jobs::buffers::Table;
+use jobs::buffers::Tally;
+use jobs::buffers::Theme;
 use reporting::lines::totals;
 
 fn main() {
@@ -44,7 +42,7 @@ fn run(
     shifts: &mut Shifts,
     tally: &mut Tally,
 ) {
-    for k in 0..jobs() {
+    for k in 0..number_of_jobs() {
         attempt(cells, theme, sets, table, columns, shifts, tally, job(k));
     }
     totals(tally);

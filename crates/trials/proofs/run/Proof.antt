@@ -10,8 +10,8 @@ Inv-loop cells₀ theme₀ sets₀ table₀ columns₀ shifts₀ tally₀ k₀ k
 abbrev μ-loop : tie.MeasureT-loop
 μ-loop cells₀ theme₀ sets₀ table₀ columns₀ shifts₀ tally₀ k₀ k-end cells theme sets table columns shifts tally k = k-end - k
 
-jobs-requires : tie.Need-jobs-requires Inv-loop μ-loop
-jobs-requires c κs = search needs
+number-of-jobs-requires : tie.Need-number-of-jobs-requires Inv-loop μ-loop
+number-of-jobs-requires c κs = search needs
 
 loop-holds : tie.Need-loop-holds Inv-loop μ-loop
 loop-holds c = search needs
@@ -43,7 +43,7 @@ run-spec =
     (tie.spec
     Inv-loop
     μ-loop
-    jobs-requires
+    number-of-jobs-requires
     loop-holds
     job-requires
     attempt-requires

@@ -1,12 +1,12 @@
--- `trials::calls::ask_quick` meets its contract: it is safe and ends, since `part` stays within its buffer. Assumes nothing.
+-- `turning::calls::ask_moved` meets its contract: it is safe and ends, since `part` stays within its buffer. Assumes nothing.
 use borrow.Author.Needs.{needs}
 use lib.Seq.{length-take-le}
 use mathlib.Core.Path.{sym}
-use Rattle.trials.proofs.calls.ask_quick.Statement.{statement}
-use Rattle.trials.proofs.calls.ask_quick.Tie as tie
+use Rattle.turning.proofs.calls.ask_moved.Statement.{statement}
+use Rattle.turning.proofs.calls.ask_moved.Tie as tie
 
-pub ask-quick-spec : {M : Type 1} → statement M
-ask-quick-spec =
+pub ask-moved-spec : {M : Type 1} → statement M
+ask-moved-spec =
     tie.close
     (tie.spec
     (λ c κs. search needs)
@@ -20,7 +20,6 @@ ask-quick-spec =
     (λ c. search needs)
     (λ c. sym (length-take-le _ _ (search needs)))
     (λ c. sym (length-take-le _ _ (search needs)))
-    (λ c κs. search needs)
     (λ c κs. search needs)
     (λ c. sym (length-take-le _ _ (search needs)))
     (λ c. search needs)

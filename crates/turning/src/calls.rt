@@ -7,6 +7,7 @@ use judging::answers::refused;
 use judging::answers::too_short;
 use judging::answers::unasked;
 use score::Column;
+use search::AnyWay;
 use search::Bookmark;
 use search::Page;
 use search::Way;
@@ -29,10 +30,10 @@ fn answer(p: Page) -> Got {
     }
 }
 
-fn way_of(way: second::ways::Way) -> Way {
+fn way_of(way: second::ways::Way) -> AnyWay {
     match way {
-        second::ways::Way::Exact => Way::Exact,
-        second::ways::Way::Octave => Way::Octave,
+        second::ways::Way::Exact => AnyWay::Moved(Way::Exact),
+        second::ways::Way::Octave => AnyWay::Moved(Way::Octave),
     }
 }
 
@@ -77,7 +78,7 @@ pub fn ask_plain(
     ))
 }
 
-pub fn ask_quick(
+fn ask_moved(
     cells: &[u8],
     theme: &[u8],
     sets: &[u16],
@@ -85,8 +86,8 @@ pub fn ask_quick(
     columns: &mut [u16],
     shifts: &mut [i16],
     a: Ask,
+    way: Way,
 ) -> Got {
-    let way = a.way;
     let many = part(a.cells, cells.len());
     let m = part(a.notes, theme.len());
     let last = part(a.sets, sets.len());
@@ -108,11 +109,28 @@ pub fn ask_quick(
         &cells[..many],
         a.h,
         &theme[..m],
-        way_of(way),
+        way,
         bookmark_of(a.column, a.shift),
         &sets[..last],
         &mut table[..words],
         &mut columns[..r],
         &mut shifts[..s],
     ))
+}
+
+// A quick page, which only the ways that move a theme have.
+pub fn ask_quick(
+    cells: &[u8],
+    theme: &[u8],
+    sets: &[u16],
+    table: &mut [u32],
+    columns: &mut [u16],
+    shifts: &mut [i16],
+    a: Ask,
+) -> Got {
+    let asked = a.way;
+    match way_of(asked) {
+        AnyWay::Moved(way) => ask_moved(cells, theme, sets, table, columns, shifts, a, way),
+        AnyWay::Written => unasked(),
+    }
 }

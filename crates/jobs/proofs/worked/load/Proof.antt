@@ -1,25 +1,28 @@
--- `cases::worked::load_theme` meets its contract: it is safe, and the measure is what is left of its range. Assumes nothing.
+-- `jobs::worked::load` meets its contract: it is safe, and the measure is what is left of its range. Assumes nothing.
 use Prim.Native.Nat.{_-_}
 use borrow.Author.Needs.{needs}
 use lib.ListN.{length}
 use mathlib.Core.Path.{_≡_}
-use Rattle.cases.proofs.worked.load_theme.Statement.{statement}
-use Rattle.cases.proofs.worked.load_theme.Tie as tie
+use Rattle.jobs.proofs.worked.load.Statement.{statement}
+use Rattle.jobs.proofs.worked.load.Tie as tie
 
 abbrev Inv-loop : tie.InvT-loop
-Inv-loop theme₀ k i₀ theme i = length theme ≡ length theme₀
+Inv-loop cells₀ k i₀ cells i = length cells ≡ length cells₀
 
 abbrev μ-loop : tie.MeasureT-loop
-μ-loop theme₀ k i₀ theme i = 3 - i
+μ-loop cells₀ k i₀ cells i = 10 - i
 
 loop-holds : tie.Need-loop-holds Inv-loop μ-loop
 loop-holds c = search needs
 
-more-requires : tie.Need-more-requires Inv-loop μ-loop
-more-requires c κs = search needs
-
 item-requires : tie.Need-item-requires Inv-loop μ-loop
 item-requires c κs = search needs
+
+size-requires : tie.Need-size-requires Inv-loop μ-loop
+size-requires c κs = search needs
+
+cell-requires : tie.Need-cell-requires Inv-loop μ-loop
+cell-requires c κs = search needs
 
 put-byte-requires : tie.Need-put-byte-requires Inv-loop μ-loop
 put-byte-requires c κs = search needs
@@ -39,15 +42,16 @@ same-length c = search needs
 returns : tie.Need-returns Inv-loop μ-loop
 returns c = search needs
 
-pub load-theme-spec : {M : Type 1} → statement M
-load-theme-spec =
+pub load-spec : {M : Type 1} → statement M
+load-spec =
     tie.close
     (tie.spec
     Inv-loop
     μ-loop
     loop-holds
-    more-requires
     item-requires
+    size-requires
+    cell-requires
     put-byte-requires
     add-i
     loop-less

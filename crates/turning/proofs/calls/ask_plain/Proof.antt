@@ -1,9 +1,9 @@
--- `trials::calls::ask_plain` meets its contract: it is safe and ends, since `part` stays within its buffer. Assumes nothing.
+-- `turning::calls::ask_plain` meets its contract: it is safe and ends, since `part` stays within its buffer. Assumes nothing.
 use borrow.Author.Needs.{needs}
 use lib.Seq.{length-take-le}
 use mathlib.Core.Path.{sym}
-use Rattle.trials.proofs.calls.ask_plain.Statement.{statement}
-use Rattle.trials.proofs.calls.ask_plain.Tie as tie
+use Rattle.turning.proofs.calls.ask_plain.Statement.{statement}
+use Rattle.turning.proofs.calls.ask_plain.Tie as tie
 
 pub ask-plain-spec : {M : Type 1} → statement M
 ask-plain-spec =

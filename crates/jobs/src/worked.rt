@@ -1,9 +1,9 @@
 // The requirement's worked cases, written out page after page.
 
 use crate::changes::none;
-use crate::jobs::Head;
-use crate::jobs::Job;
-use crate::jobs::Source;
+use crate::job::Head;
+use crate::job::Job;
+use crate::job::Source;
 use crate::shapes::ask_of;
 use crate::shapes::way_of;
 use second::asks::Ask;

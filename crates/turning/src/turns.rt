@@ -2,10 +2,10 @@
 
 use crate::calls::ask_plain;
 use crate::calls::ask_quick;
-use cases::buffers::Columns;
-use cases::buffers::Sets;
-use cases::buffers::Shifts;
-use cases::buffers::Table;
+use jobs::buffers::Columns;
+use jobs::buffers::Sets;
+use jobs::buffers::Shifts;
+use jobs::buffers::Table;
 use judging::answers::ask_prepare;
 use judging::compare::Seen;
 use judging::compare::beside_fault;
