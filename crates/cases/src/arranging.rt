@@ -1,5 +1,7 @@
 // A job put into the lent buffers: its score, the sets of that score or of another one, its theme, and the changes to them.
 
+use crate::edges::fill_edge;
+use crate::edges::fill_edge_theme;
 use crate::random::fill;
 use crate::random::fill_theme;
 use crate::worlds::spell;
@@ -22,6 +24,7 @@ fn put_score(cells: &mut Cells, source: Source, k: usize, many: usize) {
         Source::Worked => load(cells, k),
         Source::World => spell(cells, many, k, 4),
         Source::Random => fill(cells, many, k),
+        Source::Edge => fill_edge(cells, many, k),
     }
 }
 
@@ -30,6 +33,7 @@ fn put_theme(cells: &[u8], theme: &mut Theme, source: Source, k: usize, a: Ask) 
         Source::Worked => load_theme(theme, k),
         Source::World => spell(theme, 3, k, 3),
         Source::Random => fill_theme(cells, theme, a, k),
+        Source::Edge => fill_edge_theme(theme, k),
     }
 }
 

@@ -1,5 +1,6 @@
 // The families of jobs, one after the other: every job by its number.
 
+use crate::edges::edge_job;
 use crate::random::random_job;
 use crate::worlds::world_job;
 use jobs::job::Job;
@@ -7,26 +8,28 @@ use jobs::refused::due_job;
 use jobs::refused::end_job;
 use jobs::worked::worked_job;
 
-// How many jobs of each family there are: 14 cases four times; 60 ends at three places, both ways, by three calls; 121 pairs of
-// refusals, both ways, by nine pairs of faults and three calls; 4,452 scores with 36 themes, both ways, and their sets; and 1,500
-// rounds of eight.
-const CASES: usize = 56;
+// How many jobs of each family there are: 27 cases four times; 64 ends at three places, in two ways by three calls and in
+// written by one; 121 pairs of refusals by nine pairs of faults, in the same ways by the same calls; 4,452 scores with 36
+// themes, in three ways, and their sets; 1,500 rounds of ten; and 96 edges from four bookmarks at five rooms, in three ways.
+const CASES: usize = 108;
 
-const ENDS: usize = 1080;
+const ENDS: usize = 1344;
 
-const DUES: usize = 6534;
+const DUES: usize = 7623;
 
-const WORLDS: usize = 324996;
+const WORLDS: usize = 485268;
 
-const ROUNDS: usize = 12000;
+const ROUNDS: usize = 15000;
 
-const JOBS: usize = CASES + ENDS + DUES + WORLDS + ROUNDS;
+const EDGES: usize = 5760;
+
+const JOBS: usize = CASES + ENDS + DUES + WORLDS + ROUNDS + EDGES;
 
 pub fn number_of_jobs() -> usize {
     JOBS
 }
 
-// The worked cases, the ends of the ranges, the refusals that are due, the small world, and pseudo-random scores.
+// The worked cases, the ends of the ranges, the refusals that are due, the small world, pseudo-random scores, and the edges.
 pub fn job(k: usize) -> Job {
     if k < CASES {
         return worked_job(k);
@@ -43,5 +46,9 @@ pub fn job(k: usize) -> Job {
     if from_worlds < WORLDS {
         return world_job(from_worlds);
     }
-    random_job(from_worlds - WORLDS)
+    let from_rounds = from_worlds - WORLDS;
+    if from_rounds < ROUNDS {
+        return random_job(from_rounds);
+    }
+    edge_job(from_rounds - ROUNDS)
 }

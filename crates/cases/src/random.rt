@@ -224,20 +224,17 @@ fn asked(round: usize, way: Way) -> Ask {
     shape(round, way)
 }
 
-// A column of the score, at which the theme has room where it has any.
+// A column of the score, at which the theme has room where it has any; in one round of seven the last of them.
 fn column_in(a: Ask, round: usize) -> usize {
-    more(
-        draw(round, 8, starts_in(columns_of(a.cells, a.h), a.notes)),
-        1,
-    )
+    let starts = starts_in(columns_of(a.cells, a.h), a.notes);
+    if round % 7 == 0 {
+        return starts;
+    }
+    more(draw(round, 8, starts as u64), 1)
 }
 
-fn starts_in(n: usize, m: usize) -> u64 {
-    if m <= n {
-        more(n - m, 1) as u64
-    } else {
-        n as u64
-    }
+fn starts_in(n: usize, m: usize) -> usize {
+    if m <= n { more(n - m, 1) } else { n }
 }
 
 // Another bookmark, mostly no pair: any column up to one behind the last, and any shift up to one above the highest.
@@ -250,11 +247,11 @@ fn aside(a: Ask, round: usize) -> Ask {
 }
 
 // Each round: the sets of another score and of this one; lists by the other's sets, lists by its own, and a page from another
-// bookmark, both ways.
+// bookmark, in the two ways that count looks; then a list and a page from another bookmark in written.
 pub fn random_job(k: usize) -> Job {
-    let round = k / 8;
-    let what = k % 8;
-    let a = aside_at(asked(round, way_of(what)), round, what);
+    let round = k / 10;
+    let what = k % 10;
+    let a = aside_at(asked(round, way_at(what)), round, what);
     let c = none();
     Job {
         tried: true,
@@ -295,17 +292,29 @@ fn call_at(what: usize) -> Call {
     match what {
         0 | 1 => Call::Prepare,
         2 | 3 => Call::Quick,
+        8 | 9 => Call::Plain,
         _ => Call::Both,
+    }
+}
+
+fn way_at(what: usize) -> Way {
+    if what < 8 {
+        way_of(what % 2)
+    } else {
+        Way::Written
     }
 }
 
 fn whole_at(what: usize) -> bool {
     match what {
-        2 | 3 | 4 | 5 => true,
+        2 | 3 | 4 | 5 | 8 => true,
         _ => false,
     }
 }
 
 fn aside_at(a: Ask, round: usize, what: usize) -> Ask {
-    if what < 6 { a } else { aside(a, round) }
+    match what {
+        6 | 7 | 9 => aside(a, round),
+        _ => a,
+    }
 }

@@ -1,5 +1,5 @@
 // A small world, whole: every score of one and two tracks and up to three columns over the cells 0, 12, 127 and rest, with every
-// theme of two and three notes over those pitches, both ways.
+// theme of two and three notes over those pitches, in all ways.
 
 use jobs::changes::none;
 use jobs::job::Head;
@@ -68,16 +68,16 @@ fn rest_of(w: usize, n: usize) -> usize {
     if n <= w { w - n } else { 0 }
 }
 
-// For each score its sets, and 36 themes both ways.
+// For each score 36 themes in all ways, and its sets.
 pub fn world_job(k: usize) -> Job {
-    let w = k / 73;
-    let y = k % 73;
+    let w = k / 109;
+    let y = k % 109;
     let x = number_of(w);
     let a = ask_of(
         tracks_of(w),
         columns_in(w),
-        notes_of(y / 2),
-        way_of(y),
+        notes_of(y / 3),
+        way_of(y % 3),
         room_of(more(x, y)),
     );
     let c = none();
@@ -86,12 +86,12 @@ pub fn world_job(k: usize) -> Job {
         source: Source::World,
         sets_of: x,
         score: x,
-        theme: y / 2,
+        theme: y / 3,
         a,
         c,
         d: c,
         call: call_of(y),
-        whole: y < 72,
+        whole: y < 108,
         deep: x == 0,
         loud: false,
         head: Head::Quiet,
@@ -100,7 +100,13 @@ pub fn world_job(k: usize) -> Job {
     }
 }
 
-// The sets are tried last.
+// The sets are tried last. In written, which comes third, there are plain pages alone.
 fn call_of(y: usize) -> Call {
-    if y < 72 { Call::Both } else { Call::Prepare }
+    if y == 108 {
+        return Call::Prepare;
+    }
+    if y % 3 == 2 {
+        return Call::Plain;
+    }
+    Call::Both
 }

@@ -9,6 +9,7 @@ pub enum Source {
     Worked,
     World,
     Random,
+    Edge,
 }
 
 // What is written before a job: nothing, the case, the end of a range, or the refusals that are due.

@@ -1,5 +1,5 @@
-// What is turned away: both ends of every range, each refusal alone, and each two together. Every job here is one call, of the
-// three in turn, on changes to an accepted one.
+// What is turned away: both ends of every range, each refusal alone, and each two together. Every job here is one call on
+// changes to an accepted one: of the three in turn, or, in written, of the plain one.
 
 use crate::changes::Change;
 use crate::changes::What;
@@ -19,9 +19,10 @@ use second::totals::more;
 use second::totals::product;
 use second::totals::size16;
 use second::ways::Way;
+use second::ways::counted;
 
 // The ends of the ranges: what is changed, and four numbers that it gets. A shift goes by its own number.
-const ENDS: [[u16; 5]; 15] = [
+const ENDS: [[u16; 5]; 16] = [
     [1, 0, 1, 16, 17],
     [2, 0, 1, 2048, 2049],
     [3, 9, 10, 11, 12],
@@ -37,6 +38,7 @@ const ENDS: [[u16; 5]; 15] = [
     [13, 0, 1, 6, 7],
     [14, 0, 1, 2, 3],
     [14, 4, 5, 6, 7],
+    [14, 8, 9, 10, 11],
 ];
 
 // Three faults for each refusal from 1 to 10: what is changed, its place, and the number.
@@ -53,8 +55,14 @@ const FAULTS: [[u16; 9]; 10] = [
     [13, 0, 0, 13, 0, 7, 14, 0, 3],
 ];
 
+// How many jobs try all three calls, in exact and octave: 64 ends at three places, and 121 pairs of refusals by nine pairs of
+// faults. The jobs in written come after them.
+const THREEFOLD_ENDS: usize = 1152;
+
+const THREEFOLD_DUES: usize = 6534;
+
 fn end_item(row: usize, i: usize) -> u16 {
-    if row < 15 {
+    if row < 16 {
         if i < 5 {
             return ENDS[row][i];
         }
@@ -147,9 +155,27 @@ fn refused_job(way: Way, c: Change, d: Change, call: Call, head: Head) -> Job {
     }
 }
 
-// A head is written before the first of the three calls.
-fn head_at(call: Call, head: Head) -> Head {
-    if let Call::Prepare = call {
+// Whether a call is the first of those that are tried in a way: of the three, or of the plain one alone.
+fn first_call(way: Way, call: Call) -> bool {
+    match call {
+        Call::Prepare => true,
+        Call::Plain => !counted(way),
+        _ => false,
+    }
+}
+
+// Whether it is the last of them.
+pub fn last_call(way: Way, call: Call) -> bool {
+    match call {
+        Call::Quick => true,
+        Call::Plain => !counted(way),
+        _ => false,
+    }
+}
+
+// A head is written before the first call.
+fn head_at(way: Way, call: Call, head: Head) -> Head {
+    if first_call(way, call) {
         head
     } else {
         Head::Quiet
@@ -180,37 +206,41 @@ fn highest_of(what: What) -> u16 {
     if let What::Set = what { 4095 } else { 127 }
 }
 
-// Both ends of every range, at each place, both ways.
-pub fn end_job(k: usize) -> Job {
-    let p = (k / 180 % 3) as u8;
-    let c = end(k % 180 / 3, p);
+// The e-th end of a range, of 64 at each place.
+fn ended(way: Way, e: usize, call: Call) -> Job {
+    let p = (e / 64 % 3) as u8;
+    let c = end(e % 64, p);
     let what = c.what;
-    let call = call_at(k);
     let mut j = refused_job(
-        way_of(k / 540),
+        way,
         c,
         highest(what, p),
         call,
-        head_at(call, Head::End),
+        head_at(way, call, Head::End),
     );
     j.tried = placed(what, p);
     j
 }
 
-// Each refusal by itself, which stands here as a pair of twice the same, and each two together, each by each of its faults, both ways; the
-// first faults are written out.
-pub fn due_job(k: usize) -> Job {
-    let pair = k % 3267 / 27;
-    let variant = k % 27 / 3;
-    let call = call_at(k);
-    let low = pair / 11;
-    let high = pair % 11;
+// Both ends of every range, at each place, in all ways.
+pub fn end_job(k: usize) -> Job {
+    if k < THREEFOLD_ENDS {
+        return ended(way_of(k / 576), k % 576 / 3, call_at(k));
+    }
+    ended(Way::Written, k - THREEFOLD_ENDS, Call::Plain)
+}
+
+// The e-th pair of faults, of nine for each two refusals; the first of the nine is written out.
+fn faulty(way: Way, e: usize, call: Call) -> Job {
+    let variant = e % 9;
+    let low = e / 99;
+    let high = e / 9 % 11;
     let mut j = refused_job(
-        way_of(k / 3267),
+        way,
         fault(low, variant / 3),
         fault(high, variant % 3),
         call,
-        due_head(call, variant),
+        due_head(way, call, variant),
     );
     j.loud = variant == 0;
     j.low = low;
@@ -219,9 +249,18 @@ pub fn due_job(k: usize) -> Job {
     j
 }
 
-fn due_head(call: Call, variant: usize) -> Head {
+// Each refusal by itself, which stands here as a pair of twice the same, and each two together, each by each of its faults, in
+// all ways.
+pub fn due_job(k: usize) -> Job {
+    if k < THREEFOLD_DUES {
+        return faulty(way_of(k / 3267), k % 3267 / 3, call_at(k));
+    }
+    faulty(Way::Written, k - THREEFOLD_DUES, Call::Plain)
+}
+
+fn due_head(way: Way, call: Call, variant: usize) -> Head {
     if variant == 0 {
-        head_at(call, Head::Due)
+        head_at(way, call, Head::Due)
     } else {
         Head::Quiet
     }

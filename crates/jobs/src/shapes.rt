@@ -17,9 +17,13 @@ pub fn room_of(k: usize) -> usize {
     }
 }
 
-// The ways in turn.
+// The ways by their numbers: the two that count looks first.
 pub fn way_of(k: usize) -> Way {
-    if k % 2 == 1 { Way::Octave } else { Way::Exact }
+    match k {
+        0 => Way::Exact,
+        1 => Way::Octave,
+        _ => Way::Written,
+    }
 }
 
 pub fn ask_of(h: usize, n: usize, m: usize, way: Way, room: usize) -> Ask {

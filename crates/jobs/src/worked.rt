@@ -1,4 +1,4 @@
-// The requirement's worked cases, written out page after page.
+// The requirement's worked cases, and some in written, page after page.
 
 use crate::changes::none;
 use crate::job::Head;
@@ -12,21 +12,24 @@ use second::asks::columns_of;
 use second::totals::more;
 use second::totals::put_byte;
 use second::totals::size;
+use second::ways::Way;
+use second::ways::counted;
 
 // The scores: K first, then those of one track.
-const SCORES: [[u8; 10]; 6] = [
+const SCORES: [[u8; 10]; 7] = [
     [60, 67, 62, 69, 64, 255, 65, 72, 255, 67],
     [0, 0, 0, 0, 0, 0, 0, 0, 0, 0],
     [127, 127, 0, 0, 0, 0, 0, 0, 0, 0],
     [120, 0, 0, 0, 0, 0, 0, 0, 0, 0],
     [60, 255, 62, 0, 0, 0, 0, 0, 0, 0],
     [60, 0, 0, 0, 0, 0, 0, 0, 0, 0],
+    [255, 255, 255, 255, 255, 255, 255, 255, 255, 255],
 ];
 
-// A row for each case: score, tracks, cells, notes, 1 for octave, room; then up to three notes.
-const ROWS: usize = 14;
+// A row for each case: score, tracks, cells, notes, the way's number, room; then up to three notes.
+const ROWS: usize = 27;
 
-const CASES: [[u8; 9]; 14] = [
+const CASES: [[u8; 9]; 27] = [
     [0, 2, 10, 3, 0, 4, 60, 62, 64],
     [0, 2, 10, 2, 0, 4, 67, 62, 0],
     [0, 2, 10, 2, 0, 2, 67, 62, 0],
@@ -41,11 +44,24 @@ const CASES: [[u8; 9]; 14] = [
     [4, 1, 3, 2, 0, 4, 60, 62, 0],
     [4, 1, 3, 2, 1, 4, 60, 62, 0],
     [5, 1, 1, 2, 0, 4, 60, 62, 0],
+    [0, 2, 10, 3, 2, 4, 60, 62, 64],
+    [0, 2, 10, 2, 2, 4, 67, 62, 0],
+    [0, 2, 10, 2, 2, 1, 67, 62, 0],
+    [0, 2, 10, 3, 2, 4, 62, 64, 65],
+    [0, 2, 10, 2, 2, 4, 65, 67, 0],
+    [0, 2, 10, 3, 2, 4, 60, 67, 69],
+    [1, 1, 4, 2, 2, 2, 0, 0, 0],
+    [1, 1, 2, 2, 2, 4, 127, 127, 0],
+    [2, 1, 2, 2, 2, 4, 127, 127, 0],
+    [3, 1, 2, 2, 2, 4, 0, 12, 0],
+    [4, 1, 3, 2, 2, 4, 60, 62, 0],
+    [5, 1, 1, 2, 2, 4, 60, 62, 0],
+    [6, 1, 3, 2, 2, 4, 60, 60, 0],
 ];
 
 // A cell of a score.
 fn cell(score: usize, i: usize) -> u8 {
-    if score < 6 {
+    if score < 7 {
         if i < 10 {
             return SCORES[score][i];
         }
@@ -88,12 +104,14 @@ pub fn load_theme(theme: &mut [u8], k: usize) {
     }
 }
 
-// Each case four times: its sets; plain and quick, written out; and the two beside one another.
+// Each case four times: its sets; plain and quick, written out; and the two beside one another. Of a way without quick pages
+// the last two are not tried.
 pub fn worked_job(k: usize) -> Job {
     let a = case_ask(k / 4);
+    let way = a.way;
     let c = none();
     Job {
-        tried: true,
+        tried: tried_in(way, k % 4),
         source: Source::Worked,
         sets_of: k / 4,
         score: k / 4,
@@ -118,6 +136,13 @@ fn call_at(what: usize) -> Call {
         2 => Call::Quick,
         _ => Call::Both,
     }
+}
+
+fn tried_in(way: Way, what: usize) -> bool {
+    if what < 2 {
+        return true;
+    }
+    counted(way)
 }
 
 fn loud_at(what: usize) -> bool {

@@ -11,6 +11,7 @@ use crate::pieces::say;
 use crate::pieces::sets;
 use crate::pieces::tried;
 use jobs::job::Job;
+use jobs::refused::last_call;
 use judging::answers::Got;
 use judging::compare::Seen;
 use second::asks::Ask;
@@ -31,6 +32,10 @@ pub const PAIRS: usize = 3;
 pub const REFUSALS: usize = 4;
 
 pub const DIFFERED: usize = 5;
+
+pub const WRITTEN_PAGES: usize = 6;
+
+pub const WRITTEN_PAIRS: usize = 7;
 
 // Where a page begins, and its room.
 fn opening(a: Ask, call: Call) {
@@ -99,7 +104,7 @@ pub fn answered(call: Call, got: Got, loud: bool) {
     number(got.place);
 }
 
-// The end of the line that holds the answers of three calls.
+// The end of the line that holds the answers of the calls of a way.
 pub fn tail(j: Job) {
     if j.whole {
         return;
@@ -107,8 +112,10 @@ pub fn tail(j: Job) {
     if !j.loud {
         return;
     }
+    let a = j.a;
+    let way = a.way;
     let call = j.call;
-    if let Call::Quick = call {
+    if last_call(way, call) {
         line();
     }
 }
@@ -125,6 +132,11 @@ pub fn totals(tally: &[u64]) {
     tried(count(tally, PAIRS));
     say(b" refusals");
     tried(count(tally, REFUSALS));
+    line();
+    say(b"of these in written: pages");
+    tried(count(tally, WRITTEN_PAGES));
+    say(b" pairs");
+    tried(count(tally, WRITTEN_PAIRS));
     line();
     say(b"differed");
     tried(count(tally, DIFFERED));

@@ -72,6 +72,7 @@ pub fn way_name(way: Way) {
     match way {
         Way::Exact => say(b" exact"),
         Way::Octave => say(b" octave"),
+        Way::Written => say(b" written"),
     }
 }
 

@@ -17,6 +17,7 @@ use crate::totals::twelves;
 use crate::totals::whole;
 use crate::totals::word;
 use crate::ways::Way;
+use crate::ways::counted;
 use crate::ways::lowest;
 use crate::ways::same;
 use crate::ways::shift_at;
@@ -30,8 +31,8 @@ pub struct Found {
     pub looks: usize,
 }
 
-// Whether column j holds note p moved by c. Exact: p + c is one of its pitches. Octave: some pitch t has t - p - c divisible by
-// 12.
+// Whether column j holds note p moved by c. Exact, and written: p + c is one of its pitches. Octave: some pitch t has t - p - c
+// divisible by 12.
 fn holds(cells: &[u8], h: usize, j: usize, p: u8, c: i16, way: Way) -> bool {
     for track in 0..h {
         let t = byte(cells, place(j, h, track));
@@ -56,8 +57,11 @@ fn standing(cells: &[u8], theme: &[u8], a: Ask, j: usize, c: i16) -> usize {
 }
 
 // The looks of a place at which so many notes stand: one for each note from the second to the first missing one, or to the last.
-// Where the first is missing there is no start.
-fn looks_of(stood: usize, m: usize) -> usize {
+// Where the first is missing there is no start. A way that counts no looks has none.
+fn looks_of(way: Way, stood: usize, m: usize) -> usize {
+    if !counted(way) {
+        return 0;
+    }
     if stood < m { stood } else { less_one(m) }
 }
 
@@ -69,7 +73,7 @@ fn in_column(cells: &[u8], theme: &[u8], a: Ask, j: usize, from: i16) -> Found {
         let c = shift_at(way, s);
         if from <= c {
             let stood = standing(cells, theme, a, j, c);
-            looks = more(looks, looks_of(stood, a.notes));
+            looks = more(looks, looks_of(way, stood, a.notes));
             if stood == a.notes {
                 return Found {
                     hit: true,
@@ -164,8 +168,12 @@ fn last_start(n: usize, m: usize) -> usize {
     if m <= n { more(n - m, 2) } else { 0 }
 }
 
-// The most looks of a whole list: (n - m + 1) * h * (m - 1), or 0 where the theme is longer than the score.
+// The most looks of a whole list: (n - m + 1) * h * (m - 1), or 0 where the theme is longer than the score or none are counted.
 pub fn most_looks(a: Ask) -> usize {
+    let way = a.way;
+    if !counted(way) {
+        return 0;
+    }
     let starts = less_one(last_start(columns_of(a.cells, a.h), a.notes));
     product(product(starts, a.h), less_one(a.notes))
 }

@@ -2,9 +2,11 @@
 
 use crate::totals::twelves;
 
+// Exact: a note moved by the shift. Octave: the same with octaves ignored. Written: exact with shift 0 alone.
 pub enum Way {
     Exact,
     Octave,
+    Written,
 }
 
 // How many shifts a way has.
@@ -12,6 +14,7 @@ pub fn span(way: Way) -> u8 {
     match way {
         Way::Exact => 255,
         Way::Octave => 12,
+        Way::Written => 1,
     }
 }
 
@@ -20,6 +23,7 @@ pub fn lowest(way: Way) -> i16 {
     match way {
         Way::Exact => -127,
         Way::Octave => 0,
+        Way::Written => 0,
     }
 }
 
@@ -27,7 +31,7 @@ pub fn lowest(way: Way) -> i16 {
 pub fn shift_at(way: Way, s: u8) -> i16 {
     match way {
         Way::Exact => s as i16 - 127,
-        Way::Octave => s as i16,
+        Way::Octave | Way::Written => s as i16,
     }
 }
 
@@ -43,6 +47,7 @@ pub fn marked_by(way: Way, c: i16) -> bool {
     match way {
         Way::Exact => between(c, -127, 128),
         Way::Octave => between(c, 0, 12),
+        Way::Written => between(c, 0, 1),
     }
 }
 
@@ -51,5 +56,15 @@ pub fn same(way: Way, z: i32) -> bool {
     match way {
         Way::Exact => z == 0,
         Way::Octave => twelves(z),
+        Way::Written => z == 0,
+    }
+}
+
+// Whether a way counts looks; written has none. Only a way that counts them has a quick search, which is there to save them.
+pub fn counted(way: Way) -> bool {
+    match way {
+        Way::Exact => true,
+        Way::Octave => true,
+        Way::Written => false,
     }
 }

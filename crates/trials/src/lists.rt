@@ -16,6 +16,8 @@ use reporting::lines::PAGES;
 use reporting::lines::PAIRS;
 use reporting::lines::REFUSALS;
 use reporting::lines::SCORES;
+use reporting::lines::WRITTEN_PAGES;
+use reporting::lines::WRITTEN_PAIRS;
 use reporting::lines::differing;
 use reporting::lines::page;
 use second::asks::Ask;
@@ -26,6 +28,7 @@ use second::totals::count;
 use second::totals::more;
 use second::totals::product;
 use second::totals::size32;
+use second::ways::Way;
 use second::ways::lowest;
 use turning::turns::turn_both;
 use turning::turns::turn_plain;
@@ -52,23 +55,30 @@ pub fn noted(cells: &[u8], theme: &[u8], sets: &[u16], tally: &mut Tally, a: Ask
         return true;
     }
     let call = s.call;
-    accepted(tally, call, s.got.written);
+    let way = a.way;
+    accepted(tally, call, way, s.got.written);
     true
 }
 
 // Counts what an accepted call made: the sets of a score, or a page, for each call that turned it.
-fn accepted(tally: &mut Tally, call: Call, written: usize) {
+fn accepted(tally: &mut Tally, call: Call, way: Way, written: usize) {
     match call {
         Call::Prepare => add(tally, SCORES, 1),
-        Call::Both => page_noted(tally, 2, written),
-        _ => page_noted(tally, 1, written),
+        Call::Both => page_noted(tally, way, 2, written),
+        _ => page_noted(tally, way, 1, written),
     }
 }
 
-// Counts a page and its pairs, for so many calls.
-fn page_noted(tally: &mut Tally, calls: usize, written: usize) {
-    add(tally, PAGES, calls as u64);
-    add(tally, PAIRS, product(written, calls) as u64);
+// Counts a page and its pairs, for so many calls; those in written once more by themselves.
+fn page_noted(tally: &mut Tally, way: Way, calls: usize, written: usize) {
+    let pages = calls as u64;
+    let pairs = product(written, calls) as u64;
+    add(tally, PAGES, pages);
+    add(tally, PAIRS, pairs);
+    if let Way::Written = way {
+        add(tally, WRITTEN_PAGES, pages);
+        add(tally, WRITTEN_PAIRS, pairs);
+    }
 }
 
 // How many pages so many pairs need.

@@ -34,6 +34,7 @@ fn way_of(way: second::ways::Way) -> AnyWay {
     match way {
         second::ways::Way::Exact => AnyWay::Moved(Way::Exact),
         second::ways::Way::Octave => AnyWay::Moved(Way::Octave),
+        second::ways::Way::Written => AnyWay::Written,
     }
 }
 

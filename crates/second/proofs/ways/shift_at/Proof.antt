@@ -15,9 +15,6 @@ cast-result c = search needs
 sub-result : tie.Need-sub-result
 sub-result c = sub-fits w16 (c .before .before .args .s) 126 (omega (arith, c .before .before .fits .s)) (omega arith)
 
-enum-told-2 : tie.Need-enum-told-2
-enum-told-2 c = search needs
-
 cast-result-2 : tie.Need-cast-result-2
 cast-result-2 c = search needs
 
@@ -28,4 +25,4 @@ returns-2 : tie.Need-returns-2
 returns-2 c = search needs
 
 pub shift-at-spec : {M : Type 1} → statement M
-shift-at-spec = tie.close (tie.spec enum-told cast-result sub-result enum-told-2 cast-result-2 returns returns-2)
+shift-at-spec = tie.close (tie.spec enum-told cast-result sub-result cast-result-2 returns returns-2)
