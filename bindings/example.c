@@ -33,8 +33,20 @@ int main(void)
         looks += answer[4];
     }
     printf("%zu pairs, %lld looks\n", pairs, (long long)looks);
-    /* a way that is none */
-    return pairs == 3 && looks == 6
-        && finder_plain_page(cells, sizeof cells, 2, theme, sizeof theme, 2, 1, 0, columns, 2, shifts, 2, answer, 5) == FINDER_NO_CALL
+    if (pairs != 3 || looks != 6)
+        return 1;
+
+    /* the tune in its own key: a plain page, from the bookmark (1, 0) */
+    result = finder_plain_page(cells, sizeof cells, 2, theme, sizeof theme, FINDER_WRITTEN, 1, 0, columns, 2, shifts, 2,
+                               answer, 5);
+    if (result != 0 || answer[0] != 1 || columns[0] != 1 || shifts[0] != 0 || answer[3] != 1 || answer[4] != 0)
+        return 1;
+    printf("as written: column %d\n", columns[0]);
+
+    /* an unknown way, and one that the quick page does not take */
+    return finder_plain_page(cells, sizeof cells, 2, theme, sizeof theme, 3, 1, 0, columns, 2, shifts, 2, answer, 5)
+            == FINDER_NO_CALL
+        && finder_quick_page(cells, sizeof cells, 2, theme, sizeof theme, FINDER_WRITTEN, 1, 0, sets, 4, table,
+                             FINDER_TABLE_LEN, columns, 2, shifts, 2, answer, 5) == FINDER_NO_CALL
         ? 0 : 1;
 }

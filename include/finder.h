@@ -10,17 +10,20 @@
  *
  * A pair (column, shift) says that the theme stands at that column with that shift: each note moved by the shift (score
  * minus theme) is in its column, whichever track has it.
- *   way 0, exact:  shifts -127 to 127.
- *   way 1, octave: shifts 0 to 11, octaves ignored.
+ *   way 0, exact:   shifts -127 to 127.
+ *   way 1, octave:  shifts 0 to 11, octaves ignored.
+ *   way 2, written: shift 0 alone, the tune in its own key. The pairs are those of exact with shift 0. The plain page
+ *                   takes it; the quick page does not.
  * Pairs are listed by rising column, then by rising shift.
  *
  * A page call writes the first pairs at or after its bookmark (column, shift), as many as the buffers have places. The
- * first bookmark is (1, -127), for octave (1, 0). `answer` has 5 places:
+ * first bookmark is (1, -127), for octave and written (1, 0). After a full page whose last pair is (j, c) the next bookmark
+ * is (j, c + 1); after a finished list it is (n + 1, -127), for octave and written (n + 1, 0). `answer` has 5 places:
  *   answer[0]  pairs written, from the front of `columns` and `shifts`; places behind them keep their contents
  *   answer[1]  next bookmark: column
  *   answer[2]  next bookmark: shift
  *   answer[3]  1 where the list is finished, otherwise 0
- *   answer[4]  looks: how many notes after a theme's first were looked for
+ *   answer[4]  looks: how many notes after a theme's first were looked for; for written always 0
  * A page that is full is never finished: the next one, from the next bookmark, may be empty.
  *
  * Each call returns 0 where it is accepted, and otherwise the refusal, number + 256 * place, the lowest number that
@@ -34,8 +37,9 @@
  *    7  some set is above 4095; place: the first of them, counted from 0
  *    8  `table` has not 4,096 places
  *    9  `columns` has no place, or `shifts` has not as many
- *   10  the bookmark's column is not 1 to n + 1, or its shift is below the lowest or more than one above the highest
- *  255  way is neither 0 nor 1, or answer isn't 5 long
+ *   10  the bookmark's column is not 1 to n + 1, or its shift is below the lowest or more than one above the highest:
+ *       not -127 to 128 for exact, 0 to 12 for octave, 0 to 1 for written
+ *  255  way is above 2, or above 1 in the quick page, or answer isn't 5 long
  *
  * What the caller owes: each pointer has its length's elements behind it (of an empty buffer it is not read), they are
  * aligned for their type, no buffer that is written (sets in finder_prepare; table, columns, shifts, answer) overlaps
@@ -55,6 +59,7 @@ extern "C" {
 enum {
     FINDER_EXACT = 0,         /* ways */
     FINDER_OCTAVE = 1,
+    FINDER_WRITTEN = 2,       /* in the plain page only */
     FINDER_NO_CALL = 255,     /* the result where the call itself is none */
     FINDER_TABLE_LEN = 4096,  /* places of a theme table */
     FINDER_ANSWER_LEN = 5
@@ -67,15 +72,15 @@ enum {
 /* Fills all n - 1 interval sets of the score. Refuses 1, 2, 3, 6. */
 int64_t finder_prepare(const uint8_t *cells, size_t cells_len, size_t tracks, uint16_t *sets, size_t sets_len);
 
-/* A page of the plain search. Refuses 1 to 5, 9, 10. */
+/* A page of the plain search, of any way. Refuses 1 to 5, 9, 10. */
 int64_t finder_plain_page(const uint8_t *cells, size_t cells_len, size_t tracks,
                           const uint8_t *theme, size_t theme_len, uint8_t way, uint16_t column, int16_t shift,
                           uint16_t *columns, size_t columns_len, int16_t *shifts, size_t shifts_len,
                           int64_t *answer, size_t answer_len);
 
-/* A page of the quick search: with the score's own sets the same pairs, with no more looks. With sets of another score,
- * the pairs at the columns that those sets make candidates. The theme's table is left in `table`, whatever it held.
- * Refuses 1 to 10. */
+/* A page of the quick search, exact or octave: with the score's own sets the same pairs, with no more looks. With sets of
+ * another score, the pairs at the columns that those sets make candidates. The theme's table is left in `table`, whatever
+ * it held. Refuses 1 to 10. */
 int64_t finder_quick_page(const uint8_t *cells, size_t cells_len, size_t tracks,
                           const uint8_t *theme, size_t theme_len, uint8_t way, uint16_t column, int16_t shift,
                           const uint16_t *sets, size_t sets_len, uint32_t *table, size_t table_len,

@@ -16,6 +16,17 @@
 //! # Ok::<(), finder::Refusal>(())
 //! ```
 //!
+//! [`plain_pairs`] needs no preparation, and also lists a tune in its own key alone:
+//!
+//! ```
+//! use finder::{plain_pairs, AnyWay, Pair};
+//!
+//! let score = [60, 67, 62, 69, 64, 255, 65, 72, 255, 67];
+//! let found: Vec<Pair> = plain_pairs(&score, 2, &[67, 62], AnyWay::Written)?.collect();
+//! assert_eq!(found, [Pair { column: 1, shift: 0 }]);
+//! # Ok::<(), finder::Refusal>(())
+//! ```
+//!
 //! [`prepare`], [`plain_page`] and [`quick_page`] are the calls themselves, for buffers of one's own. What is proved is
 //! the library behind them; this crate only passes slices on, and is tested and not proved.
 #![warn(missing_docs)]
@@ -29,7 +40,7 @@ pub const TABLE_LEN: usize = 4096;
 /// The most columns that a score may have.
 pub const MOST_COLUMNS: usize = 2048;
 
-/// When a column holds a note moved by a shift.
+/// When a column holds a note moved by a shift. Both searches take these two ways.
 #[derive(Clone, Copy, PartialEq, Eq, Hash, Debug)]
 pub enum Way {
     /// The note moved by the shift, -127 to 127, is in the column.
@@ -53,6 +64,43 @@ impl Way {
             Way::Exact => 0,
             Way::Octave => 1,
         }
+    }
+}
+
+/// Any of the three ways. The plain search takes them all. There is no quick search for the tune as it is written, and so
+/// [`pairs`] and [`quick_page`] cannot be handed it:
+///
+/// ```compile_fail
+/// finder::pairs(&[60, 62], 1, &[60, 62], finder::AnyWay::Written);
+/// ```
+#[derive(Clone, Copy, PartialEq, Eq, Hash, Debug)]
+pub enum AnyWay {
+    /// The tune in any key.
+    Moved(Way),
+    /// The tune in its own key: the exact pairs with shift 0. It takes no looks.
+    Written,
+}
+
+impl AnyWay {
+    /// Where a list begins: column 1, and the lowest shift.
+    pub fn first(self) -> Bookmark {
+        match self {
+            AnyWay::Moved(way) => way.first(),
+            AnyWay::Written => Bookmark { column: 1, shift: 0 },
+        }
+    }
+
+    fn number(self) -> u8 {
+        match self {
+            AnyWay::Moved(way) => way.number(),
+            AnyWay::Written => 2,
+        }
+    }
+}
+
+impl From<Way> for AnyWay {
+    fn from(way: Way) -> AnyWay {
+        AnyWay::Moved(way)
     }
 }
 
@@ -83,7 +131,7 @@ pub struct Page {
     pub next: Bookmark,
     /// Whether the list is finished. A page that is full never is: the next one may be empty.
     pub finished: bool,
-    /// How many notes after a theme's first were looked for.
+    /// How many notes after a theme's first were looked for; 0 for [`AnyWay::Written`].
     pub looks: u32,
 }
 
@@ -147,30 +195,32 @@ pub fn prepare(cells: &[u8], tracks: usize, sets: &mut [u16]) -> Result<(), Refu
     Refusal::read(unsafe { finder_prepare(cells.as_ptr(), cells.len(), tracks, sets.as_mut_ptr(), sets.len()) })
 }
 
-/// Writes the first pairs at or after the bookmark, as many as there is room for; every column is looked at.
+/// Writes the first pairs at or after the bookmark, as many as there is room for; every column is looked at. The way is any
+/// of the three, a [`Way`] or an [`AnyWay`].
 ///
 /// Refuses 1 to 5, 9 and 10.
 pub fn plain_page(
     cells: &[u8],
     tracks: usize,
     theme: &[u8],
-    way: Way,
+    way: impl Into<AnyWay>,
     bookmark: Bookmark,
     columns: &mut [u16],
     shifts: &mut [i16],
 ) -> Result<Page, Refusal> {
+    let way = way.into().number();
     let mut answer = [0; 5];
     // Safety: each pointer and length is of a slice, and those that are written are lent to this call alone.
     Refusal::read(unsafe {
         finder_plain_page(
-            cells.as_ptr(), cells.len(), tracks, theme.as_ptr(), theme.len(), way.number(), bookmark.column, bookmark.shift,
+            cells.as_ptr(), cells.len(), tracks, theme.as_ptr(), theme.len(), way, bookmark.column, bookmark.shift,
             columns.as_mut_ptr(), columns.len(), shifts.as_mut_ptr(), shifts.len(), answer.as_mut_ptr(), answer.len(),
         )
     })?;
     Ok(page(answer))
 }
 
-/// The same with the score's prepared sets, and with no more looks. The theme's table is left in `table`.
+/// The same, exact or octave, with the score's prepared sets, and with no more looks. The theme's table is left in `table`.
 ///
 /// With sets of another score the pairs are those at the columns that the sets make candidates. Refuses 1 to 10.
 #[allow(clippy::too_many_arguments)]
@@ -206,19 +256,17 @@ fn page(answer: [i64; 5]) -> Page {
     }
 }
 
-/// How many pairs [`Pairs`] asks for at a time.
+/// How many pairs an iterator asks for at a time.
 const ROOM: usize = 64;
 
-/// An iterator over all pairs of a theme in a score, by rising column and then by rising shift.
-///
-/// It searches the quick way, a page at a time, as it is asked on.
-pub struct Pairs<'a> {
-    cells: &'a [u8],
-    tracks: usize,
-    theme: &'a [u8],
-    way: Way,
-    sets: Vec<u16>,
-    table: Vec<u32>,
+/// A search with all that its pages are asked with, but for the bookmark and the buffers.
+trait Search {
+    fn page(&mut self, at: Bookmark, columns: &mut [u16], shifts: &mut [i16]) -> Result<Page, Refusal>;
+}
+
+/// The pages of a search, each given out pair by pair.
+struct Reading<S> {
+    search: S,
     columns: [u16; ROOM],
     shifts: [i16; ROOM],
     page: Page,
@@ -226,53 +274,21 @@ pub struct Pairs<'a> {
     looks: u64,
 }
 
-/// All pairs of a theme in a score. Prepares the score's sets, and turns the first page.
-///
-/// Refuses 1 to 5.
-pub fn pairs<'a>(cells: &'a [u8], tracks: usize, theme: &'a [u8], way: Way) -> Result<Pairs<'a>, Refusal> {
-    // A score of more columns is refused before its sets are looked at.
-    let columns = cells.len().checked_div(tracks).unwrap_or(0).min(MOST_COLUMNS);
-    let mut sets = vec![0; columns.saturating_sub(1)];
-    prepare(cells, tracks, &mut sets)?;
-    let page = Page { written: 0, next: way.first(), finished: false, looks: 0 };
-    let table = vec![0; TABLE_LEN];
-    let mut pairs =
-        Pairs { cells, tracks, theme, way, sets, table, columns: [0; ROOM], shifts: [0; ROOM], page, given: 0, looks: 0 };
-    pairs.turn()?;
-    Ok(pairs)
-}
+impl<S: Search> Reading<S> {
+    /// Turns the first page.
+    fn new(search: S, first: Bookmark) -> Result<Reading<S>, Refusal> {
+        let page = Page { written: 0, next: first, finished: false, looks: 0 };
+        let mut reading = Reading { search, columns: [0; ROOM], shifts: [0; ROOM], page, given: 0, looks: 0 };
+        reading.turn()?;
+        Ok(reading)
+    }
 
-impl Pairs<'_> {
     fn turn(&mut self) -> Result<(), Refusal> {
-        self.page = quick_page(
-            self.cells,
-            self.tracks,
-            self.theme,
-            self.way,
-            self.page.next,
-            &self.sets,
-            &mut self.table,
-            &mut self.columns,
-            &mut self.shifts,
-        )?;
+        self.page = self.search.page(self.page.next, &mut self.columns, &mut self.shifts)?;
         self.given = 0;
         self.looks += u64::from(self.page.looks);
         Ok(())
     }
-
-    /// The looks of the pages turned so far; after the last pair, of the whole list.
-    pub fn looks(&self) -> u64 {
-        self.looks
-    }
-
-    /// The score's interval sets.
-    pub fn sets(&self) -> &[u16] {
-        &self.sets
-    }
-}
-
-impl Iterator for Pairs<'_> {
-    type Item = Pair;
 
     fn next(&mut self) -> Option<Pair> {
         if self.given == self.page.written {
@@ -290,4 +306,104 @@ impl Iterator for Pairs<'_> {
     }
 }
 
+struct Quick<'a> {
+    cells: &'a [u8],
+    tracks: usize,
+    theme: &'a [u8],
+    way: Way,
+    sets: Vec<u16>,
+    table: Vec<u32>,
+}
+
+impl Search for Quick<'_> {
+    fn page(&mut self, at: Bookmark, columns: &mut [u16], shifts: &mut [i16]) -> Result<Page, Refusal> {
+        quick_page(self.cells, self.tracks, self.theme, self.way, at, &self.sets, &mut self.table, columns, shifts)
+    }
+}
+
+struct Plain<'a> {
+    cells: &'a [u8],
+    tracks: usize,
+    theme: &'a [u8],
+    way: AnyWay,
+}
+
+impl Search for Plain<'_> {
+    fn page(&mut self, at: Bookmark, columns: &mut [u16], shifts: &mut [i16]) -> Result<Page, Refusal> {
+        plain_page(self.cells, self.tracks, self.theme, self.way, at, columns, shifts)
+    }
+}
+
+/// An iterator over all pairs of a theme in a score, by rising column and then by rising shift.
+///
+/// It searches the quick way, a page at a time, as it is asked on.
+pub struct Pairs<'a>(Reading<Quick<'a>>);
+
+/// All pairs of a theme in a score, exact or octave. Prepares the score's sets, and turns the first page.
+///
+/// Refuses 1 to 5.
+pub fn pairs<'a>(cells: &'a [u8], tracks: usize, theme: &'a [u8], way: Way) -> Result<Pairs<'a>, Refusal> {
+    // A score of more columns is refused before its sets are looked at.
+    let columns = cells.len().checked_div(tracks).unwrap_or(0).min(MOST_COLUMNS);
+    let mut sets = vec![0; columns.saturating_sub(1)];
+    prepare(cells, tracks, &mut sets)?;
+    let quick = Quick { cells, tracks, theme, way, sets, table: vec![0; TABLE_LEN] };
+    Ok(Pairs(Reading::new(quick, way.first())?))
+}
+
+impl Pairs<'_> {
+    /// The looks of the pages turned so far; after the last pair, of the whole list.
+    pub fn looks(&self) -> u64 {
+        self.0.looks
+    }
+
+    /// The score's interval sets.
+    pub fn sets(&self) -> &[u16] {
+        &self.0.search.sets
+    }
+}
+
+impl Iterator for Pairs<'_> {
+    type Item = Pair;
+
+    fn next(&mut self) -> Option<Pair> {
+        self.0.next()
+    }
+}
+
 impl FusedIterator for Pairs<'_> {}
+
+/// An iterator over all pairs of a theme in a score in any of the three ways, in the same order.
+///
+/// It searches the plain way, a page at a time, as it is asked on.
+pub struct PlainPairs<'a>(Reading<Plain<'a>>);
+
+/// All pairs of a theme in a score in any way, a [`Way`] or an [`AnyWay`]. Prepares nothing, and turns the first page.
+///
+/// Refuses 1 to 5.
+pub fn plain_pairs<'a>(
+    cells: &'a [u8],
+    tracks: usize,
+    theme: &'a [u8],
+    way: impl Into<AnyWay>,
+) -> Result<PlainPairs<'a>, Refusal> {
+    let way = way.into();
+    Ok(PlainPairs(Reading::new(Plain { cells, tracks, theme, way }, way.first())?))
+}
+
+impl PlainPairs<'_> {
+    /// The looks of the pages turned so far; after the last pair, of the whole list.
+    pub fn looks(&self) -> u64 {
+        self.0.looks
+    }
+}
+
+impl Iterator for PlainPairs<'_> {
+    type Item = Pair;
+
+    fn next(&mut self) -> Option<Pair> {
+        self.0.next()
+    }
+}
+
+impl FusedIterator for PlainPairs<'_> {}

@@ -3,7 +3,7 @@
 
 mod third;
 
-use finder::{pairs, plain_page, prepare, quick_page, Bookmark, Way};
+use finder::{pairs, plain_page, plain_pairs, prepare, quick_page, AnyWay, Bookmark, Way};
 use third::{Call, Lent};
 
 /// Xorshift, 64 bits: the same numbers in every run.
@@ -40,14 +40,15 @@ impl Random {
         let pitches = [2, 5, 13, 30, 128][self.from(0, 4)];
         let rests = [0, 2, 9][self.from(0, 2)];
         let cells = self.bytes(n * tracks, pitches, rests);
-        let theme = if m <= n && self.one_in(2) { self.picked(&cells, tracks, n, m) } else { self.bytes(m, pitches, 0) };
-        let way = if self.one_in(2) { Way::Exact } else { Way::Octave };
+        let way = [Way::Exact.into(), Way::Octave.into(), AnyWay::Written][self.from(0, 2)];
+        let theme = if m <= n && self.one_in(2) { self.picked(&cells, tracks, n, m, way) } else { self.bytes(m, pitches, 0) };
         let bookmark = if self.one_in(2) {
             way.first()
         } else {
             let shift = match way {
-                Way::Exact => self.from(0, 255) as i16 - 127,
-                Way::Octave => self.from(0, 12) as i16,
+                AnyWay::Moved(Way::Exact) => self.from(0, 255) as i16 - 127,
+                AnyWay::Moved(Way::Octave) => self.from(0, 12) as i16,
+                AnyWay::Written => self.from(0, 1) as i16,
             };
             Bookmark { column: self.from(1, n + 1) as u16, shift }
         };
@@ -65,10 +66,13 @@ impl Random {
         call
     }
 
-    /// A theme that stands in the score, moved; a rest in its way gives any pitch.
-    fn picked(&mut self, cells: &[u8], tracks: usize, n: usize, m: usize) -> Vec<u8> {
+    /// A theme that stands in the score, moved, save mostly where it is sought as written; a rest in its way gives any pitch.
+    fn picked(&mut self, cells: &[u8], tracks: usize, n: usize, m: usize, way: AnyWay) -> Vec<u8> {
         let j = self.from(0, n - m);
         let notes: Vec<u8> = (0..m).map(|i| cells[(j + i) * tracks + self.from(0, tracks - 1)]).map(|c| c & 127).collect();
+        if way == AnyWay::Written && !self.one_in(4) {
+            return notes;
+        }
         let (low, high) = (*notes.iter().min().unwrap(), *notes.iter().max().unwrap());
         let to = self.from(0, 127 - usize::from(high - low)) as u8;
         notes.into_iter().map(|p| p - low + to).collect()
@@ -104,13 +108,13 @@ impl Random {
             _ => {
                 let n = call.cells.len().checked_div(call.tracks).unwrap_or(0);
                 call.bookmark.column = [0, 1, (n + 1) as u16, (n + 2) as u16, 65535][self.from(0, 4)];
-                call.bookmark.shift = [-32768, -128, -127, -1, 0, 11, 12, 13, 127, 128, 129, 32767][self.from(0, 11)];
+                call.bookmark.shift = [-32768, -128, -127, -1, 0, 1, 2, 11, 12, 13, 127, 128, 129, 32767][self.from(0, 13)];
             }
         }
     }
 }
 
-/// The three calls, each against the third finder. How many pairs the quick page has; none where it is refused.
+/// Each call that takes the way, against the third finder. How many pairs the last page has; none where it is refused.
 fn same(call: &Call) -> Option<usize> {
     let Call { cells, tracks, theme, way, bookmark, lent } = call;
     let mut sets = lent.sets.clone();
@@ -120,15 +124,16 @@ fn same(call: &Call) -> Option<usize> {
     let mut after = lent.clone();
     let answer = plain_page(cells, *tracks, theme, *way, *bookmark, &mut after.columns, &mut after.shifts);
     assert_eq!((answer, after), call.page(false), "plain {call:?}");
+    let AnyWay::Moved(way) = *way else { return answer.ok().map(|page| page.written) };
 
     let mut after = lent.clone();
     let Lent { sets, table, columns, shifts } = &mut after;
-    let answer = quick_page(cells, *tracks, theme, *way, *bookmark, sets, table, columns, shifts);
+    let answer = quick_page(cells, *tracks, theme, way, *bookmark, sets, table, columns, shifts);
     assert_eq!((answer, after), call.page(true), "quick {call:?}");
     answer.ok().map(|page| page.written)
 }
 
-/// Page after page, and the iterator: the whole list.
+/// Page after page, and the iterators: the whole list.
 fn same_list(call: &Call) {
     let Call { cells, tracks, theme, way, .. } = call;
     let mut whole = call.clone();
@@ -137,12 +142,18 @@ fn same_list(call: &Call) {
     whole.lent.columns = vec![0; room];
     whole.lent.shifts = vec![0; room];
     whole.lent.sets = whole.prepare().1;
-    let (page, lent) = whole.page(true);
+    let (page, lent) = whole.page(false);
     let list: Vec<_> = lent.columns.into_iter().zip(lent.shifts).take(page.unwrap().written).collect();
-    let mut all = pairs(cells, *tracks, theme, *way).unwrap();
+    let mut all = plain_pairs(cells, *tracks, theme, *way).unwrap();
     let given: Vec<_> = all.by_ref().map(|p| (p.column, p.shift)).collect();
     assert_eq!(given, list);
     assert_eq!(all.looks(), u64::from(page.unwrap().looks));
+    if let AnyWay::Moved(way) = *way {
+        let mut all = pairs(cells, *tracks, theme, way).unwrap();
+        let given: Vec<_> = all.by_ref().map(|p| (p.column, p.shift)).collect();
+        assert_eq!(given, list);
+        assert_eq!(all.looks(), u64::from(whole.page(true).0.unwrap().looks));
+    }
 
     let room = call.lent.columns.len().min(3);
     let (mut at, mut read) = (way.first(), Vec::new());
@@ -161,25 +172,27 @@ fn same_list(call: &Call) {
 #[test]
 fn short_scores() {
     let mut random = Random(0x9e37_79b9_7f4a_7c15);
-    let mut with_pairs = 0;
-    for _ in 0..20000 {
+    let (mut moved, mut written) = (0, 0);
+    for _ in 0..30000 {
         let call = random.call(4, 12, 6);
-        with_pairs += usize::from(same(&call).unwrap() > 0);
+        let with_pairs = if call.way == AnyWay::Written { &mut written } else { &mut moved };
+        *with_pairs += usize::from(same(&call).unwrap() > 0);
         same_list(&call);
     }
-    assert!(with_pairs > 4000, "only {with_pairs} pages have pairs");
+    assert!(moved > 4000 && written > 1000, "only {moved} pages of moved tunes have pairs, and {written} of written ones");
 }
 
 #[test]
 fn scores_within_all_limits() {
     let mut random = Random(0x1234_5678_9abc_def1);
-    let mut with_pairs = 0;
-    for _ in 0..1000 {
+    let (mut moved, mut written) = (0, 0);
+    for _ in 0..1500 {
         let call = random.call(16, 150, 32);
-        with_pairs += usize::from(same(&call).unwrap() > 0);
+        let with_pairs = if call.way == AnyWay::Written { &mut written } else { &mut moved };
+        *with_pairs += usize::from(same(&call).unwrap() > 0);
         same_list(&call);
     }
-    assert!(with_pairs > 250, "only {with_pairs} pages have pairs");
+    assert!(moved > 250 && written > 50, "only {moved} pages of moved tunes have pairs, and {written} of written ones");
 }
 
 #[test]
@@ -191,7 +204,7 @@ fn longest_scores() {
             let (tracks, n) = ([1, 3, 16][round % 9 / 3], 2048);
             call.tracks = tracks;
             call.cells = random.bytes(n * tracks, 40, 9);
-            call.theme = random.picked(&call.cells.clone(), tracks, n, 32.min(2 + round));
+            call.theme = random.picked(&call.cells, tracks, n, 32.min(2 + round), call.way);
             call.lent.sets = vec![0; n - 1];
             call.lent.sets = call.prepare().1;
         }

@@ -1,6 +1,8 @@
 //! The worked examples: pages to try by hand, and the limits.
 
-use finder::{pairs, plain_page, prepare, quick_page, Bookmark, Page, Pair, Refusal, Way, TABLE_LEN};
+use finder::{
+    pairs, plain_page, plain_pairs, prepare, quick_page, AnyWay, Bookmark, Page, Pair, Refusal, Way, TABLE_LEN,
+};
 
 /// Five columns of two tracks.
 const K: [u8; 10] = [60, 67, 62, 69, 64, 255, 65, 72, 255, 67];
@@ -11,18 +13,20 @@ fn sets_of(cells: &[u8], tracks: usize) -> Vec<u16> {
     sets
 }
 
-/// The pages of a list, with the pairs of each, by room.
-fn pages(quick: bool, cells: &[u8], tracks: usize, theme: &[u8], way: Way, room: usize) -> Vec<(Vec<(u16, i16)>, Page)> {
-    let sets = sets_of(cells, tracks);
-    let mut at = way.first();
+/// A page, with its pairs.
+type Turned = (Vec<(u16, i16)>, Page);
+
+/// The pages of a list from its first bookmark on, each in buffers of so much room.
+fn pages(
+    first: Bookmark,
+    room: usize,
+    call: impl Fn(Bookmark, &mut [u16], &mut [i16]) -> Result<Page, Refusal>,
+) -> Vec<Turned> {
+    let mut at = first;
     let mut turned = Vec::new();
     loop {
         let (mut columns, mut shifts) = (vec![9999; room], vec![9999; room]);
-        let page = if quick {
-            quick_page(cells, tracks, theme, way, at, &sets, &mut [5; TABLE_LEN], &mut columns, &mut shifts).unwrap()
-        } else {
-            plain_page(cells, tracks, theme, way, at, &mut columns, &mut shifts).unwrap()
-        };
+        let page = call(at, &mut columns, &mut shifts).unwrap();
         assert!(columns[page.written..].iter().all(|c| *c == 9999) && shifts[page.written..].iter().all(|c| *c == 9999));
         turned.push((columns.into_iter().zip(shifts).take(page.written).collect(), page));
         at = page.next;
@@ -32,16 +36,41 @@ fn pages(quick: bool, cells: &[u8], tracks: usize, theme: &[u8], way: Way, room:
     }
 }
 
-/// The whole list, which both ways of searching give, with the looks of each.
+fn plain_pages(cells: &[u8], tracks: usize, theme: &[u8], way: impl Into<AnyWay>, room: usize) -> Vec<Turned> {
+    let way = way.into();
+    pages(way.first(), room, |at, columns, shifts| plain_page(cells, tracks, theme, way, at, columns, shifts))
+}
+
+fn quick_pages(cells: &[u8], tracks: usize, theme: &[u8], way: Way, room: usize) -> Vec<Turned> {
+    let sets = sets_of(cells, tracks);
+    pages(way.first(), room, |at, columns, shifts| {
+        quick_page(cells, tracks, theme, way, at, &sets, &mut [5; TABLE_LEN], columns, shifts)
+    })
+}
+
+/// The whole list, which both searches give, with the looks of each.
 fn list(cells: &[u8], tracks: usize, theme: &[u8], way: Way) -> (Vec<(u16, i16)>, u32, u32) {
-    let mut plain = pages(false, cells, tracks, theme, way, 1000);
-    let mut quick = pages(true, cells, tracks, theme, way, 1000);
+    let mut plain = plain_pages(cells, tracks, theme, way, 1000);
+    let mut quick = quick_pages(cells, tracks, theme, way, 1000);
     assert_eq!((plain.len(), quick.len()), (1, 1));
     let ((found, p), (also, q)) = (plain.remove(0), quick.remove(0));
     assert_eq!(found, also);
     let all: Vec<_> = pairs(cells, tracks, theme, way).unwrap().map(|p| (p.column, p.shift)).collect();
     assert_eq!(found, all);
     (found, p.looks, q.looks)
+}
+
+/// The whole list of the tune in its own key, which takes no looks.
+fn written_list(cells: &[u8], tracks: usize, theme: &[u8]) -> Vec<(u16, i16)> {
+    let mut turned = plain_pages(cells, tracks, theme, AnyWay::Written, 1000);
+    assert_eq!((turned.len(), turned[0].1.looks), (1, 0));
+    let all: Vec<_> = plain_pairs(cells, tracks, theme, AnyWay::Written).unwrap().map(|p| (p.column, p.shift)).collect();
+    assert_eq!(turned[0].0, all);
+    turned.remove(0).0
+}
+
+fn page(written: usize, column: u16, shift: i16, finished: bool, looks: u32) -> Page {
+    Page { written, next: Bookmark { column, shift }, finished, looks }
 }
 
 #[test]
@@ -61,13 +90,48 @@ fn lists_of_k() {
 
 #[test]
 fn pages_of_k() {
-    let turned = pages(false, &K, 2, &[67, 62], Way::Exact, 2);
-    let page = |written, column, shift, finished, looks| Page { written, next: Bookmark { column, shift }, finished, looks };
+    let turned = plain_pages(&K, 2, &[67, 62], Way::Exact, 2);
     assert_eq!(turned, [(vec![(1, 0), (2, 2)], page(2, 2, 3, false, 4)), (vec![(4, 5)], page(1, 6, -127, true, 3))]);
-    let turned = pages(false, &K, 2, &[67, 62], Way::Exact, 3);
+    let turned = plain_pages(&K, 2, &[67, 62], Way::Exact, 3);
     assert_eq!((turned.len(), turned[0].0.len()), (2, 3));
     assert_eq!((turned[0].1.next, turned[0].1.finished), (Bookmark { column: 4, shift: 6 }, false));
     assert_eq!((turned[1].0.len(), turned[1].1.finished), (0, true));
+}
+
+#[test]
+fn lists_of_k_in_its_own_key() {
+    assert_eq!(written_list(&K, 2, &[60, 62, 64]), [(1, 0)]);
+    assert_eq!(written_list(&K, 2, &[67, 62]), [(1, 0)]);
+    assert_eq!(written_list(&K, 2, &[62, 64, 65]), [(2, 0)]);
+    // these stand in K only when they are moved
+    assert_eq!(written_list(&K, 2, &[61, 63, 65]), []);
+    assert_eq!(written_list(&K, 2, &[60, 67, 69]), []);
+}
+
+#[test]
+fn pages_of_k_in_its_own_key() {
+    let turned = plain_pages(&K, 2, &[67, 62], AnyWay::Written, 1);
+    assert_eq!(turned, [(vec![(1, 0)], page(1, 1, 1, false, 0)), (vec![], page(0, 6, 0, true, 0))]);
+    let turned = plain_pages(&K, 2, &[67, 62], AnyWay::Written, 2);
+    assert_eq!(turned, [(vec![(1, 0)], page(1, 6, 0, true, 0))]);
+}
+
+#[test]
+fn bookmarks_of_a_tune_in_its_own_key() {
+    let turn = |column, shift| {
+        let (mut columns, mut shifts) = ([9999; 2], [9999; 2]);
+        let bookmark = Bookmark { column, shift };
+        let answer = plain_page(&K, 2, &[67, 62], AnyWay::Written, bookmark, &mut columns, &mut shifts);
+        (answer, columns[0])
+    };
+    let refused = (Err(Refusal { number: 10, place: 0 }), 9999);
+    assert_eq!(turn(1, -1), refused);
+    assert_eq!(turn(1, 0), (Ok(page(1, 6, 0, true, 0)), 1));
+    assert_eq!(turn(1, 1), (Ok(page(0, 6, 0, true, 0)), 9999));
+    assert_eq!(turn(1, 2), refused);
+    assert_eq!(turn(0, 0), refused);
+    assert_eq!(turn(6, 1), (Ok(page(0, 6, 0, true, 0)), 9999));
+    assert_eq!(turn(7, 0), refused);
 }
 
 #[test]
@@ -77,6 +141,9 @@ fn one_track() {
     assert_eq!(list(&[120, 0], 1, &[0, 12], Way::Exact).0, []);
     assert_eq!(list(&[120, 0], 1, &[0, 12], Way::Octave).0, [(1, 0)]);
     assert_eq!(list(&[60, 255, 62], 1, &[60, 62], Way::Exact).0, []);
+    assert_eq!(written_list(&[0, 127, 0, 127], 1, &[0, 127]), [(1, 0), (3, 0)]);
+    assert_eq!(written_list(&[60, 255, 62], 1, &[60, 62]), []);
+    assert_eq!(written_list(&[60; 40], 1, &[60; 32]), (1..=9).map(|j| (j, 0)).collect::<Vec<_>>());
     assert_eq!(sets_of(&[60, 255, 62], 1), [4095, 4095]);
 }
 
@@ -114,6 +181,11 @@ fn iterator_goes_on_over_pages() {
         assert_eq!(all.next(), Some(Pair { column, shift: 60 }));
     }
     assert_eq!((all.next(), all.next(), all.looks()), (None, None, 2047));
+    let mut all = plain_pairs(&cells, 1, &[60, 60], AnyWay::Written).unwrap();
+    for column in 1..=2047 {
+        assert_eq!(all.next(), Some(Pair { column, shift: 0 }));
+    }
+    assert_eq!((all.next(), all.next(), all.looks()), (None, None, 0));
 }
 
 #[test]

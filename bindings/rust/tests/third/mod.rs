@@ -1,7 +1,7 @@
 //! A third finder, in plain Rust, straight from the definition: no codes, no register, no table but the one that is asked
 //! for. It shares nothing with the library, and is as slow as the definition reads.
 
-use finder::{Bookmark, Page, Refusal, Way};
+use finder::{AnyWay, Bookmark, Page, Refusal, Way};
 
 /// A call's lent buffers, before and after.
 #[derive(Clone, PartialEq, Eq, Debug)]
@@ -17,7 +17,7 @@ pub struct Call {
     pub cells: Vec<u8>,
     pub tracks: usize,
     pub theme: Vec<u8>,
-    pub way: Way,
+    pub way: AnyWay,
     pub bookmark: Bookmark,
     pub lent: Lent,
 }
@@ -63,15 +63,21 @@ impl Call {
         if self.lent.columns.is_empty() || self.lent.columns.len() != self.lent.shifts.len() {
             return refuse(9, 0);
         }
-        let shifts = match self.way {
-            Way::Exact => -127..=128,
-            Way::Octave => 0..=12,
-        };
+        let (lowest, highest) = self.shifts();
         let b = self.bookmark;
-        if b.column == 0 || usize::from(b.column) > self.n() + 1 || !shifts.contains(&b.shift) {
+        if b.column == 0 || usize::from(b.column) > self.n() + 1 || !(lowest..=highest + 1).contains(&b.shift.into()) {
             return refuse(10, 0);
         }
         Ok(())
+    }
+
+    /// The lowest and the highest shift of the way.
+    fn shifts(&self) -> (i32, i32) {
+        match self.way {
+            AnyWay::Moved(Way::Exact) => (-127, 127),
+            AnyWay::Moved(Way::Octave) => (0, 11),
+            AnyWay::Written => (0, 0),
+        }
     }
 
     /// Preparation: the answer, and the sets after it.
@@ -116,10 +122,9 @@ impl Call {
             }
         }
         let room = lent.columns.len();
-        let (lowest, highest) = match self.way {
-            Way::Exact => (-127, 127),
-            Way::Octave => (0, 11),
-        };
+        let (lowest, highest) = self.shifts();
+        // the tune as it is written takes no looks
+        let cost = u32::from(self.way != AnyWay::Written);
         let (mut written, mut looks) = (0, 0);
         for j in 1..=(self.n() + 1).saturating_sub(self.theme.len()) {
             if quick && !(0..self.theme.len() - 1).all(|i| self.lent.sets[j - 1 + i] >> self.interval(i) & 1 == 0) {
@@ -131,7 +136,7 @@ impl Call {
                 }
                 let mut hit = true;
                 for i in 1..self.theme.len() {
-                    looks += 1;
+                    looks += cost;
                     if !self.holds(j + i, i, c) {
                         hit = false;
                         break;
@@ -173,8 +178,8 @@ impl Call {
     fn holds(&self, k: usize, i: usize, c: i32) -> bool {
         let p = i32::from(self.theme[i]);
         self.column(k).any(|t| match self.way {
-            Way::Exact => t == p + c,
-            Way::Octave => (t - p - c) % 12 == 0,
+            AnyWay::Moved(Way::Exact) | AnyWay::Written => t == p + c,
+            AnyWay::Moved(Way::Octave) => (t - p - c) % 12 == 0,
         })
     }
 }
