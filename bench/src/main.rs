@@ -6,7 +6,7 @@
 
 mod rust_finder;
 
-use finder::{Page, Refusal, Way, TABLE_LEN};
+use finder::{AnyWay, Page, Refusal, Way, TABLE_LEN};
 use rust_finder::{Bits, Direct};
 use std::hint::black_box;
 
@@ -33,12 +33,13 @@ impl Random {
     }
 }
 
-/// As many scores as make 2,048 columns, each with a theme that stands in it, and what a call is lent.
-struct Input {
+/// As many scores as make 2,048 columns, each with a theme that stands in it, and what a call is lent. The way is a `Way`,
+/// or an `AnyWay` for what only the plain page takes.
+struct Input<W> {
     h: usize,
     m: usize,
     n: usize,
-    way: Way,
+    way: W,
     scores: Vec<Score>,
     lent: Lent,
 }
@@ -57,11 +58,11 @@ struct Lent {
 }
 
 /// A page call, by one of the finders.
-type Turn = fn(&Score, usize, Way, &mut Lent) -> Result<Page, Refusal>;
+type Turn<W> = fn(&Score, usize, W, &mut Lent) -> Result<Page, Refusal>;
 
 impl Score {
-    /// Pitches of four octaves, a rest in ten; the theme is picked from the text, from any tracks, and moved.
-    fn new(h: usize, m: usize, n: usize, random: &mut Random) -> Score {
+    /// Pitches of four octaves, a rest in ten; the theme is picked from the text, from any tracks, and moved up by so much.
+    fn new(h: usize, m: usize, n: usize, moved: u8, random: &mut Random) -> Score {
         let mut cells: Vec<u8> =
             (0..h * n).map(|_| if random.below(10) == 0 { 255 } else { 36 + random.below(49) as u8 }).collect();
         let j = random.below(n - m + 1);
@@ -71,7 +72,7 @@ impl Score {
             if *cell == 255 {
                 *cell = 60;
             }
-            theme.push(*cell + 7);
+            theme.push(*cell + moved);
         }
         let mut sets = vec![0; n - 1];
         finder::prepare(&cells, h, &mut sets).unwrap();
@@ -79,7 +80,8 @@ impl Score {
     }
 }
 
-fn lib_plain(s: &Score, h: usize, way: Way, lent: &mut Lent) -> Result<Page, Refusal> {
+fn lib_plain(s: &Score, h: usize, way: impl Into<AnyWay>, lent: &mut Lent) -> Result<Page, Refusal> {
+    let way = way.into();
     finder::plain_page(&s.cells, h, &s.theme, way, way.first(), &mut lent.columns, &mut lent.shifts)
 }
 
@@ -103,32 +105,41 @@ fn rust_quick<'a, C: rust_finder::Check<'a>>(s: &'a Score, h: usize, way: Way, l
     rust_finder::quick_page::<C>(&s.cells, h, &s.theme, way, way.first(), &s.sets, table, columns, shifts)
 }
 
-impl Input {
-    fn new(h: usize, m: usize, n: usize, way: Way, random: &mut Random) -> Input {
-        let scores = (0..TOTAL / n).map(|_| Score::new(h, m, n, random)).collect();
+fn rust_written(s: &Score, h: usize, way: AnyWay, lent: &mut Lent) -> Result<Page, Refusal> {
+    rust_finder::written_page(&s.cells, h, &s.theme, way.first(), &mut lent.columns, &mut lent.shifts)
+}
+
+impl<W: Copy> Input<W> {
+    fn new(h: usize, m: usize, n: usize, way: W, moved: u8, random: &mut Random) -> Input<W> {
+        let scores = (0..TOTAL / n).map(|_| Score::new(h, m, n, moved, random)).collect();
         // room for every pair, so that a page is the whole list
         let room = n * 17;
         Input { h, m, n, way, scores, lent: Lent { table: vec![0; TABLE_LEN], columns: vec![0; room], shifts: vec![0; room] } }
     }
 
-    fn each(&mut self, call: impl Fn(&Score, usize, Way, &mut Lent)) {
+    fn each(&mut self, call: impl Fn(&Score, usize, W, &mut Lent)) {
         for score in &self.scores {
             call(score, self.h, self.way, &mut self.lent);
         }
     }
 
+    /// A page, and the lent buffers after it.
+    fn left(&self, score: &Score, turn: Turn<W>) -> (Page, Lent) {
+        let mut lent = self.lent.clone();
+        lent.columns.fill(9);
+        lent.shifts.fill(9);
+        let page = turn(score, self.h, self.way, &mut lent).unwrap();
+        assert!(page.written > 0 && page.finished);
+        (page, lent)
+    }
+}
+
+impl Input<Way> {
     /// The same answers, and the same contents of every lent buffer.
     fn compare(&self) -> (u64, u64) {
         let mut looks = (0, 0);
         for score in &self.scores {
-            let left = |turn: Turn| {
-                let mut lent = self.lent.clone();
-                lent.columns.fill(9);
-                lent.shifts.fill(9);
-                let page = turn(score, self.h, self.way, &mut lent).unwrap();
-                assert!(page.written > 0 && page.finished);
-                (page, lent)
-            };
+            let left = |turn: Turn<Way>| self.left(score, turn);
             let (plain, quick) = (left(lib_plain), left(lib_quick));
             assert_eq!((&quick.1.columns, &quick.1.shifts), (&plain.1.columns, &plain.1.shifts));
             assert!(plain == left(|s, h, way, lent| rust_plain::<Direct>(s, h, way, lent)));
@@ -141,6 +152,15 @@ impl Input {
             looks = (looks.0 + u64::from(plain.0.looks), looks.1 + u64::from(quick.0.looks));
         }
         looks
+    }
+}
+
+impl Input<AnyWay> {
+    /// The same answers, and the same contents of every lent buffer.
+    fn compare(&self) {
+        for score in &self.scores {
+            assert!(self.left(score, lib_plain) == self.left(score, rust_written));
+        }
     }
 }
 
@@ -162,7 +182,7 @@ fn now() -> u64 {
 }
 
 /// The median time of each call, in nanoseconds: the calls are sampled in turn.
-fn medians<const N: usize>(input: &mut Input, calls: [fn(&mut Input); N]) -> [f64; N] {
+fn medians<W, const N: usize>(input: &mut Input<W>, calls: [fn(&mut Input<W>); N]) -> [f64; N] {
     let batches = calls.map(|call| {
         let mut calls = 1;
         loop {
@@ -207,7 +227,7 @@ impl Ratios {
 }
 
 /// The calls that are timed, in order, each on all scores of the input.
-const CALLS: [fn(&mut Input); 10] = [
+const CALLS: [fn(&mut Input<Way>); 10] = [
     |i| prepare(i, |s, h, sets| finder::prepare(&s.cells, h, sets)),
     |i| prepare(i, |s, h, sets| rust_finder::prepare(&s.cells, h, sets)),
     |i| i.each(|s, h, way, lent| keep(lib_plain(s, h, way, lent))),
@@ -220,11 +240,17 @@ const CALLS: [fn(&mut Input); 10] = [
     |i| i.each(|s, _, _, lent| rust_finder::fill(black_box(&s.theme), &mut lent.table)),
 ];
 
+/// The same for the tune in its own key.
+const WRITTEN_CALLS: [fn(&mut Input<AnyWay>); 2] = [
+    |i| i.each(|s, h, way, lent| keep(lib_plain(s, h, way, lent))),
+    |i| i.each(|s, h, way, lent| keep(rust_written(s, h, way, lent))),
+];
+
 fn keep<T>(answer: T) {
     let _ = black_box(answer);
 }
 
-fn prepare(i: &mut Input, call: impl Fn(&Score, usize, &mut [u16]) -> Result<(), Refusal>) {
+fn prepare(i: &mut Input<Way>, call: impl Fn(&Score, usize, &mut [u16]) -> Result<(), Refusal>) {
     let to = &mut i.lent.columns[..i.n - 1];
     for score in &i.scores {
         keep(call(score, i.h, to));
@@ -260,11 +286,21 @@ fn main() {
         for h in TRACKS {
             for m in NOTES {
                 for n in COLUMNS {
-                    let mut input = Input::new(h, m, n, way, &mut random);
+                    let mut input = Input::new(h, m, n, way, 7, &mut random);
                     let looks = input.compare();
                     let way = if way == Way::Exact { "exact" } else { "octave" };
                     rows.push(Row { way, h: input.h, m: input.m, n: input.n, looks, t: medians(&mut input, CALLS) });
                 }
+            }
+        }
+    }
+    let mut written = Vec::new();
+    for h in TRACKS {
+        for m in NOTES {
+            for n in COLUMNS {
+                let mut input = Input::new(h, m, n, AnyWay::Written, 0, &mut random);
+                input.compare();
+                written.push((h, m, n, medians(&mut input, WRITTEN_CALLS)));
             }
         }
     }
@@ -287,13 +323,23 @@ fn main() {
         );
     }
 
-    println!("\nRatios, library by Rust, over the {} inputs; the target is at most 1.25.\n", rows.len());
+    println!("\nThe tune in its own key, a plain page, in the same units.\n");
+    println!("| h | m | n | lib | rust | x |\n|--:|--:|--:|--:|--:|--:|");
+    let mut own_key = Ratios::default();
+    for (h, m, n, [lib, rust]) in &written {
+        let c = |time: &f64| time / TOTAL as f64;
+        println!("| {h} | {m} | {n} | {:.2} | {:.2} | {:.2} |", c(lib), c(rust), own_key.add(lib / rust));
+    }
+
+    let (moved, own) = (rows.len(), written.len());
+    println!("\nRatios, library by Rust, over the {moved} inputs, for written over its {own}; the target is at most 1.25.\n");
     println!("| | least | median | geometric mean | most | over 1.25 |\n|---|--:|--:|--:|--:|--:|");
     prepared.say("prepare");
     plain_direct.say("plain page, direct Rust");
     plain_bits.say("plain page, bit-parallel Rust");
     quick_direct.say("quick page without the fill, direct Rust");
     quick_bits.say("quick page without the fill, bit-parallel Rust");
+    own_key.say("plain page, written");
     gain.say("quick without the fill by plain (no target)");
 
     println!("\nThe theme table's fill, nanoseconds a call, whatever the score: medians over the inputs.\n");

@@ -4,8 +4,10 @@
 //! `Direct` goes from start to start and looks for each note among a column's cells, as the library does. `Bits` takes
 //! all starts of a column at once: a column's pitches are the bits of one word, a note moves the word, and what is left
 //! after an `and` are the starts that still follow. The looks are then counted by bits.
+//!
+//! The tune in its own key has a page of its own, by a word for each byte and a register.
 
-use finder::{Bookmark, Page, Refusal, Way};
+use finder::{AnyWay, Bookmark, Page, Refusal, Way};
 
 type Answer = Result<Page, Refusal>;
 
@@ -68,13 +70,14 @@ fn check_sets(sets: &[u16], n: usize) -> Result<(), Refusal> {
     Ok(())
 }
 
-fn check_page(way: Way, n: usize, b: Bookmark, columns: usize, shifts: usize) -> Result<(), Refusal> {
+fn check_page(way: AnyWay, n: usize, b: Bookmark, columns: usize, shifts: usize) -> Result<(), Refusal> {
     if columns == 0 || columns != shifts {
         return refuse(9, 0);
     }
     let range = match way {
-        Way::Exact => -127..=128,
-        Way::Octave => 0..=12,
+        AnyWay::Moved(Way::Exact) => -127..=128,
+        AnyWay::Moved(Way::Octave) => 0..=12,
+        AnyWay::Written => 0..=1,
     };
     if b.column == 0 || usize::from(b.column) > n + 1 || !range.contains(&b.shift) {
         return refuse(10, 0);
@@ -162,7 +165,7 @@ impl Out<'_> {
         self.found == self.columns.len()
     }
 
-    fn page(&self, way: Way, n: usize) -> Page {
+    fn page(&self, way: AnyWay, n: usize) -> Page {
         let full = self.found == self.columns.len();
         let next = if full {
             Bookmark { column: self.columns[self.found - 1], shift: self.shifts[self.found - 1] + 1 }
@@ -231,10 +234,10 @@ pub fn plain_page<'a, C: Check<'a>>(
 ) -> Answer {
     let n = check_score(cells, tracks)?;
     check_theme(theme)?;
-    check_page(way, n, b, columns.len(), shifts.len())?;
+    check_page(way.into(), n, b, columns.len(), shifts.len())?;
     let mut out = Out { columns, shifts, found: 0, looks: 0 };
     plain_walk(C::new(cells, tracks, theme, way), n, theme.len(), b, i32::from(way.first().shift), &mut out);
-    Ok(out.page(way, n))
+    Ok(out.page(way.into(), n))
 }
 
 #[allow(clippy::too_many_arguments)]
@@ -253,11 +256,11 @@ pub fn quick_page<'a, C: Check<'a>>(
     check_theme(theme)?;
     check_sets(sets, n)?;
     let Ok(table) = <&mut [u32; 4096]>::try_from(table) else { return refuse(8, 0) };
-    check_page(way, n, b, columns.len(), shifts.len())?;
+    check_page(way.into(), n, b, columns.len(), shifts.len())?;
     fill(theme, table);
     let mut out = Out { columns, shifts, found: 0, looks: 0 };
     quick_walk(C::new(cells, tracks, theme, way), sets, table, n, theme.len(), b, i32::from(way.first().shift), &mut out);
-    Ok(out.page(way, n))
+    Ok(out.page(way.into(), n))
 }
 
 // ---- the direct check
@@ -435,4 +438,42 @@ impl Bits<'_> {
         out.looks += self.follow(j, starts & (u128::MAX >> (127 - last)), moved).1;
         true
     }
+}
+
+// ---- the tune in its own key
+
+/// For each byte a word with bit i at 0 where it is note i, counted from 0; a rest is none.
+fn words(theme: &[u8]) -> [u32; 256] {
+    let mut words = [!0; 256];
+    for (i, p) in theme.iter().enumerate() {
+        words[usize::from(*p)] &= !(1 << i);
+    }
+    words
+}
+
+pub fn written_page(
+    cells: &[u8],
+    tracks: usize,
+    theme: &[u8],
+    b: Bookmark,
+    columns: &mut [u16],
+    shifts: &mut [i16],
+) -> Answer {
+    let n = check_score(cells, tracks)?;
+    check_theme(theme)?;
+    check_page(AnyWay::Written, n, b, columns.len(), shifts.len())?;
+    let words = words(theme);
+    let mut out = Out { columns, shifts, found: 0, looks: 0 };
+    // a shift above 0 is behind all pairs of its column
+    let passed = usize::from(b.column) - usize::from(b.shift == 0);
+    let left = cells.get(passed * tracks..).unwrap_or(&[]);
+    let mut register = !0u32;
+    for (at, column) in left.chunks_exact(tracks).enumerate() {
+        let word = column.iter().fold(!0, |word, c| word & words[usize::from(*c)]);
+        register = register << 1 | word;
+        if register >> (theme.len() - 1) & 1 == 0 && out.put(passed + at + 2 - theme.len(), 0) {
+            break;
+        }
+    }
+    Ok(out.page(AnyWay::Written, n))
 }
