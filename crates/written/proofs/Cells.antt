@@ -139,6 +139,11 @@ made-end {theme} m e = record { long = m .long; each = λ cell h. rw e at (m .ea
 
 -- ---- a column that is looked up cell by cell
 
+pub looked-first : {theme words : List ℕ} → Words theme words → (column : List ℕ) → 1 ≤ length column → getD column 0 0 < bytes
+    → getD words (getD column 0 0) 0 ≡ cellsWord wordBits theme (take 1 column)
+looked-first t [] h b = absurd (omega arith)
+looked-first t (c ∷ column) h b = t .each c b
+
 module _ {theme words : List ℕ} (t : Words theme words) (column : List ℕ) {i word : ℕ} (e : word ≡ cellsWord wordBits theme (take i column)) where
   pub looked-more : i < length column → getD column i 0 < bytes → bitAnd word (getD words (getD column i 0) 0) ≡ cellsWord wordBits theme (take (i + 1) column)
   looked-more h b =

@@ -16,7 +16,7 @@ ghost use Rattle.written.specs.Walk.{Walkable, ListsFrom};
 
 // The register after one column more, that after k others: it takes the word of its cells.
 fn taken(register: u32, cells: &[u8], h: usize, words: &[u32; BYTES], k: usize) -> u32
-    requires { ⌜ k * h + h ≤ length (now cells) ⌝ }
+    requires { ⌜ (k * h + h ≤ length (now cells)) × (1 ≤ h) ⌝ }
     ensures { λ r. ⌜ ((theme : List ℕ) → Words theme (now (words .entry)) → r ≡ Register.step wordBits register (wordAt wordBits (now (cells .entry)) h theme k)) ⌝ }
 {
     let base = k * h;

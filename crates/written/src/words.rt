@@ -28,10 +28,11 @@ pub fn words_of(theme: &[u8]) -> [u32; BYTES]
 
 // The words of a column's cells, and-ed: all ones where there are only rests.
 pub fn column_word(column: &[u8], words: &[u32; BYTES]) -> u32
+    requires { ⌜ 1 ≤ length (now column) ⌝ }
     ensures { λ r. ⌜ ((theme : List ℕ) → Words theme (now (words .entry)) → r ≡ cellsWord wordBits theme (now (column .entry))) ⌝ }
 {
-    let mut word: u32 = 0xffff_ffff;
-    let mut i = 0;
+    let mut word = words[column[0] as usize];
+    let mut i = 1;
     while i < column.len() {
         word = word & words[column[i] as usize];
         i += 1;

@@ -54,7 +54,7 @@ loop-holds : tie.Need-loop-holds Inv-loop μ-loop
 loop-holds c = along-start (c .before .before .before .before .pre .0)
 
 taken-requires : tie.Need-taken-requires Inv-loop μ-loop
-taken-requires c κs = column-part (start (c .before) .pre .0) (more c)
+taken-requires c κs = let w = start (c .before) .pre .0 in (column-part w (more c), w .tracks)
 
 add-k : tie.Need-add-k Inv-loop μ-loop
 add-k c = let t = c .before in omega (arith, more t, start (t .before) .pre .0 .columns-most)
