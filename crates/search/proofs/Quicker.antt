@@ -4,12 +4,11 @@ use mathlib.Core.Path.{_≡_, sym, ap, _∙_}
 use mathlib.Core.Bool.{Bool, true}
 use mathlib.Core.List.{List, _++_, map, List·Memᴰ as In}
 use Prim.Native.Nat.{ℕ, _-_, _≤_, _<_}
-use native.Mathlib.Decide.{decLt}
 use native.Mathlib.Omega.{arith}
-use lib.ListN.{length, getD, List·getD-eq-default}
-use borrow.Author.Tests.{ltb-false, le-ltb}
+use lib.ListN.{length, getD}
+use borrow.Author.Tests.{le-ltb}
 use Rattle.theory.specs.Pages.{hits}
-use Rattle.theory.proofs.Lists.{some-none, none-some}
+use Rattle.theory.proofs.Lists.{none-some, none-over}
 use Rattle.theory.proofs.Hits.{hits-map}
 use Rattle.score.specs.Limits.{highestPitch, highestSet, tableWords}
 use Rattle.score.specs.Score.{columnsIn, scoreOf}
@@ -24,7 +23,7 @@ use Rattle.ways.specs.declared.bookmark.Pair.{Pair}
 use Rattle.ways.specs.declared.bookmark.Bookmark.{Bookmark}
 use Rattle.ways.specs.Way.{rangeOf}
 use Rattle.asking.specs.Limits.{mostNotes}
-use Rattle.asking.specs.Refusals.{badNote, requestRows, setsRows, pageRows}
+use Rattle.asking.specs.Refusals.{requestRows, setsRows, pageRows}
 use Rattle.asking.specs.Asking.{Accepted, AcceptedSets}
 use Rattle.asking.proofs.Rows.{accepted-clear, sets-clear}
 use Rattle.filter.specs.Limits.{wordBits}
@@ -59,11 +58,7 @@ own-sets {cells} {h} =
     }
 
 note-le : {cells : List ℕ} {h : ℕ} {theme : List ℕ} → Accepted mostNotes cells h theme → (i : ℕ) → getD theme i 0 ≤ highestPitch
-note-le {theme = theme} a i = pick (decLt i (length theme))
-  where
-    pick : Dec (i < length theme) → getD theme i 0 ≤ highestPitch
-    pick (yes l) = ltb-false highestPitch (getD theme i 0) (some-none badNote theme 0 (a .notes-good) i l)
-    pick (no l) = let g : length theme ≤ i = omega arith in omega (arith, List·getD-eq-default theme 0 g)
+note-le {theme = theme} a i = none-over highestPitch theme (a .notes-good) i
 
 -- ---- what the candidates leave out is no hit
 

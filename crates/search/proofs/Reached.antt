@@ -3,7 +3,7 @@
 -- holds. Assumes nothing.
 use mathlib.Core.Path.{_≡_, refl, sym, ap, _∙_}
 use mathlib.Core.Bool.{Bool}
-use mathlib.Core.List.{List, [], _∷_, map, List·Memᴰ as In}
+use mathlib.Core.List.{List, map, List·Memᴰ as In}
 use Prim.Native.Nat.{ℕ, _≤_, _<_}
 use native.Mathlib.Omega.{arith}
 use lib.Dec.{leb}
@@ -12,6 +12,7 @@ use lib.ListN.{length, length-map}
 use Rattle.theory.specs.Lists.{over}
 use Rattle.theory.specs.Pages.{hits, pageHits, Rising, from}
 use Rattle.theory.proofs.Hits.{from-keys, hits-same}
+use Rattle.theory.proofs.Lists.{map-twice}
 use Rattle.theory.proofs.Members.{in-hits, rising-hits}
 use Rattle.ways.specs.declared.way.Way.{Way}
 use Rattle.ways.specs.declared.bookmark.Pair.{Pair}
@@ -51,11 +52,7 @@ module _ (way : Way) (score : List (List ℕ)) (theme : List ℕ) (b : Bookmark)
 
 -- ---- what is written
 
-map-map : {A B C : Type 0} (f : B → C) (g : A → B) (xs : List A) → map f (map g xs) ≡ map (λ x. f (g x)) xs
-map-map f g [] = refl
-map-map {C = C} f g (x ∷ xs) = ap (λ (l : List C). f (g x) ∷ l) (map-map f g xs)
-
 pub places-written : (way : Way) (places : List Place) (columns : List ℕ) (shifts : List ℤ)
     → lent (over columns (columnsOf places)) (over shifts (shiftsOf way places)) ≡ written (lent columns shifts) (map (pairAt way) places)
 places-written way places columns shifts =
-    rw (map-map (λ (p : Pair). p .column .0) (pairAt way) places, map-map (λ (p : Pair). p .shift) (pairAt way) places)
+    rw (map-twice (pairAt way) (λ (p : Pair). p .column .0) places, map-twice (pairAt way) (λ (p : Pair). p .shift) places)
