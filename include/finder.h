@@ -8,8 +8,9 @@
  * A score is `cells`, column after column, `tracks` cells a column, one per track. A cell 0 to 127 is a MIDI pitch and
  * 255 is a rest. There are 1 to 16 tracks and n = 1 to 2,048 columns, numbered from 1. A theme is 2 to 32 pitches.
  *
- * A pair (column, shift) says that the theme stands at that column with that shift: each note moved by the shift (score
- * minus theme) is in its column, whichever track has it.
+ * A pair (column, shift) says that the theme stands at that column with that shift: the columns with a pitch from that
+ * one on, itself the first, hold the notes moved by the shift (score minus theme), one after another, whichever track has
+ * each. Columns of rests only are passed over; all columns keep their numbers.
  *   way 0, exact:   shifts -127 to 127.
  *   way 1, octave:  shifts 0 to 11, octaves ignored.
  *   way 2, written: shift 0 alone, the tune in its own key. The pairs are those of exact with shift 0. The plain page
@@ -18,7 +19,8 @@
  *
  * A page call writes the first pairs at or after its bookmark (column, shift), as many as the buffers have places. The
  * first bookmark is (1, -127), for octave and written (1, 0). After a full page whose last pair is (j, c) the next bookmark
- * is (j, c + 1); after a finished list it is (n + 1, -127), for octave and written (n + 1, 0). `answer` has 5 places:
+ * is (j, c + 1); after a finished list it is (n + 1, -127), for octave and written (n + 1, 0). Where the bookmark's column
+ * has no pitch, its shift, any of the range, changes nothing. `answer` has 5 places:
  *   answer[0]  pairs written, from the front of `columns` and `shifts`; places behind them keep their contents
  *   answer[1]  next bookmark: column
  *   answer[2]  next bookmark: shift
@@ -69,7 +71,9 @@ enum {
 #define FINDER_NUMBER(result) ((int)((result) % 256))
 #define FINDER_PLACE(result) ((size_t)((result) / 256))
 
-/* Fills all n - 1 interval sets of the score. Refuses 1, 2, 3, 6. */
+/* Fills all n - 1 interval sets of the score. Bit d of set k, d = 0 to 11, is 0 where a pitch of the next column with a
+ * pitch after column k lies d semitones above one of column k, octaves ignored; all else is 1 up to bit 11, and 0 above. So
+ * the set is 4095 where column k has no pitch, or none follows. Refuses 1, 2, 3, 6. */
 int64_t finder_prepare(const uint8_t *cells, size_t cells_len, size_t tracks, uint16_t *sets, size_t sets_len);
 
 /* A page of the plain search, of any way. Refuses 1 to 5, 9, 10. */
@@ -79,8 +83,8 @@ int64_t finder_plain_page(const uint8_t *cells, size_t cells_len, size_t tracks,
                           int64_t *answer, size_t answer_len);
 
 /* A page of the quick search, exact or octave: with the score's own sets the same pairs, with no more looks. With sets of
- * another score, the pairs at the columns that those sets make candidates. The theme's table is left in `table`, whatever
- * it held. Refuses 1 to 10. */
+ * another score, the pairs at the columns that those sets make candidates; what the sets of columns without a pitch hold
+ * does not matter. The theme's table is left in `table`, whatever it held. Refuses 1 to 10. */
 int64_t finder_quick_page(const uint8_t *cells, size_t cells_len, size_t tracks,
                           const uint8_t *theme, size_t theme_len, uint8_t way, uint16_t column, int16_t shift,
                           const uint16_t *sets, size_t sets_len, uint32_t *table, size_t table_len,

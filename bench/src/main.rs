@@ -3,6 +3,9 @@
 //! Times are nanoseconds a column, of processor time. Each sample is a batch of calls, the library's and the Rust's in
 //! turn, so that a slow moment of the machine falls on both. The answers and every lent buffer are compared before
 //! anything is timed.
+//!
+//! There are two kinds of scores: those in which every column has a pitch, and those in which a tenth of the columns have
+//! none. `finder-bench full` times the first kind alone.
 
 mod rust_finder;
 
@@ -33,6 +36,15 @@ impl Random {
     }
 }
 
+/// What the scores of a measurement are like.
+#[derive(Clone, Copy, PartialEq)]
+enum Kind {
+    /// Every column has a pitch.
+    Full,
+    /// A tenth of the columns have none.
+    Gaps,
+}
+
 /// As many scores as make 2,048 columns, each with a theme that stands in it, and what a call is lent. The way is a `Way`,
 /// or an `AnyWay` for what only the plain page takes.
 struct Input<W> {
@@ -61,13 +73,28 @@ struct Lent {
 type Turn<W> = fn(&Score, usize, W, &mut Lent) -> Result<Page, Refusal>;
 
 impl Score {
-    /// Pitches of four octaves, a rest in ten; the theme is picked from the text, from any tracks, and moved up by so much.
-    fn new(h: usize, m: usize, n: usize, moved: u8, random: &mut Random) -> Score {
-        let mut cells: Vec<u8> =
-            (0..h * n).map(|_| if random.below(10) == 0 { 255 } else { 36 + random.below(49) as u8 }).collect();
-        let j = random.below(n - m + 1);
+    /// Pitches of four octaves, a rest in ten cells; a column that rests would leave empty gets a pitch. The theme is picked
+    /// from columns with a pitch, one after another, from any tracks, and moved up by so much.
+    fn new(kind: Kind, h: usize, m: usize, n: usize, moved: u8, random: &mut Random) -> Score {
+        let mut cells = vec![255; h * n];
+        let mut heard = Vec::new();
+        for (k, column) in cells.chunks_exact_mut(h).enumerate() {
+            if kind == Kind::Gaps && random.below(10) == 0 {
+                continue;
+            }
+            heard.push(k);
+            for cell in column.iter_mut() {
+                if random.below(10) > 0 {
+                    *cell = 36 + random.below(49) as u8;
+                }
+            }
+            if column.iter().all(|c| *c == 255) {
+                column[random.below(h)] = 36 + random.below(49) as u8;
+            }
+        }
+        let j = random.below(heard.len() - m + 1);
         let mut theme = Vec::new();
-        for k in j..j + m {
+        for k in &heard[j..j + m] {
             let cell = &mut cells[k * h + random.below(h)];
             if *cell == 255 {
                 *cell = 60;
@@ -110,8 +137,8 @@ fn rust_written(s: &Score, h: usize, way: AnyWay, lent: &mut Lent) -> Result<Pag
 }
 
 impl<W: Copy> Input<W> {
-    fn new(h: usize, m: usize, n: usize, way: W, moved: u8, random: &mut Random) -> Input<W> {
-        let scores = (0..TOTAL / n).map(|_| Score::new(h, m, n, moved, random)).collect();
+    fn new(kind: Kind, h: usize, m: usize, n: usize, way: W, moved: u8, random: &mut Random) -> Input<W> {
+        let scores = (0..TOTAL / n).map(|_| Score::new(kind, h, m, n, moved, random)).collect();
         // room for every pair, so that a page is the whole list
         let room = n * 17;
         Input { h, m, n, way, scores, lent: Lent { table: vec![0; TABLE_LEN], columns: vec![0; room], shifts: vec![0; room] } }
@@ -279,97 +306,169 @@ impl Row {
     }
 }
 
-fn main() {
-    let mut random = Random(0x5eed_0123_4567_89ab);
-    let mut rows = Vec::new();
-    for way in [Way::Exact, Way::Octave] {
-        for h in TRACKS {
-            for m in NOTES {
-                for n in COLUMNS {
-                    let mut input = Input::new(h, m, n, way, 7, &mut random);
-                    let looks = input.compare();
-                    let way = if way == Way::Exact { "exact" } else { "octave" };
-                    rows.push(Row { way, h: input.h, m: input.m, n: input.n, looks, t: medians(&mut input, CALLS) });
+/// All measurements of a kind of scores.
+struct Timed {
+    rows: Vec<Row>,
+    /// h, m, n, and nanoseconds for all scores, by `WRITTEN_CALLS`
+    written: Vec<(usize, usize, usize, [f64; 2])>,
+}
+
+impl Timed {
+    fn new(kind: Kind) -> Timed {
+        // the same scores in every run, whichever kinds it has
+        let mut random = Random(0x5eed_0123_4567_89ab);
+        let mut rows = Vec::new();
+        for way in [Way::Exact, Way::Octave] {
+            for h in TRACKS {
+                for m in NOTES {
+                    for n in COLUMNS {
+                        let mut input = Input::new(kind, h, m, n, way, 7, &mut random);
+                        let looks = input.compare();
+                        let way = if way == Way::Exact { "exact" } else { "octave" };
+                        rows.push(Row { way, h: input.h, m: input.m, n: input.n, looks, t: medians(&mut input, CALLS) });
+                    }
                 }
             }
         }
-    }
-    let mut written = Vec::new();
-    for h in TRACKS {
-        for m in NOTES {
-            for n in COLUMNS {
-                let mut input = Input::new(h, m, n, AnyWay::Written, 0, &mut random);
-                input.compare();
-                written.push((h, m, n, medians(&mut input, WRITTEN_CALLS)));
+        let mut written = Vec::new();
+        for h in TRACKS {
+            for m in NOTES {
+                for n in COLUMNS {
+                    let mut input = Input::new(kind, h, m, n, AnyWay::Written, 0, &mut random);
+                    input.compare();
+                    written.push((h, m, n, medians(&mut input, WRITTEN_CALLS)));
+                }
             }
+        }
+        Timed { rows, written }
+    }
+
+    /// The times of each call, and the library's by the Rust's. Beside other scores' times stands the library's by its own
+    /// for full scores.
+    fn say(&self, full: Option<&Timed>) {
+        let more = |head: &'static str| if full.is_some() { head } else { "" };
+        println!(
+            "Nanoseconds a column, medians of {ROUNDS} rounds. `lib` is the library, `rust`, `direct` and `bits` the Rust, `x` \
+             the library by that Rust{}.\n",
+            more(", `by full` the library by itself where every column has a pitch"),
+        );
+        println!(
+            "| way | h | m | n | prepare: lib | rust | x |{} plain: lib | direct | x | bits | x |{} \
+             quick, no fill: lib | direct | x | bits | x | quick by plain |{}",
+            more(" by full |"), more(" by full |"), more(" by full |"),
+        );
+        println!("|---|{}", "--:|".repeat(if full.is_some() { 20 } else { 17 }));
+        let c = |time: f64| time / TOTAL as f64;
+        let mut ratios: [Ratios; 11] = Default::default();
+        let [prepared, plain_direct, plain_bits, quick_direct, quick_bits, own_key, gain, by_full @ ..] = &mut ratios;
+        let [prepared_by_full, plain_by_full, quick_by_full, own_key_by_full] = by_full;
+        for (at, r) in self.rows.iter().enumerate() {
+            let (t, f) = (&r.t, full.map(|full| &full.rows[at]));
+            let (direct, bits) = (r.direct_quick(), r.bits_quick());
+            print!("| {} | {} | {} | {} |", r.way, r.h, r.m, r.n);
+            print!(" {:.2} | {:.2} | {:.2} |", c(t[0]), c(t[1]), prepared.add(t[0] / t[1]));
+            f.inspect(|f| print!(" {:.2} |", prepared_by_full.add(t[0] / f.t[0])));
+            print!(" {:.2} | {:.2} | {:.2} |", c(t[2]), c(t[3]), plain_direct.add(t[2] / t[3]));
+            print!(" {:.2} | {:.2} |", c(t[4]), plain_bits.add(t[2] / t[4]));
+            f.inspect(|f| print!(" {:.2} |", plain_by_full.add(t[2] / f.t[2])));
+            print!(" {:.2} | {:.2} | {:.2} |", c(r.lib_quick()), c(direct), quick_direct.add(r.lib_quick() / direct));
+            print!(" {:.2} | {:.2} |", c(bits), quick_bits.add(r.lib_quick() / bits));
+            print!(" {:.2} |", gain.add(r.lib_quick() / t[2]));
+            f.inspect(|f| print!(" {:.2} |", quick_by_full.add(r.lib_quick() / f.lib_quick())));
+            println!();
+        }
+
+        println!("\nThe tune in its own key, a plain page, in the same units.\n");
+        println!("| h | m | n | lib | rust | x |{}\n|--:|--:|--:|--:|--:|--:|{}", more(" by full |"), more("--:|"));
+        for (at, (h, m, n, [lib, rust])) in self.written.iter().enumerate() {
+            print!("| {h} | {m} | {n} | {:.2} | {:.2} | {:.2} |", c(*lib), c(*rust), own_key.add(lib / rust));
+            full.inspect(|full| print!(" {:.2} |", own_key_by_full.add(lib / full.written[at].3[0])));
+            println!();
+        }
+
+        let (moved, own) = (self.rows.len(), self.written.len());
+        println!(
+            "\nRatios, library by Rust, over the {moved} inputs, for written over its {own}; the target is at most 1.25{}.\n",
+            more("; then the library by itself where every column has a pitch"),
+        );
+        println!("| | least | median | geometric mean | most | over 1.25 |\n|---|--:|--:|--:|--:|--:|");
+        prepared.say("prepare");
+        plain_direct.say("plain page, direct Rust");
+        plain_bits.say("plain page, bit-parallel Rust");
+        quick_direct.say("quick page without the fill, direct Rust");
+        quick_bits.say("quick page without the fill, bit-parallel Rust");
+        own_key.say("plain page, written");
+        gain.say("quick without the fill by plain (no target)");
+        if full.is_some() {
+            prepared_by_full.say("prepare, by full scores");
+            plain_by_full.say("plain page, by full scores");
+            quick_by_full.say("quick page without the fill, by full scores");
+            own_key_by_full.say("plain page, written, by full scores");
         }
     }
 
-    println!("Nanoseconds a column, medians of {ROUNDS} rounds. `lib` is the library, `rust`, `direct` and `bits` the Rust, `x` the library by that Rust.\n");
-    println!("| way | h | m | n | prepare: lib | rust | x | plain: lib | direct | x | bits | x | quick, no fill: lib | direct | x | bits | x | quick by plain |");
-    println!("|---|--:|--:|--:|--:|--:|--:|--:|--:|--:|--:|--:|--:|--:|--:|--:|--:|--:|");
-    let mut ratios: [Ratios; 6] = Default::default();
-    let [prepared, plain_direct, plain_bits, quick_direct, quick_bits, gain] = &mut ratios;
-    for r in &rows {
-        let (t, c) = (&r.t, |time: f64| time / TOTAL as f64);
+    fn say_fill(&self) {
+        println!("\nThe theme table's fill, nanoseconds a call, whatever the score: medians over the inputs.\n");
+        println!("| m | lib | rust | x |\n|--:|--:|--:|--:|");
+        for m in NOTES {
+            let of = |k: usize| {
+                let rows = self.rows.iter().filter(|r| r.m == m);
+                let mut s: Vec<f64> = rows.map(|r| r.t[k] * r.n as f64 / TOTAL as f64).collect();
+                s.sort_by(f64::total_cmp);
+                s[s.len() / 2]
+            };
+            println!("| {m} | {:.0} | {:.0} | {:.2} |", of(6), of(9), of(6) / of(9));
+        }
+    }
+
+    fn say_growth(&self) {
         println!(
-            "| {} | {} | {} | {} | {:.1} | {:.1} | {:.2} | {:.1} | {:.1} | {:.2} | {:.1} | {:.2} | {:.1} | {:.1} | {:.2} | {:.1} | {:.2} | {:.2} |",
-            r.way, r.h, r.m, r.n,
-            c(t[0]), c(t[1]), prepared.add(t[0] / t[1]),
-            c(t[2]), c(t[3]), plain_direct.add(t[2] / t[3]), c(t[4]), plain_bits.add(t[2] / t[4]),
-            c(r.lib_quick()), c(r.direct_quick()), quick_direct.add(r.lib_quick() / r.direct_quick()),
-            c(r.bits_quick()), quick_bits.add(r.lib_quick() / r.bits_quick()),
-            gain.add(r.lib_quick() / t[2]),
+            "\nThe library's cost as n grows: nanoseconds at n = 64, 512 and 2,048, and the last by the first. Preparation for \
+             each column, pages for each of the n - m + 1 columns where the theme has room.\n"
         );
+        println!("| way | h | m | prepare | x | plain | x | quick, no fill | x |\n|---|--:|--:|--:|--:|--:|--:|--:|--:|");
+        for group in self.rows.chunks(COLUMNS.len()) {
+            let line = |f: &dyn Fn(&Row) -> f64, columns: &dyn Fn(&Row) -> usize| {
+                let v: Vec<f64> = group.iter().map(|r| f(r) / (TOTAL / r.n * columns(r)) as f64).collect();
+                format!("{:.1} {:.1} {:.1} | {:.2}", v[0], v[1], v[2], v[2] / v[0])
+            };
+            let room = |r: &Row| r.n - r.m + 1;
+            println!(
+                "| {} | {} | {} | {} | {} | {} |",
+                group[0].way, group[0].h, group[0].m,
+                line(&|r| r.t[0], &|r| r.n), line(&|r| r.t[2], &room), line(&Row::lib_quick, &room),
+            );
+        }
     }
 
-    println!("\nThe tune in its own key, a plain page, in the same units.\n");
-    println!("| h | m | n | lib | rust | x |\n|--:|--:|--:|--:|--:|--:|");
-    let mut own_key = Ratios::default();
-    for (h, m, n, [lib, rust]) in &written {
-        let c = |time: &f64| time / TOTAL as f64;
-        println!("| {h} | {m} | {n} | {:.2} | {:.2} | {:.2} |", c(lib), c(rust), own_key.add(lib / rust));
+    fn say_looks(&self) {
+        println!("\nLooks of the whole list at n = 2,048.\n\n| way | h | m | plain | quick |\n|---|--:|--:|--:|--:|");
+        for r in self.rows.iter().filter(|r| r.n == TOTAL) {
+            println!("| {} | {} | {} | {} | {} |", r.way, r.h, r.m, r.looks.0, r.looks.1);
+        }
     }
+}
 
-    let (moved, own) = (rows.len(), written.len());
-    println!("\nRatios, library by Rust, over the {moved} inputs, for written over its {own}; the target is at most 1.25.\n");
-    println!("| | least | median | geometric mean | most | over 1.25 |\n|---|--:|--:|--:|--:|--:|");
-    prepared.say("prepare");
-    plain_direct.say("plain page, direct Rust");
-    plain_bits.say("plain page, bit-parallel Rust");
-    quick_direct.say("quick page without the fill, direct Rust");
-    quick_bits.say("quick page without the fill, bit-parallel Rust");
-    own_key.say("plain page, written");
-    gain.say("quick without the fill by plain (no target)");
-
-    println!("\nThe theme table's fill, nanoseconds a call, whatever the score: medians over the inputs.\n");
-    println!("| m | lib | rust | x |\n|--:|--:|--:|--:|");
-    for m in NOTES {
-        let of = |k: usize| {
-            let mut s: Vec<f64> = rows.iter().filter(|r| r.m == m).map(|r| r.t[k] * r.n as f64 / TOTAL as f64).collect();
-            s.sort_by(f64::total_cmp);
-            s[s.len() / 2]
-        };
-        println!("| {m} | {:.0} | {:.0} | {:.2} |", of(6), of(9), of(6) / of(9));
-    }
-
-    println!("\nThe library's cost as n grows: nanoseconds at n = 64, 512 and 2,048, and the last by the first. Preparation for each column, pages for each of the n - m + 1 columns where the theme has room.\n");
-    println!("| way | h | m | prepare | x | plain | x | quick, no fill | x |\n|---|--:|--:|--:|--:|--:|--:|--:|--:|");
-    for group in rows.chunks(COLUMNS.len()) {
-        let line = |f: &dyn Fn(&Row) -> f64, columns: &dyn Fn(&Row) -> usize| {
-            let v: Vec<f64> = group.iter().map(|r| f(r) / (TOTAL / r.n * columns(r)) as f64).collect();
-            format!("{:.1} {:.1} {:.1} | {:.2}", v[0], v[1], v[2], v[2] / v[0])
-        };
-        let room = |r: &Row| r.n - r.m + 1;
-        println!(
-            "| {} | {} | {} | {} | {} | {} |",
-            group[0].way, group[0].h, group[0].m,
-            line(&|r| r.t[0], &|r| r.n), line(&|r| r.t[2], &room), line(&Row::lib_quick, &room),
-        );
-    }
-
-    println!("\nLooks of the whole list at n = 2,048.\n\n| way | h | m | plain | quick |\n|---|--:|--:|--:|--:|");
-    for r in rows.iter().filter(|r| r.n == TOTAL) {
-        println!("| {} | {} | {} | {} | {} |", r.way, r.h, r.m, r.looks.0, r.looks.1);
+fn main() {
+    let args: Vec<String> = std::env::args().skip(1).collect();
+    let with_gaps = match args.iter().map(String::as_str).collect::<Vec<_>>()[..] {
+        [] => true,
+        ["full"] => false,
+        _ => {
+            eprintln!("finder-bench [full]: times scores without and with empty columns, or those without alone");
+            std::process::exit(2);
+        }
+    };
+    println!("## Scores in which every column has a pitch\n");
+    let full = Timed::new(Kind::Full);
+    full.say(None);
+    full.say_fill();
+    full.say_growth();
+    full.say_looks();
+    if with_gaps {
+        println!("\n## Scores in which a tenth of the columns have none\n");
+        let gaps = Timed::new(Kind::Gaps);
+        gaps.say(Some(&full));
+        gaps.say_looks();
     }
 }

@@ -6,8 +6,12 @@
 //! after an `and` are the starts that still follow. The looks are then counted by bits.
 //!
 //! The tune in its own key has a page of its own, by a word for each byte and a register.
+//!
+//! A column without a pitch is passed over. A score in which there is none is walked along as it stands; for any other the
+//! numbers of the columns with a pitch are listed first, and the walk goes along that list.
 
 use finder::{AnyWay, Bookmark, Page, Refusal, Way};
+use std::ops::Range;
 
 type Answer = Result<Page, Refusal>;
 
@@ -85,6 +89,108 @@ fn check_page(way: AnyWay, n: usize, b: Bookmark, columns: usize, shifts: usize)
     Ok(())
 }
 
+// ---- the columns with a pitch
+
+/// The columns with a pitch, each by its place among them. Places and the columns' own numbers are counted from 0.
+pub trait Heard {
+    fn count(&self) -> usize;
+    fn number(&self, at: usize) -> usize;
+    /// The place of the first with this number or a higher one.
+    fn first_from(&self, number: usize) -> usize;
+    /// The cells of each from a place on.
+    fn columns<'s>(&'s self, at: usize, cells: &'s [u8], tracks: usize) -> impl Iterator<Item = &'s [u8]> + Clone;
+    /// The sets of those at some places.
+    fn sets<'s>(&'s self, at: Range<usize>, sets: &'s [u16]) -> impl Iterator<Item = u16>;
+}
+
+/// Every one of so many columns.
+struct Every(usize);
+
+impl Heard for Every {
+    #[inline]
+    fn count(&self) -> usize {
+        self.0
+    }
+    #[inline]
+    fn number(&self, at: usize) -> usize {
+        at
+    }
+    #[inline]
+    fn first_from(&self, number: usize) -> usize {
+        number
+    }
+    #[inline]
+    fn columns<'s>(&'s self, at: usize, cells: &'s [u8], tracks: usize) -> impl Iterator<Item = &'s [u8]> + Clone {
+        cells[at * tracks..].chunks_exact(tracks)
+    }
+    #[inline]
+    fn sets<'s>(&'s self, at: Range<usize>, sets: &'s [u16]) -> impl Iterator<Item = u16> {
+        sets[at].iter().copied()
+    }
+}
+
+/// The columns of these numbers.
+struct Listed<'a>(&'a [u16]);
+
+impl Heard for Listed<'_> {
+    #[inline]
+    fn count(&self) -> usize {
+        self.0.len()
+    }
+    #[inline]
+    fn number(&self, at: usize) -> usize {
+        usize::from(self.0[at])
+    }
+    #[inline]
+    fn first_from(&self, number: usize) -> usize {
+        self.0.partition_point(|k| usize::from(*k) < number)
+    }
+    #[inline]
+    fn columns<'s>(&'s self, at: usize, cells: &'s [u8], tracks: usize) -> impl Iterator<Item = &'s [u8]> + Clone {
+        self.0[at..].iter().map(move |k| &cells[usize::from(*k) * tracks..][..tracks])
+    }
+    #[inline]
+    fn sets<'s>(&'s self, at: Range<usize>, sets: &'s [u16]) -> impl Iterator<Item = u16> {
+        self.0[at].iter().map(|k| sets[usize::from(*k)])
+    }
+}
+
+/// Whether a column has no pitch. Its first and its last cell are seldom both rests, so that the others are seldom asked.
+#[inline]
+fn empty(column: &[u8]) -> bool {
+    column[0] & column[column.len() - 1] > 127 && (column.len() < 3 || column.iter().all(|c| *c > 127))
+}
+
+/// Whether every column has a pitch: four columns go together.
+fn all_heard(cells: &[u8], tracks: usize) -> bool {
+    if tracks == 1 {
+        return cells.iter().fold(0, |any, c| any | c) < 128;
+    }
+    let mut fours = cells.chunks_exact(4 * tracks);
+    fours.by_ref().all(|four| {
+        let both = |k: usize| four[k * tracks] & four[k * tracks + 1];
+        both(0) | both(1) | both(2) | both(3) < 128 || !four.chunks_exact(tracks).any(empty)
+    }) && !fours.remainder().chunks_exact(tracks).any(empty)
+}
+
+/// Room for the numbers of the columns with a pitch.
+type List = [u16; 2048];
+
+fn listed<'a>(cells: &[u8], tracks: usize, list: &'a mut List) -> Listed<'a> {
+    let mut count = 0;
+    // what stands at the end of the list is written over where the column is empty
+    let mut put = |k: usize, heard: bool| {
+        list[count] = k as u16;
+        count += usize::from(heard);
+    };
+    if tracks == 1 {
+        cells.iter().enumerate().for_each(|(k, cell)| put(k, *cell < 128));
+    } else {
+        cells.chunks_exact(tracks).enumerate().for_each(|(k, column)| put(k, !empty(column)));
+    }
+    Listed(&list[..count])
+}
+
 // ---- preparation
 
 #[inline]
@@ -120,14 +226,34 @@ pub fn prepare(cells: &[u8], tracks: usize, sets: &mut [u16]) -> Result<(), Refu
     if sets.len() != n - 1 {
         return refuse(6, 0);
     }
+    if n == cells.len() {
+        one_track(cells, sets);
+        return Ok(());
+    }
+    sets.fill(4095);
     let mut columns = cells.chunks_exact(tracks);
     let mut earlier = classes(columns.next().unwrap());
-    for (set, column) in sets.iter_mut().zip(columns) {
+    // the place of the set that waits for the next column with a pitch
+    let mut waits = 0;
+    for (k, column) in columns.enumerate() {
         let later = classes(column);
-        *set = set_of(earlier, later, tracks < 3);
-        earlier = later;
+        if later != 0 {
+            sets[waits] = set_of(earlier, later, tracks < 3);
+            (waits, earlier) = (k + 1, later);
+        }
     }
     Ok(())
+}
+
+/// From the end on, so that the next pitch is known and no test stands between the columns. Where there is no class, of a rest
+/// or behind the last pitch, the set has no interval.
+fn one_track(cells: &[u8], sets: &mut [u16]) {
+    let mut classes = cells.iter().rev().map(|c| CLASS[usize::from(*c)]);
+    let mut later = classes.next().unwrap();
+    for (set, earlier) in sets.iter_mut().rev().zip(classes) {
+        *set = set_of(earlier, later, true);
+        later = if earlier == 0 { later } else { earlier };
+    }
 }
 
 // ---- the theme table
@@ -176,17 +302,27 @@ impl Out<'_> {
     }
 }
 
-/// How a column's starts are checked. Columns are counted from 1; `from` is the first shift to consider. Whether the page
-/// is then full.
+/// How the starts of a column are checked. The column is told by its place among those with a pitch, and the theme has room
+/// there; `from` is the first shift to consider. Whether the page is then full.
 pub trait Check<'a> {
     fn new(cells: &'a [u8], tracks: usize, theme: &'a [u8], way: Way) -> Self;
-    fn column(&mut self, j: usize, from: i32, out: &mut Out) -> bool;
+    fn column(&mut self, heard: &impl Heard, at: usize, from: i32, out: &mut Out) -> bool;
 }
 
-fn plain_walk<'a, C: Check<'a>>(mut check: C, n: usize, m: usize, b: Bookmark, lowest: i32, out: &mut Out) {
-    let mut from = i32::from(b.shift);
-    for j in usize::from(b.column)..(n + 2).saturating_sub(m) {
-        if check.column(j, from, out) {
+/// Where a bookmark lets a walk begin: the first column with a pitch from its own on, and the first shift there, which is
+/// the lowest where the bookmark's own column has no pitch.
+#[inline]
+fn begin(heard: &impl Heard, b: Bookmark, lowest: i32) -> (usize, i32) {
+    let number = usize::from(b.column) - 1;
+    let first = heard.first_from(number);
+    let there = first < heard.count() && heard.number(first) == number;
+    (first, if there { i32::from(b.shift) } else { lowest })
+}
+
+fn plain_walk<'a, C: Check<'a>>(mut check: C, heard: &impl Heard, m: usize, b: Bookmark, lowest: i32, out: &mut Out) {
+    let (first, mut from) = begin(heard, b, lowest);
+    for at in first..(heard.count() + 1).saturating_sub(m) {
+        if check.column(heard, at, from, out) {
             return;
         }
         from = lowest;
@@ -196,26 +332,26 @@ fn plain_walk<'a, C: Check<'a>>(mut check: C, n: usize, m: usize, b: Bookmark, l
 #[allow(clippy::too_many_arguments)]
 fn quick_walk<'a, C: Check<'a>>(
     mut check: C,
+    heard: &impl Heard,
     sets: &[u16],
     table: &[u32; 4096],
-    n: usize,
     m: usize,
     b: Bookmark,
     lowest: i32,
     out: &mut Out,
 ) {
-    let first = usize::from(b.column);
-    if first + m > n + 1 {
+    let (first, mut from) = begin(heard, b, lowest);
+    if first + m > heard.count() {
         return;
     }
     let mut register = !0u32;
-    for set in &sets[first - 1..first + m - 3] {
-        register = register << 1 | table[usize::from(*set & 4095)];
+    for set in heard.sets(first..first + m - 2, sets) {
+        register = register << 1 | table[usize::from(set & 4095)];
     }
-    let mut from = i32::from(b.shift);
-    for (at, set) in sets[first + m - 3..n - 1].iter().enumerate() {
-        register = register << 1 | table[usize::from(*set & 4095)];
-        if register >> (m - 2) & 1 == 0 && check.column(first + at, from, out) {
+    // the set of the last column with a pitch is not asked for: too few columns are left for what it could end
+    for (at, set) in heard.sets(first + m - 2..heard.count() - 1, sets).enumerate() {
+        register = register << 1 | table[usize::from(set & 4095)];
+        if register >> (m - 2) & 1 == 0 && check.column(heard, first + at, from, out) {
             return;
         }
         from = lowest;
@@ -236,7 +372,12 @@ pub fn plain_page<'a, C: Check<'a>>(
     check_theme(theme)?;
     check_page(way.into(), n, b, columns.len(), shifts.len())?;
     let mut out = Out { columns, shifts, found: 0, looks: 0 };
-    plain_walk(C::new(cells, tracks, theme, way), n, theme.len(), b, i32::from(way.first().shift), &mut out);
+    let (check, m, lowest) = (C::new(cells, tracks, theme, way), theme.len(), i32::from(way.first().shift));
+    if all_heard(cells, tracks) {
+        plain_walk(check, &Every(n), m, b, lowest, &mut out);
+    } else {
+        plain_walk(check, &listed(cells, tracks, &mut [0; 2048]), m, b, lowest, &mut out);
+    }
     Ok(out.page(way.into(), n))
 }
 
@@ -259,7 +400,12 @@ pub fn quick_page<'a, C: Check<'a>>(
     check_page(way.into(), n, b, columns.len(), shifts.len())?;
     fill(theme, table);
     let mut out = Out { columns, shifts, found: 0, looks: 0 };
-    quick_walk(C::new(cells, tracks, theme, way), sets, table, n, theme.len(), b, i32::from(way.first().shift), &mut out);
+    let (check, m, lowest) = (C::new(cells, tracks, theme, way), theme.len(), i32::from(way.first().shift));
+    if all_heard(cells, tracks) {
+        quick_walk(check, &Every(n), sets, table, m, b, lowest, &mut out);
+    } else {
+        quick_walk(check, &listed(cells, tracks, &mut [0; 2048]), sets, table, m, b, lowest, &mut out);
+    }
     Ok(out.page(way.into(), n))
 }
 
@@ -278,8 +424,10 @@ impl<'a> Check<'a> for Direct<'a> {
     }
 
     #[inline]
-    fn column(&mut self, j: usize, from: i32, out: &mut Out) -> bool {
-        let (here, rest) = self.cells[(j - 1) * self.tracks..].split_at(self.tracks);
+    fn column(&mut self, heard: &impl Heard, at: usize, from: i32, out: &mut Out) -> bool {
+        let j = heard.number(at) + 1;
+        let mut onward = heard.columns(at, self.cells, self.tracks);
+        let here = onward.next().unwrap();
         let first = i32::from(self.theme[0]);
         match self.way {
             Way::Exact => {
@@ -292,7 +440,7 @@ impl<'a> Check<'a> for Direct<'a> {
                     let c = left.trailing_zeros() as i32 - first;
                     left &= left - 1;
                     let mut hit = true;
-                    for (p, column) in self.theme[1..].iter().zip(rest.chunks_exact(self.tracks)) {
+                    for (p, column) in self.theme[1..].iter().zip(onward.clone()) {
                         out.looks += 1;
                         let want = i32::from(*p) + c;
                         if !(0..128).contains(&want) || !column.iter().any(|t| i32::from(*t) == want) {
@@ -314,7 +462,7 @@ impl<'a> Check<'a> for Direct<'a> {
                     let c = left.trailing_zeros();
                     left &= left - 1;
                     let mut hit = true;
-                    for (p, column) in self.theme[1..].iter().zip(rest.chunks_exact(self.tracks)) {
+                    for (p, column) in self.theme[1..].iter().zip(onward.clone()) {
                         out.looks += 1;
                         let want = CLASS[(u32::from(*p) % 12 + c) as usize % 12];
                         if !column.iter().any(|t| CLASS[usize::from(*t)] == want) {
@@ -347,7 +495,7 @@ pub struct Bits<'a> {
     /// how far each note moves a column's word: from the first note, or the class of the note
     moves: [i32; 32],
     m: usize,
-    /// the words of the columns seen, by column modulo 64, with the column each is of
+    /// the words of the columns seen, by place among those with a pitch modulo 64, with the place each is of
     words: [u128; 64],
     of: [u32; 64],
 }
@@ -368,57 +516,67 @@ impl<'a> Check<'a> for Bits<'a> {
     }
 
     #[inline]
-    fn column(&mut self, j: usize, from: i32, out: &mut Out) -> bool {
+    fn column(&mut self, heard: &impl Heard, at: usize, from: i32, out: &mut Out) -> bool {
         match self.way {
             Way::Exact => {
                 let first = self.moves[0];
-                let mut starts = self.word(j - 1);
+                let mut starts = self.word(heard, at);
                 if from + first > 0 {
                     starts &= u128::MAX.checked_shl((from + first) as u32).unwrap_or(0);
                 }
-                self.all(j, starts, first, out, |word, d| if d >= 0 { word >> d } else { word << -d })
+                self.all(heard, at, starts, first, out, |word, d| if d >= 0 { word >> d } else { word << -d })
             }
             Way::Octave => {
-                let starts = turned(self.word(j - 1) as u16, self.moves[0] as u32);
+                let starts = turned(self.word(heard, at) as u16, self.moves[0] as u32);
                 let starts = if from > 0 { starts & !((1u16 << from) - 1) } else { starts };
-                self.all(j, u128::from(starts), 0, out, |word, d| u128::from(turned(word as u16, d as u32)))
+                self.all(heard, at, u128::from(starts), 0, out, |word, d| u128::from(turned(word as u16, d as u32)))
             }
         }
     }
 }
 
 impl Bits<'_> {
-    /// The word of a column, counted from 0.
+    /// The word of a column with a pitch, by its place among them.
     #[inline]
-    fn word(&mut self, k: usize) -> u128 {
-        let at = k % 64;
-        if self.of[at] != k as u32 {
+    fn word(&mut self, heard: &impl Heard, at: usize) -> u128 {
+        let kept = at % 64;
+        if self.of[kept] != at as u32 {
+            let k = heard.number(at);
             let column = &self.cells[k * self.tracks..(k + 1) * self.tracks];
-            self.words[at] = match self.way {
+            self.words[kept] = match self.way {
                 Way::Exact => pitches(column),
                 Way::Octave => u128::from(classes(column)),
             };
-            self.of[at] = k as u32;
+            self.of[kept] = at as u32;
         }
-        self.words[at]
+        self.words[kept]
     }
 
     #[inline]
-    fn follow(&mut self, j: usize, starts: u128, moved: impl Fn(u128, i32) -> u128) -> (u128, u32) {
+    fn follow(&mut self, heard: &impl Heard, at: usize, starts: u128, moved: impl Fn(u128, i32) -> u128) -> (u128, u32) {
         let (mut left, mut looks) = (starts, 0);
         for i in 1..self.m {
             if left == 0 {
                 break;
             }
             looks += left.count_ones();
-            left &= moved(self.word(j - 1 + i), self.moves[i]);
+            left &= moved(self.word(heard, at + i), self.moves[i]);
         }
         (left, looks)
     }
 
     #[inline]
-    fn all(&mut self, j: usize, starts: u128, zero: i32, out: &mut Out, moved: impl Fn(u128, i32) -> u128 + Copy) -> bool {
-        let (mut hits, looks) = self.follow(j, starts, moved);
+    fn all(
+        &mut self,
+        heard: &impl Heard,
+        at: usize,
+        starts: u128,
+        zero: i32,
+        out: &mut Out,
+        moved: impl Fn(u128, i32) -> u128 + Copy,
+    ) -> bool {
+        let j = heard.number(at) + 1;
+        let (mut hits, looks) = self.follow(heard, at, starts, moved);
         let room = out.columns.len() - out.found;
         if (hits.count_ones() as usize) < room {
             out.looks += looks;
@@ -435,7 +593,7 @@ impl Bits<'_> {
         }
         let last = hits.trailing_zeros();
         out.put(j, last as i32 - zero);
-        out.looks += self.follow(j, starts & (u128::MAX >> (127 - last)), moved).1;
+        out.looks += self.follow(heard, at, starts & (u128::MAX >> (127 - last)), moved).1;
         true
     }
 }
@@ -466,14 +624,22 @@ pub fn written_page(
     let mut out = Out { columns, shifts, found: 0, looks: 0 };
     // a shift above 0 is behind all pairs of its column
     let passed = usize::from(b.column) - usize::from(b.shift == 0);
-    let left = cells.get(passed * tracks..).unwrap_or(&[]);
-    let mut register = !0u32;
-    for (at, column) in left.chunks_exact(tracks).enumerate() {
-        let word = column.iter().fold(!0, |word, c| word & words[usize::from(*c)]);
-        register = register << 1 | word;
-        if register >> (theme.len() - 1) & 1 == 0 && out.put(passed + at + 2 - theme.len(), 0) {
-            break;
-        }
+    if passed < n && all_heard(cells, tracks) {
+        written_walk(cells, tracks, &Every(n), passed, &words, theme.len(), &mut out);
+    } else if passed < n {
+        written_walk(cells, tracks, &listed(cells, tracks, &mut [0; 2048]), passed, &words, theme.len(), &mut out);
     }
     Ok(out.page(AnyWay::Written, n))
+}
+
+fn written_walk(cells: &[u8], tracks: usize, heard: &impl Heard, from: usize, words: &[u32; 256], m: usize, out: &mut Out) {
+    let first = heard.first_from(from);
+    let mut register = !0u32;
+    for (at, column) in heard.columns(first, cells, tracks).enumerate() {
+        let word = column.iter().fold(!0, |word, c| word & words[usize::from(*c)]);
+        register = register << 1 | word;
+        if register >> (m - 1) & 1 == 0 && out.put(heard.number(first + at + 1 - m) + 1, 0) {
+            return;
+        }
+    }
 }

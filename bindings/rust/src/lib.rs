@@ -2,7 +2,8 @@
 //!
 //! Safe functions over the proved finder's C interface (`include/finder.h`). A score is cells, column after column,
 //! `tracks` cells a column: 0 to 127 is a MIDI pitch, 255 a rest. A theme is 2 to 32 pitches. A [`Pair`] says that the
-//! theme stands at that column (from 1) with that shift, each note in any track.
+//! theme stands at that column (from 1) with that shift: the columns with a pitch from that one on, itself the first, hold
+//! the notes one after another, each in any track. Columns of rests only are passed over.
 //!
 //! [`pairs`] is an iterator over all of them:
 //!
@@ -24,6 +25,17 @@
 //! let score = [60, 67, 62, 69, 64, 255, 65, 72, 255, 67];
 //! let found: Vec<Pair> = plain_pairs(&score, 2, &[67, 62], AnyWay::Written)?.collect();
 //! assert_eq!(found, [Pair { column: 1, shift: 0 }]);
+//! # Ok::<(), finder::Refusal>(())
+//! ```
+//!
+//! A tune goes on behind a column of rests, and columns keep their numbers in the score:
+//!
+//! ```
+//! use finder::{pairs, Pair, Way};
+//!
+//! let score = [255, 60, 255, 255, 62, 64];
+//! let found: Vec<Pair> = pairs(&score, 1, &[60, 62, 64], Way::Exact)?.collect();
+//! assert_eq!(found, [Pair { column: 2, shift: 0 }]);
 //! # Ok::<(), finder::Refusal>(())
 //! ```
 //!
@@ -116,7 +128,8 @@ pub struct Pair {
 /// The first pair to consider.
 #[derive(Clone, Copy, PartialEq, Eq, PartialOrd, Ord, Hash, Debug)]
 pub struct Bookmark {
-    /// A column, or the one after the last.
+    /// A column, or the one after the last. It need not have a pitch: the pairs of the next one that has are then all
+    /// considered, whatever the shift.
     pub column: u16,
     /// A shift of the way, or one above the highest.
     pub shift: i16,
@@ -189,14 +202,15 @@ extern "C" {
 
 /// Fills all interval sets of the score, one less than it has columns.
 ///
-/// Refuses 1, 2, 3 and 6.
+/// Bit d of a column's set is 0 where a pitch of the next column with a pitch lies d semitones above one of its own, octaves
+/// ignored. The set is 4095 where the column has no pitch, and where no column with one follows. Refuses 1, 2, 3 and 6.
 pub fn prepare(cells: &[u8], tracks: usize, sets: &mut [u16]) -> Result<(), Refusal> {
     // Safety: each pointer and length is of a slice, and the one that is written is lent to this call alone.
     Refusal::read(unsafe { finder_prepare(cells.as_ptr(), cells.len(), tracks, sets.as_mut_ptr(), sets.len()) })
 }
 
-/// Writes the first pairs at or after the bookmark, as many as there is room for; every column is looked at. The way is any
-/// of the three, a [`Way`] or an [`AnyWay`].
+/// Writes the first pairs at or after the bookmark, as many as there is room for; every column with a pitch is looked at.
+/// The way is any of the three, a [`Way`] or an [`AnyWay`].
 ///
 /// Refuses 1 to 5, 9 and 10.
 pub fn plain_page(
@@ -222,7 +236,8 @@ pub fn plain_page(
 
 /// The same, exact or octave, with the score's prepared sets, and with no more looks. The theme's table is left in `table`.
 ///
-/// With sets of another score the pairs are those at the columns that the sets make candidates. Refuses 1 to 10.
+/// With sets of another score the pairs are those at the columns that the sets make candidates. What the sets of columns
+/// without a pitch hold does not matter. Refuses 1 to 10.
 #[allow(clippy::too_many_arguments)]
 pub fn quick_page(
     cells: &[u8],

@@ -7,6 +7,12 @@ use finder::{
 /// Five columns of two tracks.
 const K: [u8; 10] = [60, 67, 62, 69, 64, 255, 65, 72, 255, 67];
 
+/// A rest.
+const R: u8 = 255;
+
+/// One track that rests before its first pitch, between two of them and behind its last.
+const GAPS: [u8; 7] = [R, 60, R, R, 62, 64, R];
+
 fn sets_of(cells: &[u8], tracks: usize) -> Vec<u16> {
     let mut sets = vec![7; cells.len() / tracks - 1];
     prepare(cells, tracks, &mut sets).unwrap();
@@ -140,16 +146,96 @@ fn one_track() {
     assert_eq!(list(&[127, 127], 1, &[0, 0], Way::Exact).0, [(1, 127)]);
     assert_eq!(list(&[120, 0], 1, &[0, 12], Way::Exact).0, []);
     assert_eq!(list(&[120, 0], 1, &[0, 12], Way::Octave).0, [(1, 0)]);
-    assert_eq!(list(&[60, 255, 62], 1, &[60, 62], Way::Exact).0, []);
     assert_eq!(written_list(&[0, 127, 0, 127], 1, &[0, 127]), [(1, 0), (3, 0)]);
-    assert_eq!(written_list(&[60, 255, 62], 1, &[60, 62]), []);
     assert_eq!(written_list(&[60; 40], 1, &[60; 32]), (1..=9).map(|j| (j, 0)).collect::<Vec<_>>());
-    assert_eq!(sets_of(&[60, 255, 62], 1), [4095, 4095]);
+}
+
+#[test]
+fn columns_without_a_pitch_are_passed_over() {
+    assert_eq!(sets_of(&[60, R, 62], 1), [4091, 4095]);
+    for way in [Way::Exact, Way::Octave] {
+        assert_eq!(list(&[60, R, 62], 1, &[60, 62], way), (vec![(1, 0)], 1, 1));
+    }
+    assert_eq!(written_list(&[60, R, 62], 1, &[60, 62]), [(1, 0)]);
+
+    assert_eq!(sets_of(&GAPS, 1), [4095, 4091, 4095, 4095, 4091, 4095]);
+    for way in [Way::Exact, Way::Octave] {
+        assert_eq!(list(&GAPS, 1, &[60, 62, 64], way), (vec![(2, 0)], 2, 2));
+        // column 6 is no start: no pitch follows
+        assert_eq!(list(&GAPS, 1, &[60, 62], way), (vec![(2, 0), (5, 2)], 2, 2));
+        // more notes than columns with a pitch, though not more than columns
+        assert_eq!(list(&GAPS, 1, &[60, 62, 64, 65], way), (vec![], 0, 0));
+    }
+    assert_eq!(written_list(&GAPS, 1, &[60, 62, 64]), [(2, 0)]);
+    assert_eq!(written_list(&GAPS, 1, &[62, 64]), [(5, 0)]);
+
+    // a column of two tracks is passed over only where both rest
+    assert_eq!(list(&[60, R, R, R, 67, R, R, 62], 2, &[60, 67, 62], Way::Exact).0, [(1, 0)]);
+    assert_eq!(list(&[60, R, R, R, 67, R, R, 62], 2, &[60, 62], Way::Exact).0, []);
+    assert_eq!(sets_of(&[60, R, R, R, 67, R, R, 62], 2), [4095 - 128, 4095, 4095 - 128]);
+
+    // nothing but rests
+    assert_eq!(sets_of(&[R; 4], 1), [4095; 3]);
+    assert_eq!(list(&[R; 4], 1, &[60, 62], Way::Exact), (vec![], 0, 0));
+    assert_eq!(written_list(&[R; 4], 1, &[60, 62]), []);
+}
+
+#[test]
+fn pages_of_gaps() {
+    let turned = plain_pages(&GAPS, 1, &[60, 62], Way::Exact, 1);
+    let expected = [
+        (vec![(2, 0)], page(1, 2, 1, false, 1)),
+        (vec![(5, 2)], page(1, 5, 3, false, 1)),
+        (vec![], page(0, 8, -127, true, 0)),
+    ];
+    assert_eq!(turned, expected);
+    assert_eq!(quick_pages(&GAPS, 1, &[60, 62], Way::Exact, 1), expected);
+    let turned = plain_pages(&GAPS, 1, &[60, 62, 64], AnyWay::Written, 1);
+    assert_eq!(turned, [(vec![(2, 0)], page(1, 2, 1, false, 0)), (vec![], page(0, 8, 0, true, 0))]);
+}
+
+#[test]
+fn a_bookmark_in_a_column_without_a_pitch() {
+    let turn = |way: AnyWay, column, shift| {
+        let (mut columns, mut shifts) = ([9999; 2], [9999; 2]);
+        let page = plain_page(&GAPS, 1, &[60, 62], way, Bookmark { column, shift }, &mut columns, &mut shifts).unwrap();
+        (page.written, columns[0], shifts[0])
+    };
+    // its shift says nothing of the next column with a pitch, where every shift counts
+    assert_eq!(turn(Way::Exact.into(), 1, 128), (2, 2, 0));
+    assert_eq!(turn(Way::Exact.into(), 4, 128), (1, 5, 2));
+    assert_eq!(turn(Way::Octave.into(), 3, 12), (1, 5, 2));
+    assert_eq!(turn(AnyWay::Written, 1, 1), (1, 2, 0));
+    // in a column with one it does
+    assert_eq!(turn(Way::Exact.into(), 2, 1), (1, 5, 2));
+    assert_eq!(turn(AnyWay::Written, 2, 1), (0, 9999, 9999));
+    assert_eq!(turn(Way::Exact.into(), 7, -127), (0, 9999, 9999));
+}
+
+#[test]
+fn sets_of_columns_without_a_pitch() {
+    let turn = |cells: &[u8], theme: &[u8], sets: &[u16]| {
+        let (mut columns, mut shifts) = ([9999; 2], [9999; 2]);
+        let first = Way::Exact.first();
+        let page =
+            quick_page(cells, 1, theme, Way::Exact, first, sets, &mut [5; TABLE_LEN], &mut columns, &mut shifts).unwrap();
+        (page.written, columns[0], page.looks)
+    };
+    // they are passed over, whatever they hold
+    for set in [0, 4091, 4095] {
+        assert_eq!(turn(&[60, R, 62], &[60, 62], &[4091, set]), (1, 1, 1));
+        assert_eq!(turn(&[60, R, 62], &[60, 62], &[4095, set]), (0, 9999, 0));
+        assert_eq!(turn(&GAPS, &[60, 62, 64], &[set, 4091, set, set, 4091, set]), (1, 2, 2));
+    }
+    // a set of all intervals at the last pitch, behind which there are only rests: too few columns are left for a start
+    assert_eq!(turn(&[60, R, R], &[60, 62], &[0, 0]), (0, 9999, 0));
 }
 
 #[test]
 fn limits() {
-    let refused = |cells: &[u8], tracks, theme: &[u8]| pairs(cells, tracks, theme, Way::Exact).err().map(|r| (r.number, r.place));
+    let refused = |cells: &[u8], tracks, theme: &[u8]| {
+        pairs(cells, tracks, theme, Way::Exact).err().map(|r| (r.number, r.place))
+    };
     let long = vec![60; 2048 * 16];
     assert_eq!(refused(&K, 2, &[60]), Some((4, 0)));
     assert_eq!(refused(&K, 2, &[60; 33]), Some((4, 0)));

@@ -2,9 +2,13 @@
 
 use crate::edges::fill_edge;
 use crate::edges::fill_edge_theme;
-use crate::random::fill;
 use crate::random::fill_theme;
 use crate::worlds::spell;
+use gapped::drawing::fill;
+use gapped::sparse::fill_sparse;
+use gapped::sparse::fill_sparse_theme;
+use gapped::spreads::fill_spread;
+use gapped::spreads::fill_spread_theme;
 use jobs::buffers::Cells;
 use jobs::buffers::Sets;
 use jobs::buffers::Theme;
@@ -19,21 +23,29 @@ use judging::answers::ask_prepare;
 use second::asks::Ask;
 
 // Puts a score into the lent buffer.
-fn put_score(cells: &mut Cells, source: Source, k: usize, many: usize) {
+fn put_score(cells: &mut Cells, source: Source, k: usize, a: Ask) {
+    let many = a.cells;
     match source {
         Source::Worked => load(cells, k),
-        Source::World => spell(cells, many, k, 4),
+        Source::World => spell(cells, many, k, 4, 0),
         Source::Random => fill(cells, many, k),
         Source::Edge => fill_edge(cells, many, k),
+        Source::Gaps => spell(cells, many, k, 3, 1),
+        Source::Beats => spell(cells, many, k, 2, 2),
+        Source::Spread => fill_spread(cells, many, k),
+        Source::Sparse => fill_sparse(cells, many, a.h, k),
     }
 }
 
 fn put_theme(cells: &[u8], theme: &mut Theme, source: Source, k: usize, a: Ask) {
     match source {
         Source::Worked => load_theme(theme, k),
-        Source::World => spell(theme, 3, k, 3),
+        Source::World => spell(theme, 3, k, 3, 0),
         Source::Random => fill_theme(cells, theme, a, k),
         Source::Edge => fill_edge_theme(theme, k),
+        Source::Gaps | Source::Beats => spell(theme, 3, k, 2, 1),
+        Source::Spread => fill_spread_theme(theme),
+        Source::Sparse => fill_sparse_theme(cells, theme, a, k),
     }
 }
 
@@ -55,9 +67,9 @@ pub fn arrange(cells: &mut Cells, sets: &mut Sets, j: Job) {
     let a = j.a;
     let c = j.c;
     let d = j.d;
-    put_score(cells, source, j.sets_of, a.cells);
+    put_score(cells, source, j.sets_of, a);
     put_sets(cells, sets, a, c, d);
-    put_score(cells, source, j.score, a.cells);
+    put_score(cells, source, j.score, a);
 }
 
 // The theme, and the changes.

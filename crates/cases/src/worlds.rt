@@ -1,5 +1,5 @@
-// A small world, whole: every score of one and two tracks and up to three columns over the cells 0, 12, 127 and rest, with every
-// theme of two and three notes over those pitches, in all ways.
+// A small world, whole: every score of one and two tracks and up to three columns over the cells 0, 12, 127 and rest, with
+// every theme of two and three notes over those pitches, in all ways.
 
 use jobs::changes::none;
 use jobs::job::Head;
@@ -22,14 +22,14 @@ fn world_cell(k: usize) -> u8 {
     }
 }
 
-// So many bytes by the digits of x in a base.
-pub fn spell(s: &mut [u8], many: usize, x: usize, base: usize) {
+// So many bytes by the digits of x in a base; the digit 0 is the cell of number low.
+pub fn spell(s: &mut [u8], many: usize, x: usize, base: usize, low: usize) {
     if base == 0 {
         return;
     }
     let mut rest = x;
     for i in 0..many {
-        put_byte(s, i, world_cell(rest % base));
+        put_byte(s, i, world_cell(more(low, rest % base)));
         rest = rest / base;
     }
 }

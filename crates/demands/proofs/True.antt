@@ -11,7 +11,7 @@ use Rattle.score.specs.Sets.{sets}
 use Rattle.score.proofs.IntervalSets.{sets-length, sets-lt}
 use Rattle.preparing.specs.declared.sets.Preparation.the-variants.{Prepared}
 use Rattle.preparing.specs.Preparing.{Prepares}
-use Rattle.preparing.proofs.Prepared.{prepare-fills, prepare-bit}
+use Rattle.preparing.proofs.Prepared.{prepare-fills, prepare-bit, prepare-empty}
 use Rattle.ways.specs.declared.way.Way.{Way}
 use Rattle.ways.specs.declared.way.AnyWay.{AnyWay}
 use Rattle.ways.specs.declared.way.AnyWay.the-variants.{Moved, Written}
@@ -67,5 +67,6 @@ prepared-intervals cells h lent {after} p =
     record {
       one-less = ap length e ∙ sets-length (scoreOf cells h);
       each = λ k low high d small. rw (p .fills) (prepare-bit cells h lent (sym (p .answers)) k low high d small);
+      empty = λ k low high none. rw (p .fills) (prepare-empty cells h lent (sym (p .answers)) k low high none);
       no-other = λ k q high. rw e (bit-high (getD (sets (scoreOf cells h)) (k - 1) 0) q 12 (sets-lt (scoreOf cells h) (k - 1)) high);
     }

@@ -77,12 +77,12 @@ module _ (cells : List ℕ) (h : ℕ) (theme : List ℕ) (a : Accepted mostNotes
       record {
         read = l .read;
         exactly = λ reading pair. let e = l .joined reading in (
-          λ m. as-stands way score theme (subst (In pair) e m),
+          λ m. as-stands way score theme (omega (arith, a .notes-some)) (subst (In pair) e m),
           λ s. subst (In pair) (sym e) (stands-as way score theme (omega (arith, a .notes-some)) s),
         );
-        ordered = λ reading. subst Ordered (sym (l .joined reading)) (ordered-as way score theme);
+        ordered = λ reading. subst Ordered (sym (l .joined reading)) (ordered-as way score theme (omega (arith, a .notes-some)));
         once = λ reading before pair behind e m.
-            ordered-once pair behind (ordered-behind before (pair ∷ behind) (subst Ordered (sym (l .joined reading) ∙ e) (ordered-as way score theme))) m;
+            ordered-once pair behind (ordered-behind before (pair ∷ behind) (subst Ordered (sym (l .joined reading) ∙ e) (ordered-as way score theme (omega (arith, a .notes-some))))) m;
         counted = λ {pages} {turns} reading.
             subst (λ (list : List Pair). length pages ≡ length list / r + 1) (sym (l .joined reading)) (l .counted reading);
         looked = λ reading. omega (arith, l .looked reading, few);

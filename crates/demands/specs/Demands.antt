@@ -4,17 +4,18 @@
 -- which the others rest; `docs/CONTRACTS.md` has them all. That every call ends is no field: the check proves of every function
 -- that it is safe and ends, and no public call has a `requires`. Assumes nothing.
 use mathlib.Core.Path.{_≡_}
-use mathlib.Core.Logic.{_↔_}
+use mathlib.Core.Bool.{false}
+use mathlib.Core.Logic.{_↔_, _⊎_}
 use mathlib.Core.List.{List, [], _∷_, _++_, map, List·Memᴰ as In}
 use Prim.Native.Nat.{ℕ, _+_, _-_, _/_, _≤_, _<_}
 use lib.ListN.{length, getD}
 use Rattle.theory.specs.Lists.{sum, join}
 use Rattle.theory.specs.Bits.{bit}
-use Rattle.score.specs.Limits.{tableWords}
+use Rattle.score.specs.Limits.{highestSet, tableWords}
 use Rattle.score.specs.declared.quantities.Interval.{Interval}
 use Rattle.score.specs.declared.refusals.Refusal.{Refusal}
 use Rattle.score.specs.declared.refusals.Verdict.the-variants.{Accepted as Passed}
-use Rattle.score.specs.Score.{columnAt, column, scoreOf}
+use Rattle.score.specs.Score.{columnAt, column, scoreOf, heard, onward}
 use Rattle.score.specs.Sets.{Apart}
 use Rattle.score.specs.Refusals.{Row, verdict, GivenBy, placeBy}
 use Rattle.preparing.specs.declared.sets.Preparation.{Preparation}
@@ -74,15 +75,17 @@ pub record Demand1 : Type 0 where
       → TurnsAway (1 ∷ 2 ∷ 3 ∷ 4 ∷ 5 ∷ 6 ∷ 7 ∷ 8 ∷ 9 ∷ 10 ∷ []) (rowsOfQuick cells h theme way b sets table buffers)
       (λ r. answer ≡ Refused r) ((t : Turn) × (answer ≡ Turned t)) ((after ≡ buffers) × (table′ ≡ table))
 
--- ---- demand 2: what is listed stands by the published definition, whatever sets were lent; and what is prepared is, for each two neighbouring
--- columns, exactly the intervals between them with octaves ignored
+-- ---- demand 2: what is listed stands by the published definition, which passes over empty columns, whatever sets were lent; and what is
+-- prepared is, for each column and the next that has a pitch, exactly the intervals between them with octaves ignored
 
--- entry k, from 1, belongs to columns k and k + 1: its bit d, 0 to 11, is 0 exactly where they have pitches d apart; all its
--- other bits are 0
+-- entry k, from 1, belongs to column k and the first column with a pitch from column k + 1 on: its bit d, 0 to 11, is 0 exactly
+-- where they have pitches d apart; all its other bits are 0. So it is 4095 where column k is empty or none follows
 pub record IntervalsOf (score : List (List ℕ)) (sets : List ℕ) : Type 0 where
   pub one-less : length sets ≡ length score - 1
   pub each : (k : ℕ) → 1 ≤ k → k < length score → (d : Interval) → d .0 < 12
-      → (bit (getD sets (k - 1) 0) (d .0) ≡ 0) ↔ Apart (column score (columnAt k)) (column score (columnAt (k + 1))) d
+      → (bit (getD sets (k - 1) 0) (d .0) ≡ 0) ↔ Apart (column score (columnAt k)) (getD (onward score (columnAt (k + 1))) 0 []) d
+  pub empty : (k : ℕ) → 1 ≤ k → k < length score → (heard (column score (columnAt k)) ≡ false) ⊎ (onward score (columnAt (k + 1)) ≡ [])
+      → getD sets (k - 1) 0 ≡ highestSet
   pub no-other : (k q : ℕ) → 12 ≤ q → bit (getD sets (k - 1) 0) q ≡ 0
 
 pub record Demand2 : Type 0 where

@@ -14,7 +14,7 @@ use Rattle.theory.proofs.Lists.{some-first, count-length}
 use Rattle.theory.proofs.Pages.{hits-le, page-le}
 use Rattle.score.specs.Limits.{mostTracks, mostColumns, mostCells}
 use Rattle.score.specs.declared.refusals.Refusal.{Refusal}
-use Rattle.score.specs.Score.{columnsIn, scoreOf}
+use Rattle.score.specs.Score.{columnsIn, scoreOf, heardOf}
 use Rattle.score.specs.Refusals.{Row, judge, row1, row2, row3, row6, row7, badCell, badSet}
 use Rattle.score.specs.Sets.{sets as setsOf}
 use Rattle.preparing.specs.declared.sets.Preparation.the-variants.{Prepared, Refused as Away}
@@ -36,9 +36,9 @@ use Rattle.paging.specs.Lent.{Lent}
 use Rattle.paging.specs.Order.{atOrAfter}
 use Rattle.paging.specs.Search.{Search, left, found, spent}
 use Rattle.paging.specs.Page.{Leaf, leaf, away}
-use Rattle.written.specs.Written.{writtenSearch}
 use Rattle.search.specs.Pairs.{plainSearch, quickSearch, searchAs}
 use Rattle.search.specs.Page.{rowsOfPlain, rowsOfQuick, plainPage, quickPage}
+use Rattle.search.proofs.Numbers.{heard-few}
 use Rattle.search.proofs.WholeLists.{most-fits, plain-page-le, quick-page-le}
 use Rattle.asking.proofs.Rows.{row1-clear, row2-clear, row4-clear, row6-clear, plain-clear, quick-clear}
 use Rattle.finder_c.specs.Small.{SmallPlace, SmallPreparation, SmallPage}
@@ -134,17 +134,18 @@ module _ (cells : List ℕ) (h : ℕ) (theme : List ℕ) (b : Bookmark) (buffers
   -- all ways: as the tune is written no page has more pairs than there are columns
   found-few : (way : AnyWay) → Accepted mostNotes cells h theme → length (found (searchAs way (scoreOf cells h) theme) r b) < 2 ^ 32
   found-few (Moved way) a =
-      few-looks (plainSearch way (scoreOf cells h) theme) (looks-some way (scoreOf cells h) theme (a .notes-some))
+      few-looks (plainSearch way (scoreOf cells h) theme) (looks-some way (heardOf (scoreOf cells h)) theme (a .notes-some))
       (lt-of-le-of-lt (plain-page-le cells h theme (Moved way) b r) (most-fits cells h theme a))
   found-few Written a =
-      let S = writtenSearch (scoreOf cells h) theme in
-      let n = length (scoreOf cells h) + 1 - length theme in
+      let S = searchAs Written (scoreOf cells h) theme in
+      let n = length (heardOf (scoreOf cells h)) + 1 - length theme in
       omega (
         arith,
         length-map (pageHits (S .hit) r (left S b)) (S .shown),
         page-le (S .hit) r (left S b),
         hits-le (λ j. atOrAfter b (S .shown j)) (count 1 n),
         count-length 1 n,
+        heard-few (scoreOf cells h),
         score-length cells h,
         a .columns-few,
       )
@@ -171,6 +172,6 @@ module _ (cells : List ℕ) (h : ℕ) (theme : List ℕ) (b : Bookmark) (buffers
       (sets-small cells h sets (row8 (length table) ∷ page) e (λ t. nowhere, λ t. page-small (rangeOf way) (columnsIn cells h) b r (length (buffers .shifts))))))
       (λ c. let a = quick-clear cells h theme way b sets table (buffers .columns) (buffers .shifts) .1 c .plain .accepted in
       record {
-        written = few-looks S (looks-some way (scoreOf cells h) theme (a .notes-some))
+        written = few-looks S (looks-some way (heardOf (scoreOf cells h)) theme (a .notes-some))
             (lt-of-le-of-lt (quick-page-le cells h theme way b r wordBits (themeTable wordBits theme) sets) (most-fits cells h theme a));
       })

@@ -10,7 +10,8 @@ use second::totals::put_byte;
 use second::totals::put_set;
 use second::totals::size16;
 
-// What can be changed. Where it is the tracks, there are three columns of them; where it is the columns, their sets change with them.
+// What can be changed. Where it is the tracks, there are three columns of them; where it is the columns, their sets change with
+// them; where it is each set, the bits of the number say what they become.
 pub enum What {
     Nothing,
     Tracks,
@@ -21,6 +22,7 @@ pub enum What {
     Note,
     Sets,
     Set,
+    EachSet,
     Table,
     Room,
     ColumnRoom,
@@ -169,11 +171,26 @@ pub fn change_bytes(cells: &mut Cells, theme: &mut Theme, c: Change) {
     }
 }
 
+// Each of the first 16 sets by its bit of a number: 4095, with no interval, where it is 1, and 0, with every one, where it is 0.
+fn put_each(sets: &mut Sets, bits: u16) {
+    let mut rest = bits;
+    for i in 0..16 {
+        put_set(sets, i, set_of(rest % 2));
+        rest = rest / 2;
+    }
+}
+
+fn set_of(bit: u16) -> u16 {
+    if bit == 1 { 4095 } else { 0 }
+}
+
 // The sets after a change.
 pub fn change_sets(sets: &mut Sets, c: Change) {
     let what = c.what;
-    if let What::Set = what {
-        put_set(sets, c.place, c.value);
+    match what {
+        What::Set => put_set(sets, c.place, c.value),
+        What::EachSet => put_each(sets, c.value),
+        _ => {}
     }
 }
 

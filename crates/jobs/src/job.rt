@@ -10,6 +10,10 @@ pub enum Source {
     World,
     Random,
     Edge,
+    Gaps,
+    Beats,
+    Spread,
+    Sparse,
 }
 
 // What is written before a job: nothing, the case, the end of a range, or the refusals that are due.

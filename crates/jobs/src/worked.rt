@@ -1,4 +1,4 @@
-// The requirement's worked cases, and some in written, page after page.
+// The requirement's worked cases, some in written, and some with columns that hold no pitch, page after page.
 
 use crate::changes::none;
 use crate::job::Head;
@@ -15,8 +15,8 @@ use second::totals::size;
 use second::ways::Way;
 use second::ways::counted;
 
-// The scores: K first, then those of one track.
-const SCORES: [[u8; 10]; 7] = [
+// The scores: K first, then those of one track, then one of two tracks with columns that hold no pitch.
+const SCORES: [[u8; 10]; 9] = [
     [60, 67, 62, 69, 64, 255, 65, 72, 255, 67],
     [0, 0, 0, 0, 0, 0, 0, 0, 0, 0],
     [127, 127, 0, 0, 0, 0, 0, 0, 0, 0],
@@ -24,12 +24,14 @@ const SCORES: [[u8; 10]; 7] = [
     [60, 255, 62, 0, 0, 0, 0, 0, 0, 0],
     [60, 0, 0, 0, 0, 0, 0, 0, 0, 0],
     [255, 255, 255, 255, 255, 255, 255, 255, 255, 255],
+    [255, 60, 255, 255, 62, 64, 255, 255, 255, 255],
+    [255, 255, 60, 67, 255, 255, 255, 62, 69, 255],
 ];
 
 // A row for each case: score, tracks, cells, notes, the way's number, room; then up to three notes.
-const ROWS: usize = 27;
+const ROWS: usize = 35;
 
-const CASES: [[u8; 9]; 27] = [
+const CASES: [[u8; 9]; 35] = [
     [0, 2, 10, 3, 0, 4, 60, 62, 64],
     [0, 2, 10, 2, 0, 4, 67, 62, 0],
     [0, 2, 10, 2, 0, 2, 67, 62, 0],
@@ -57,11 +59,19 @@ const CASES: [[u8; 9]; 27] = [
     [4, 1, 3, 2, 2, 4, 60, 62, 0],
     [5, 1, 1, 2, 2, 4, 60, 62, 0],
     [6, 1, 3, 2, 2, 4, 60, 60, 0],
+    [7, 1, 7, 3, 0, 4, 60, 62, 64],
+    [7, 1, 7, 3, 1, 4, 60, 62, 64],
+    [7, 1, 7, 3, 2, 4, 60, 62, 64],
+    [7, 1, 7, 2, 0, 1, 62, 64, 0],
+    [8, 2, 10, 3, 0, 4, 60, 62, 69],
+    [4, 1, 3, 3, 0, 4, 60, 62, 64],
+    [4, 1, 3, 3, 2, 4, 60, 62, 64],
+    [6, 1, 3, 2, 0, 4, 60, 60, 0],
 ];
 
 // A cell of a score.
 fn cell(score: usize, i: usize) -> u8 {
-    if score < 7 {
+    if score < 9 {
         if i < 10 {
             return SCORES[score][i];
         }

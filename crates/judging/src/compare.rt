@@ -214,7 +214,7 @@ pub fn sets_fault(cells: &[u8], theme: &[u8], sets: &[u16], a: Ask, got: Got) ->
         }
         return Fault::Nothing;
     }
-    if !sets_right(cells, a.h, sets, a.sets) {
+    if !sets_right(cells, sets, a) {
         return Fault::Sets;
     }
     Fault::Nothing

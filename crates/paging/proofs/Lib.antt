@@ -1,5 +1,5 @@
 -- Laws of pages over any search. Pairs: `Orders`, `AtOrAfter` (from a bookmark on), `Keys` (one number orders
--- them), `Bookmarks`. The lent buffers: `Buffers`. The call: `Unique` (the contract settles it).
+-- them), `Bookmarks`. Searches of searches: `Fewer` (starts left out), `Renumbered` (other numbers). The lent buffers: `Buffers`. The call: `Unique` (the contract settles it).
 pub mod Orders
 pub mod AtOrAfter
 pub mod Keys
@@ -10,6 +10,7 @@ pub mod Readings
 pub mod OnePages
 pub mod Finished
 pub mod Fewer
+pub mod Renumbered
 pub mod Answers
 pub mod Turnings
 pub mod UnderWay

@@ -8,6 +8,7 @@ use lib.IntN.{pos, negsuc}
 use lib.Signed.{_≤ℤ_}
 use Rattle.theory.specs.Lists.{sum}
 use Rattle.theory.specs.Pages.{hits, pageHits, pageLooks}
+use Rattle.score.specs.Score.{columnAt}
 use Rattle.ways.specs.declared.bookmark.Pair.{Pair}
 use Rattle.ways.specs.declared.bookmark.Bookmark.{Bookmark}
 use Rattle.ways.specs.Way.{Range}
@@ -43,6 +44,15 @@ pub record Right {Start : Type 0} (S : Search Start) : Type 0 where
 abbrev pub only : {Start : Type 0} → (Start → Bool) → Search Start → Search Start
 only keep S =
     record { columns = S .columns; range = S .range; starts = hits keep (S .starts); hit = S .hit; looks = S .looks; shown = S .shown }
+
+-- a pair whose column has another number
+abbrev pub renamed : (number : ℕ → ℕ) → Pair → Pair
+renamed number pair = record { column = columnAt (number (pair .column .0)); shift = pair .shift }
+
+-- the same search with the columns of its pairs under other numbers, those of a score of n columns
+abbrev pub renumbered : {Start : Type 0} → (n : ℕ) (number : ℕ → ℕ) → Search Start → Search Start
+renumbered n number S =
+    record { columns = n; range = S .range; starts = S .starts; hit = S .hit; looks = S .looks; shown = λ s. renamed number (S .shown s) }
 
 module _ {Start : Type 0} (S : Search Start) where
   -- every pair, and the looks of every start

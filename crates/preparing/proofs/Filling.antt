@@ -1,6 +1,6 @@
--- The two loops that fill the sets. The first gathers the class sets (`Gathering`): those of columns 1 to k, counted from
--- 0, are stored, and column k + 1 begins at cell (k + 1) * h. The second turns them to sets in their place (`Turns`): the
--- first k are sets, and the others are still class sets. Assumes nothing.
+-- The loops that fill the sets. One gathers the class sets (`Gathering`): those of columns 1 to k, counted from 0, are stored,
+-- and column k + 1 begins at cell (k + 1) * h. The others turn them to sets in their place (`Turns`): the first k are sets, each
+-- with a later class set, and the rest are still class sets. Last, these are the sets of the score. Assumes nothing.
 use mathlib.Core.Path.{_≡_, refl, sym, ap, ap₂, _∙_}
 use mathlib.Core.List.{List, [], _∷_, map}
 use Prim.Native.Nat.{ℕ, zero, suc, _+_, _-_, _*_, _≤_, _<_, zero-le}
@@ -11,10 +11,11 @@ use lib.ListN.{length, getD, take, drop, set, length-set, length-map}
 use lib.Seq.{ext-getD, getD-set-other}
 use Rattle.theory.proofs.Lists.{stored-more}
 use Rattle.score.specs.Score.{cut}
-use Rattle.score.specs.Sets.{sets}
-use Rattle.preparing.specs.Classes.{classSet, SetOf, ClassSets, Turned}
+use Rattle.score.specs.Sets.{nextHeard, sets}
+use Rattle.preparing.specs.Classes.{classSet, SetOf, ClassSets, nextClass, Carried, Turned}
 use Rattle.score.proofs.Columns.{cut-length, cut-at}
 use Rattle.score.proofs.IntervalSets.{sets-length, sets-at}
+use Rattle.preparing.proofs.Carrying.{next-class}
 
 -- an entry of the class sets
 class-at : (score : List (List ℕ)) (i : ℕ) → i < length score → getD (map classSet score) i 0 ≡ classSet (getD score i [])
@@ -81,43 +82,62 @@ module _ (cells : List ℕ) (h n : ℕ) where
 
 -- ---- turning
 
-pub record Turns (first : ℕ) (others out : List ℕ) (k earlier : ℕ) : Type 0 where
+pub record Turns (first : ℕ) (others later out : List ℕ) (k earlier : ℕ) : Type 0 where
   pub within : k ≤ length others
   pub long : length out ≡ length others
   pub has : earlier ≡ getD (first ∷ others) k 0
-  pub stored : (i : ℕ) → i < k → SetOf (getD (first ∷ others) i 0) (getD others i 0) (getD out i 0)
+  pub stored : (i : ℕ) → i < k → SetOf (getD (first ∷ others) i 0) (getD later i 0) (getD out i 0)
   pub left : (i : ℕ) → k ≤ i → getD out i 0 ≡ getD others i 0
 
-module _ (first : ℕ) (others : List ℕ) where
-  pub turns-start : Turns first others others 0 first
+module _ (first : ℕ) (others later : List ℕ) where
+  pub turns-start : Turns first others later others 0 first
   turns-start = record { within = zero-le; long = refl; has = refl; stored = λ i m. absurd (not-suc-le-zero m); left = λ i m. refl }
 
-  pub turns-more : {out : List ℕ} {k earlier : ℕ} (v : ℕ) → Turns first others out k earlier → k < length others → SetOf earlier (getD out k 0) v
-      → Turns first others (set out k v) (k + 1) (getD out k 0)
+  pub turns-more : {out : List ℕ} {k earlier : ℕ} (v : ℕ) → Turns first others later out k earlier → k < length others → SetOf earlier (getD later k 0) v
+      → Turns first others later (set out k v) (k + 1) (getD out k 0)
   turns-more {out} {k} {earlier} v t m s =
       record {
         within = omega arith;
         long = length-set out k v ∙ t .long;
         has = rw add-one (t .left k (le-refl k));
-        stored = stored-more (λ (i x : ℕ). SetOf (getD (first ∷ others) i 0) (getD others i 0) x) out k v 0 (t .stored) (omega (arith, t .long))
-            (rw (t .has, t .left k (le-refl k)) at s);
+        stored = stored-more (λ (i x : ℕ). SetOf (getD (first ∷ others) i 0) (getD later i 0) x) out k v 0 (t .stored) (omega (arith, t .long))
+            (rw (t .has) at s);
         left = λ i l. getD-set-other out k i v 0 (λ e. omega arith) ∙ t .left i (omega arith);
       }
 
-  pub turns-end : {out : List ℕ} {k earlier : ℕ} → Turns first others out k earlier → length others ≤ k → Turned first others out
-  turns-end {out} {k} t m = record { of-score = turned }
-    where
-      turned : (score : List (List ℕ)) → ClassSets score first others → out ≡ sets score
-      turned score c = ext-getD 0 out (sets score) (omega (arith, t .long, sets-length score, columns)) at
-        where
-          columns : suc (length others) ≡ length score
-          columns = ap length (c .each) ∙ length-map score classSet
+  pub turns-end : {out : List ℕ} {k earlier : ℕ} → Turns first others later out k earlier → length others ≤ k → Turned first others later out
+  turns-end t m = record { long = t .long; each = λ i h. t .stored i (omega arith) }
 
-          class-of : (i : ℕ) → i < length score → getD (first ∷ others) i 0 ≡ classSet (getD score i [])
-          class-of i l = ap (λ (all : List ℕ). getD all i 0) (c .each) ∙ class-at score i l
+-- where the later class sets are those not yet turned
+pub turns-on : (first : ℕ) (others : List ℕ) {out : List ℕ} {k earlier : ℕ} (v : ℕ) → Turns first others others out k earlier → k < length others
+    → SetOf earlier (getD out k 0) v → Turns first others others (set out k v) (k + 1) (getD out k 0)
+turns-on first others {out} {k} {earlier} v t m s = turns-more first others others v t m (rw (t .left k (le-refl k)) at s)
 
-          at : (i : ℕ) → i < length out → getD out i 0 ≡ getD (sets score) i 0
-          at i l =
-              let b : i < k = omega (arith, t .long) in
-              t .stored i b .of-columns (getD score i []) (getD score (suc i) []) (class-of i (omega (arith, t .long, columns)))
-              (class-of (suc i) (omega (arith, t .long, columns))) ∙ sym (rw add-one at (sets-at score i (omega (arith, t .long, columns))))
+-- ---- the sets of a score
+
+class-drop : (k : ℕ) (score : List (List ℕ)) → drop k (map classSet score) ≡ map classSet (drop k score)
+class-drop zero score = refl
+class-drop (suc k) [] = refl
+class-drop (suc k) (a ∷ score) = class-drop k score
+
+-- a score's class sets, turned to those that are carried to them, are its sets
+pub turned-sets : (score : List (List ℕ)) {first : ℕ} {others later after : List ℕ} → ClassSets score first others → Carried others later
+    → Turned first others later after → after ≡ sets score
+turned-sets score {first} {others} {later} {after} c n t = ext-getD 0 after (sets score) (omega (arith, t .long, sets-length score, columns)) at
+  where
+    columns : suc (length others) ≡ length score
+    columns = ap length (c .each) ∙ length-map score classSet
+
+    own : (i : ℕ) → i < length score → getD (first ∷ others) i 0 ≡ classSet (getD score i [])
+    own i l = ap (λ (all : List ℕ). getD all i 0) (c .each) ∙ class-at score i l
+
+    next : (i : ℕ) → i < length others → getD later i 0 ≡ classSet (nextHeard (drop (suc i) score))
+    next i l =
+        n .each i l ∙ ap (λ (all : List ℕ). nextClass (drop (suc i) all)) (c .each) ∙ ap nextClass (class-drop (suc i) score)
+        ∙ next-class (drop (suc i) score)
+
+    at : (i : ℕ) → i < length after → getD after i 0 ≡ getD (sets score) i 0
+    at i l =
+        let h : i < length others = omega (arith, t .long) in
+        t .each i h .of-columns (getD score i []) (nextHeard (drop (suc i) score)) (own i (omega (arith, columns))) (next i h)
+        ∙ sym (rw add-one at (sets-at score i (omega (arith, columns))))

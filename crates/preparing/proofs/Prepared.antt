@@ -1,9 +1,9 @@
 -- What a preparation promises, read off its definition: it is accepted exactly where no row of its call applies, refused with
 -- a number and a place exactly where that row is the first that does, and then nothing is written; otherwise every set is
--- the one of its two columns. Assumes nothing.
+-- the one of its column and the next with a pitch. Assumes nothing.
 use mathlib.Core.Path.{_≡_, refl, sym, ap, _∙_}
 use mathlib.Core.Bool.{Bool, true, false, true≢false}
-use mathlib.Core.Logic.{_↔_}
+use mathlib.Core.Logic.{_↔_, _⊎_, ⊎-elim}
 use mathlib.Core.List.{List, []}
 use Prim.Native.Nat.{ℕ, _+_, _-_, _≤_, _<_}
 use native.Mathlib.Omega.{arith}
@@ -13,11 +13,12 @@ use Rattle.score.specs.declared.refusals.Refusal.{Refusal}
 use Rattle.score.specs.declared.quantities.Interval.{Interval}
 use Rattle.preparing.specs.declared.sets.Preparation.{Preparation}
 use Rattle.preparing.specs.declared.sets.Preparation.the-variants.{Prepared, Refused}
-use Rattle.score.specs.Score.{columnAt, column, scoreOf}
-use Rattle.score.specs.Sets.{Apart, sets}
+use Rattle.score.specs.Limits.{highestSet}
+use Rattle.score.specs.Score.{columnAt, column, scoreOf, heard, columnsFrom, onward}
+use Rattle.score.specs.Sets.{Apart, intervalSet, nextHeard, sets}
 use Rattle.score.specs.Refusals.{GivenBy, placeBy}
 use Rattle.preparing.specs.Preparing.{Filled, prepareRows, prepared}
-use Rattle.score.proofs.IntervalSets.{sets-at, set-bit}
+use Rattle.score.proofs.IntervalSets.{sets-at, set-bit, set-empty, set-alone}
 use Rattle.score.proofs.Judged.{Clear, judge-either, judge-clear, judge-clear-of, answer-refused}
 
 -- an accepted answer is no refusal
@@ -56,12 +57,30 @@ module _ (cells : List ℕ) (h : ℕ) (lent : List ℕ) where
       judge-either refuse full (λ (x : Filled). x .answer ≡ Prepared → x .sets ≡ sets (scoreOf cells h)) (λ s e. absurd (prepared-refused (sym e))) (λ e. refl)
       (prepareRows cells h lent)
 
-  -- entry k, from 1, belongs to columns k and k + 1: its bit d is 0 exactly when they have pitches d apart
-  pub prepare-bit : prepared cells h lent .answer ≡ Prepared → (k : ℕ) → 1 ≤ k → k < length (scoreOf cells h) → (d : Interval) → d .0 < 12
-      → (bit (getD (prepared cells h lent .sets) (k - 1) 0) (d .0) ≡ 0)
-      ↔ Apart (column (scoreOf cells h) (columnAt k)) (column (scoreOf cells h) (columnAt (k + 1))) d
-  prepare-bit e k low high d small =
+  -- entry k, from 1
+  entry : prepared cells h lent .answer ≡ Prepared → (k : ℕ) → 1 ≤ k → k < length (scoreOf cells h)
+      → getD (prepared cells h lent .sets) (k - 1) 0
+      ≡ intervalSet (column (scoreOf cells h) (columnAt k)) (nextHeard (columnsFrom (scoreOf cells h) (columnAt (k + 1))))
+  entry e k low high =
       let b : k - 1 + 1 ≡ k = omega arith in
       let c : k + 1 - 1 ≡ k = omega arith in
       let at = sets-at (scoreOf cells h) (k - 1) (omega arith) in
-      rw (prepare-fills e, at, b, c) (set-bit (column (scoreOf cells h) (columnAt k)) (getD (scoreOf cells h) k []) d small)
+      rw (prepare-fills e, at, b, c)
+
+  -- entry k, from 1, belongs to column k and the next with a pitch: its bit d is 0 exactly when they have pitches d apart
+  pub prepare-bit : prepared cells h lent .answer ≡ Prepared → (k : ℕ) → 1 ≤ k → k < length (scoreOf cells h) → (d : Interval) → d .0 < 12
+      → (bit (getD (prepared cells h lent .sets) (k - 1) 0) (d .0) ≡ 0)
+      ↔ Apart (column (scoreOf cells h) (columnAt k)) (nextHeard (columnsFrom (scoreOf cells h) (columnAt (k + 1)))) d
+  prepare-bit e k low high d small =
+      rw (entry e k low high) (set-bit (column (scoreOf cells h) (columnAt k)) (nextHeard (columnsFrom (scoreOf cells h) (columnAt (k + 1)))) d small)
+
+  -- it is 4095 where column k is empty, and where no column with a pitch follows
+  pub prepare-empty : prepared cells h lent .answer ≡ Prepared → (k : ℕ) → 1 ≤ k → k < length (scoreOf cells h)
+      → (heard (column (scoreOf cells h) (columnAt k)) ≡ false) ⊎ (onward (scoreOf cells h) (columnAt (k + 1)) ≡ [])
+      → getD (prepared cells h lent .sets) (k - 1) 0 ≡ highestSet
+  prepare-empty e k low high why =
+      entry e k low high
+      ∙ ⊎-elim
+      (λ own. set-empty (column (scoreOf cells h) (columnAt k)) (nextHeard (columnsFrom (scoreOf cells h) (columnAt (k + 1)))) own)
+      (λ none. rw none (set-alone (column (scoreOf cells h) (columnAt k)) [] refl))
+      why

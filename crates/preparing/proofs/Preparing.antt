@@ -11,6 +11,7 @@ use Rattle.score.specs.declared.refusals.Refusal.{Refusal}
 use Rattle.score.specs.declared.refusals.Verdict.the-variants.{Accepted, Refused as Turned}
 use Rattle.preparing.specs.declared.sets.Preparation.{Preparation}
 use Rattle.preparing.specs.declared.sets.Preparation.the-variants.{Prepared, Refused}
+use Rattle.score.specs.Limits.{mostColumns}
 use Rattle.score.specs.Score.{cut, columnsIn, scoreOf}
 use Rattle.score.specs.Sets.{sets}
 use Rattle.score.specs.Refusals.{Row, verdict, row1, row2, row3, row6}
@@ -47,6 +48,10 @@ module _ (cells : List ℕ) (h : ℕ) (lent : List ℕ) where
       -- there is room for a column more than there are sets
       pub prepares-room : (length lent + 1) * h ≤ length cells
       prepares-room = rw columns (omega (arith, columns-whole cells h (score-sound cells h e .whole)))
+
+      -- and no more sets than the most columns
+      pub prepares-few : length lent ≤ mostColumns
+      prepares-few = omega (arith, columns, score-sound cells h e .few-columns)
 
       pub prepares-filled : {after : List ℕ} → after ≡ sets (cut (length lent + 1) h cells) → Prepares cells h lent Prepared after
       prepares-filled s =

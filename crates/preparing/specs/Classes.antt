@@ -1,17 +1,17 @@
 -- How the sets are found: the class of a pitch is what is left of it without its octaves, a column's class set has a bit
 -- for each class that is there (`classSet`), two class sets give the set of their columns (`SetOf`), and the class sets of
--- a score give its sets (`Turned`). Assumes nothing.
+-- a score give its sets (`Turned`), each with the next one that is not 0 (`Carried`). Assumes nothing.
 use mathlib.Core.Path.{_≡_}
 use mathlib.Core.Bool.{Bool, cond}
-use mathlib.Core.List.{List, _∷_, map}
+use mathlib.Core.List.{List, [], _∷_, map}
 use Prim.Native.Nat.{ℕ, _%_, _^_, _<_}
 use lib.Dec.{leb, eqb}
-use lib.ListN.{getD}
+use lib.ListN.{length, getD, drop}
 use Rattle.theory.specs.Bits.{number}
 use Rattle.theory.specs.Lists.{some}
 use Rattle.score.specs.Limits.{highestPitch}
 use Rattle.score.specs.Score.{pitches}
-use Rattle.score.specs.Sets.{intervalSet, sets}
+use Rattle.score.specs.Sets.{intervalSet}
 
 -- the bit of a cell's class; a rest has none
 abbrev pub classBit : (cell : ℕ) → ℕ
@@ -37,6 +37,22 @@ pub record SetOf (earlier later set : ℕ) : Type 0 where
 pub record ClassSets (score : List (List ℕ)) (first : ℕ) (others : List ℕ) : Type 0 where
   pub each : first ∷ others ≡ map classSet score
 
--- the sets of any score that has these class sets
-pub record Turned (first : ℕ) (others after : List ℕ) : Type 0 where
-  pub of-score : (score : List (List ℕ)) → ClassSets score first others → after ≡ sets score
+-- ---- columns with a pitch, by their class sets
+
+-- the class set of an empty column
+abbrev pub isEmpty : (set : ℕ) → Bool
+isEmpty set = eqb set 0
+
+-- the first of some class sets that is not that of an empty column; 0 where all are
+abbrev pub nextClass : (others : List ℕ) → ℕ
+nextClass [] = 0
+nextClass (set ∷ others) = cond (isEmpty set) (nextClass others) set
+
+-- at each place of the class sets, the first from there on that is not that of an empty column
+pub record Carried (others later : List ℕ) : Type 0 where
+  pub each : (k : ℕ) → k < length others → getD later k 0 ≡ nextClass (drop k others)
+
+-- the sets of class sets: each of a column's own, the first column's apart, and the later one at its place
+pub record Turned (first : ℕ) (others later after : List ℕ) : Type 0 where
+  pub long : length after ≡ length others
+  pub each : (k : ℕ) → k < length others → SetOf (getD (first ∷ others) k 0) (getD later k 0) (getD after k 0)

@@ -1,6 +1,8 @@
-// The interval sets that are prepared of a score: `classes` says which tones a column has, and `sets` prepares.
+// The interval sets that are prepared of a score: `classes` says which tones a column has, `heard` which column with a pitch
+// follows, and `sets` prepares.
 
 mod classes;
+mod heard;
 pub mod sets;
 
 pub use classes::classes_of;

@@ -1,9 +1,14 @@
 // The prepared interval sets. The class set of each column is computed once, and a set is found of two class sets by
 // turning the later one, so that the time goes by the cells and not by their pairs. The class sets of all columns come
-// first, in the place of the sets: each of the two loops then does one thing to column after column.
+// first, in the place of the sets: each of the loops then does one thing to column after column. A set belongs to a column
+// and the next with a pitch. Where no column is empty that is the next column, and the class sets alone will do; elsewhere
+// they are first carried over the empty columns.
 
 use crate::classes::gather;
+use crate::heard::any_empty;
+use crate::heard::carry;
 use score::HIGHEST_SET;
+use score::MOST_COLUMNS;
 use score::Refusal;
 use score::Verdict;
 use score::checks::bad_length;
@@ -11,6 +16,7 @@ use score::checks::check_score;
 ghost use mathlib.Core.Path.{_≡_};
 ghost use Prim.Native.Nat.{_+_, _*_, _≤_};
 ghost use lib.ListN.{length};
+ghost use Rattle.score.specs.Limits.{mostColumns};
 ghost use Rattle.score.specs.Score.{cut};
 ghost use Rattle.score.specs.Sets.{sets as setsOf};
 ghost use Rattle.preparing.specs.Classes.{SetOf, Turned};
@@ -22,7 +28,8 @@ pub enum Preparation {
     Refused(Refusal),
 }
 
-// Fills the lent sets, all n - 1 of them; or refuses, 1, 2, 3 or 6, and writes nothing.
+// Fills the lent sets, all n - 1 of them: each of its column and the next with a pitch, 4095 where the column is empty or none
+// follows. Or refuses, 1, 2, 3 or 6, and writes nothing.
 pub fn prepare(cells: &[u8], tracks: usize, sets: &mut [u16]) -> Preparation
     ensures { λ r. ⌜ Prepares (now (cells .entry)) tracks (now (sets .entry)) r (now (sets .exit)) ⌝ }
 {
@@ -39,18 +46,25 @@ pub fn prepare(cells: &[u8], tracks: usize, sets: &mut [u16]) -> Preparation
     Preparation::Prepared
 }
 
-// Each set, of the class sets of its column and the next.
+// Each set, of the class sets of its column and the next with a pitch. The first column is next to none, so it may be empty
+// in both ways.
 fn fill(cells: &[u8], tracks: usize, sets: &mut [u16])
     requires { ⌜ (length (now sets) + 1) * tracks ≤ length (now cells) ⌝ }
+    requires { ⌜ length (now sets) ≤ mostColumns ⌝ }
     ensures { λ _. ⌜ now (sets .exit) ≡ setsOf (cut (length (now (sets .entry)) + 1) tracks (now (cells .entry))) ⌝ }
 {
     let first = gather(cells, tracks, sets);
-    turn(first, sets);
+    if any_empty(sets) {
+        let later = carry(sets);
+        turn_to(first, &later, sets);
+    } else {
+        turn(first, sets);
+    }
 }
 
-// From the class sets to the sets, in their place.
+// From the class sets to the sets, in their place: each of its column and the next.
 fn turn(first: u16, sets: &mut [u16])
-    ensures { λ _. ⌜ Turned first (now (sets .entry)) (now (sets .exit)) ⌝ }
+    ensures { λ _. ⌜ Turned first (now (sets .entry)) (now (sets .entry)) (now (sets .exit)) ⌝ }
 {
     let mut earlier = first;
     let mut k = 0;
@@ -58,6 +72,22 @@ fn turn(first: u16, sets: &mut [u16])
         let later = sets[k];
         sets[k] = set_of(earlier, later);
         earlier = later;
+        k += 1;
+    }
+}
+
+// The same, where the later class sets stand apart: each of its column and the one that is carried to it.
+fn turn_to(first: u16, later: &[u16; MOST_COLUMNS], others: &mut [u16])
+    requires { ⌜ length (now others) ≤ mostColumns ⌝ }
+    ensures { λ _. ⌜ Turned first (now (others .entry)) (now (later .entry)) (now (others .exit)) ⌝ }
+{
+    let mut earlier = first;
+    let mut k = 0;
+    while k < others.len() {
+        let own = others[k];
+        let next = later[k];
+        others[k] = set_of(earlier, next);
+        earlier = own;
         k += 1;
     }
 }

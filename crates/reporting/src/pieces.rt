@@ -113,6 +113,7 @@ pub fn what_name(what: What) {
         What::Note => say(b" note"),
         What::Sets => say(b" sets"),
         What::Set => say(b" set"),
+        What::EachSet => say(b" each-set"),
         What::Table => say(b" table"),
         What::Room => say(b" room"),
         What::ColumnRoom => say(b" room-of-columns"),

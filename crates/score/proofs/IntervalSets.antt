@@ -1,14 +1,15 @@
 -- The interval sets: a bit is 0 exactly where the interval is there (`set-bit`), the bits from 12 on are 0, and entry k of
--- the sets belongs to columns k and k + 1. Assumes nothing.
+-- the sets belongs to column k and the next with a pitch; where one of them has none it is 4095. Assumes nothing.
 use mathlib.Core.Path.{_≡_, refl, sym, ap, _∙_, subst}
 use mathlib.Core.Bool.{Bool, true, false, cond}
 use mathlib.Core.Logic.{_↔_}
-use mathlib.Core.List.{List, [], _∷_}
+use mathlib.Core.List.{List, [], _∷_, map, List·Memᴰ as In, List·Memᴰ·not-nil as not-nil}
 use Prim.Native.Nat.{ℕ, zero, suc, _+_, _-_, _≤_, _<_}
-use native.Mathlib.Nat.{suc-add}
+use native.Mathlib.Nat.{suc-add, add-zero, not-suc-le-zero, le-of-suc-le-suc}
 use native.Mathlib.Omega.{arith}
 use lib.Dec.{eqb}
-use lib.ListN.{length, getD}
+use lib.ListN.{length, getD, take, drop, length-map}
+use lib.Seq.{getD-drop, getD-take, ext-getD, length-take-le}
 use borrow.Author.Tests.{eqb-true, eq-eqb}
 use Rattle.theory.specs.Bits.{bit}
 use Rattle.theory.specs.Lists.{some}
@@ -17,9 +18,10 @@ use Rattle.theory.proofs.Lists.{some-in, in-some}
 use Rattle.score.specs.Limits.{highestSet, tableWords}
 use Rattle.score.specs.declared.quantities.Pitch.{Pitch}
 use Rattle.score.specs.declared.quantities.Interval.{Interval}
-use Rattle.score.specs.Score.{pitches}
-use Rattle.score.specs.Sets.{semitones, IsInterval, interval, Apart, apart, intervalSet, sets}
+use Rattle.score.specs.Score.{pitches, heard, hasEmpty, heardOf, heardFrom}
+use Rattle.score.specs.Sets.{semitones, IsInterval, interval, Apart, apart, intervalSet, nextHeard, sets}
 use Rattle.score.proofs.Pitches.{pitch-le}
+use Rattle.score.proofs.Heard.{empty-none, heard-length, number-at, number-rises, full-heard, full-drop, heard-full}
 use Rattle.score.proofs.Intervals.{interval-is, interval-only}
 
 -- ---- what is computed of two columns is what is said of them in integers
@@ -84,13 +86,18 @@ set-none a b f =
 
 -- ---- the sets of a score
 
+pub map-at : (f : ℕ → ℕ) (xs : List ℕ) (i : ℕ) → i < length xs → getD (map f xs) i 0 ≡ f (getD xs i 0)
+map-at f [] i l = absurd (not-suc-le-zero l)
+map-at f (x ∷ xs) zero l = refl
+map-at f (x ∷ xs) (suc i) l = map-at f xs i (le-of-suc-le-suc l)
+
 pub sets-length : (score : List (List ℕ)) → length (sets score) ≡ length score - 1
 sets-length [] = refl
 sets-length (a ∷ []) = refl
 sets-length (a ∷ b ∷ score) = omega (arith, sets-length (b ∷ score))
 
 pub sets-at : (score : List (List ℕ)) (k : ℕ) → k + 1 < length score
-    → getD (sets score) k 0 ≡ intervalSet (getD score k []) (getD score (k + 1) [])
+    → getD (sets score) k 0 ≡ intervalSet (getD score k []) (nextHeard (drop (k + 1) score))
 sets-at [] k h = absurd (omega arith)
 sets-at (a ∷ []) k h = absurd (omega arith)
 sets-at (a ∷ b ∷ score) zero h = refl
@@ -99,5 +106,51 @@ sets-at (a ∷ b ∷ score) (suc k) h = rw suc-add (sets-at (b ∷ score) k (ome
 pub sets-lt : (score : List (List ℕ)) (k : ℕ) → getD (sets score) k 0 < tableWords
 sets-lt [] k = omega arith
 sets-lt (a ∷ []) k = omega arith
-sets-lt (a ∷ b ∷ score) zero = set-lt a b
+sets-lt (a ∷ b ∷ score) zero = set-lt a (nextHeard (b ∷ score))
 sets-lt (a ∷ b ∷ score) (suc k) = sets-lt (b ∷ score) k
+
+-- the next column, where none is empty
+pub full-sets-at : (score : List (List ℕ)) → hasEmpty score ≡ false → (k : ℕ) → k + 1 < length score
+    → getD (sets score) k 0 ≡ intervalSet (getD score k []) (getD score (k + 1) [])
+full-sets-at score e k h =
+    let f : heardOf (drop (k + 1) score) ≡ drop (k + 1) score = full-heard (drop (k + 1) score) (full-drop (k + 1) score e) in
+    rw (sets-at score k h, f, getD-drop (k + 1) score 0 [], add-zero)
+
+-- a column without a pitch has no interval
+pub set-empty : (a b : List ℕ) → heard a ≡ false → intervalSet a b ≡ highestSet
+set-empty a b e = set-none a b (λ d p. not-nil (subst (In (p .x)) (empty-none a e) (p .here)))
+
+pub set-alone : (a b : List ℕ) → heard b ≡ false → intervalSet a b ≡ highestSet
+set-alone a b e = set-none a b (λ d p. not-nil (subst (In (p .y)) (empty-none b e) (p .next)))
+
+-- the entries of the columns with a pitch, without the last of them, are the sets of the score without its empty columns
+pub heard-sets : (score : List (List ℕ)) → map (λ k. getD (sets score) (k - 1) 0) (take (length (heardOf score) - 1) (heardFrom 1 score)) ≡ sets (heardOf score)
+heard-sets score = ext-getD 0 (map entry front) (sets (heardOf score)) long at
+  where
+    entry : ℕ → ℕ
+    entry k = getD (sets score) (k - 1) 0
+
+    front : List ℕ
+    front = take (length (heardOf score) - 1) (heardFrom 1 score)
+
+    front-long : length front ≡ length (heardOf score) - 1
+    front-long = length-take-le (length (heardOf score) - 1) (heardFrom 1 score) (omega (arith, heard-length 1 score))
+
+    long : length (map entry front) ≡ length (sets (heardOf score))
+    long = length-map front entry ∙ front-long ∙ sym (sets-length (heardOf score))
+
+    at : (i : ℕ) → i < length (map entry front) → getD (map entry front) i 0 ≡ getD (sets (heardOf score)) i 0
+    at i l =
+        let q : suc i < length (heardOf score) = omega (arith, length-map front entry, front-long) in
+        let x = getD (heardFrom 1 score) i 0 in
+        let a = number-at 1 score i (omega arith) in
+        let b = number-at 1 score (suc i) q in
+        let up : x < getD (heardFrom 1 score) (suc i) 0 = number-rises 1 score i (suc i) (omega arith) q in
+        let more : x - 1 + 1 ≡ suc (x - 1) = omega arith in
+        let next : i + 1 ≡ suc i = omega arith in
+        let here : getD (map entry front) i 0 ≡ entry x =
+        map-at entry front i (omega (arith, front-long)) ∙ ap entry (getD-take (length (heardOf score) - 1) (heardFrom 1 score) i 0 (omega arith)) in
+        let there : getD (heardOf (drop (suc (x - 1)) score)) 0 [] ≡ getD (heardOf score) (i + 1) [] =
+        rw (a .past, getD-drop (suc i) (heardOf score) 0 [], add-zero, next) in
+        here ∙ sets-at score (x - 1) (omega (arith, b .within)) ∙ rw (more, a .named, there)
+        (sym (full-sets-at (heardOf score) (heard-full score) i (omega arith)))

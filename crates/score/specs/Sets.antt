@@ -1,17 +1,18 @@
--- The interval sets: entry k belongs to columns k and k + 1, and its bit d is 0 exactly when some pitch x of column k and
--- some pitch y of column k + 1 have (y - x) mod 12 = d. The definition that matters is `sets`; `Apart` says in integers
--- what `apart` computes. Assumes nothing.
+-- The interval sets: entry k belongs to column k and the next column with a pitch, and its bit d is 0 exactly when some pitch x
+-- of the one and some pitch y of the other have (y - x) mod 12 = d. The definition that matters is `sets`; `Apart` says in
+-- integers what `apart` computes. Assumes nothing.
 use mathlib.Core.Path.{_≡_}
 use mathlib.Core.Bool.{Bool, cond}
 use mathlib.Core.List.{List, [], _∷_, List·Memᴰ as In}
 use Prim.Native.Nat.{ℕ, _+_, _-_, _%_, _<_}
 use lib.Dec.{eqb}
 use lib.IntN.{ℤ, pos, _-ℤ_, _*ℤ_}
+use lib.ListN.{getD}
 use Rattle.theory.specs.Bits.{number}
 use Rattle.theory.specs.Lists.{some}
 use Rattle.score.specs.declared.quantities.Pitch.{Pitch}
 use Rattle.score.specs.declared.quantities.Interval.{Interval}
-use Rattle.score.specs.Score.{pitches}
+use Rattle.score.specs.Score.{pitches, heardOf}
 
 -- a number as an interval
 abbrev pub semitones : ℕ → Interval
@@ -42,12 +43,16 @@ pub record Apart (a b : List ℕ) (d : Interval) : Type 0 where
 unfoldable pub apart : (a b : List ℕ) → ℕ → Bool
 apart a b d = some (λ x. some (λ y. eqb (interval x y .0) d) (pitches b)) (pitches a)
 
--- the set of two neighbouring columns: bits 0 to 11, a 0 for each interval that is there
+-- the set of two columns: bits 0 to 11, a 0 for each interval that is there. Where one of them has no pitch it is 4095
 unfoldable pub intervalSet : (a b : List ℕ) → ℕ
 intervalSet a b = number 12 (λ d. cond (apart a b d) 0 1)
 
--- the sets of a score
+-- the first of some columns that has a pitch; a column without cells where none has one
+abbrev pub nextHeard : (columns : List (List ℕ)) → List ℕ
+nextHeard columns = getD (heardOf columns) 0 []
+
+-- the sets of a score: that of each column but the last, with the next column that has a pitch
 abbrev pub sets : (score : List (List ℕ)) → List ℕ
 sets [] = []
 sets (a ∷ []) = []
-sets (a ∷ b ∷ score) = intervalSet a b ∷ sets (b ∷ score)
+sets (a ∷ b ∷ score) = intervalSet a (nextHeard (b ∷ score)) ∷ sets (b ∷ score)

@@ -1,9 +1,9 @@
 -- Candidates. For any table and sets a column is one where the words have zeros on the diagonal; with the theme's table,
--- where each interval of the theme is in its set (`candidate-iff`); with the score's own sets, where each is that of two
--- neighbouring columns (`candidate-apart`). So every column where the theme stands is one, in either way, and nothing is
+-- where each interval of the theme is in its set (`candidate-iff`); with the own sets of a score without empty columns, where
+-- each is that of two neighbouring columns (`candidate-apart`). So every column where the theme stands is one, in either way, and nothing is
 -- lost (`stands-candidate`, `hit-candidate`). Assumes nothing.
 use mathlib.Core.Path.{_≡_, refl, sym, ap, _∙_}
-use mathlib.Core.Bool.{true}
+use mathlib.Core.Bool.{true, false}
 use mathlib.Core.Logic.{_↔_}
 use mathlib.Core.List.{List, [], List·Memᴰ as In}
 use Prim.Native.Nat.{ℕ, suc, _+_, _-_, _%_, _≤_, _<_}
@@ -18,22 +18,24 @@ use Rattle.theory.proofs.Register.{register-sound, register-complete}
 use Rattle.theory.proofs.Lists.{some-in}
 use Rattle.score.specs.Limits.{tableWords}
 use Rattle.score.specs.declared.quantities.Pitch.{Pitch}
-use Rattle.score.specs.Score.{pitch, pitches, columnAt, onward}
+use Rattle.score.specs.Score.{pitch, pitches, columnAt, hasEmpty, heardOf, rankOf, columnsFrom}
 use Rattle.score.specs.Sets.{interval, sets, Apart}
 use Rattle.score.proofs.Intervals.{interval-lt, interval-from}
-use Rattle.score.proofs.IntervalSets.{set-bit, sets-at, sets-lt}
+use Rattle.score.proofs.Heard.{heard-full}
+use Rattle.score.proofs.IntervalSets.{set-bit, full-sets-at, sets-lt, heard-sets}
 use Rattle.ways.specs.declared.way.Way.{Way}
 use Rattle.ways.specs.declared.way.Way.the-variants.{Exact, Octave}
 use Rattle.ways.specs.declared.bookmark.Pair.{Pair}
-use Rattle.ways.specs.Way.{holds}
+use Rattle.ways.specs.Way.{holds, codeOf}
 use Rattle.score.specs.Score.{note}
 use Rattle.search.specs.Definition.{Stands}
+use Rattle.search.specs.Pairs.{candidateOf}
 use Rattle.walking.specs.Starts.{Place, starts, hit}
 use Rattle.filter.specs.Table.{themeInterval, themeTable}
 use Rattle.walking.specs.Candidates.{candidate}
 use Rattle.walking.proofs.Order.{in-starts}
 use Rattle.search.proofs.Notes.{Each, hit-each}
-use Rattle.search.proofs.Listed.{placeOf, stands-each}
+use Rattle.search.proofs.Listed.{stood, stands-start, stands-each, ranks}
 use Rattle.filter.proofs.Words.{word-in, table-at}
 
 -- ---- any table and any lent sets
@@ -80,10 +82,10 @@ module _ (w : ℕ) (theme : List ℕ) (low : 2 ≤ length theme) (high : length 
 
   -- ---- the score's own sets: each interval of the theme is that of two pitches in neighbouring columns
 
-  pub candidate-apart : (score : List (List ℕ)) (j : ℕ) → 1 ≤ j → j + length theme ≤ length score + 1
+  pub candidate-apart : (score : List (List ℕ)) → hasEmpty score ≡ false → (j : ℕ) → 1 ≤ j → j + length theme ≤ length score + 1
       → (candidate w (themeTable w theme) (sets score) (length theme) j ≡ true)
       ↔ ((i : ℕ) → i + 2 ≤ length theme → Apart (getD score (j - 1 + i) []) (getD score (j - 1 + i + 1) []) (themeInterval theme i))
-  candidate-apart score j from-first to-last = (λ e i k. same i k .0 (all .0 e i k), λ f. all .1 (λ i k. same i k .1 (f i k)))
+  candidate-apart score full j from-first to-last = (λ e i k. same i k .0 (all .0 e i k), λ f. all .1 (λ i k. same i k .1 (f i k)))
     where
       all : (candidate w (themeTable w theme) (sets score) (length theme) j ≡ true)
           ↔ ((i : ℕ) → i + 2 ≤ length theme → bit (getD (sets score) (j - 1 + i) 0) (themeInterval theme i .0) ≡ 0)
@@ -93,7 +95,7 @@ module _ (w : ℕ) (theme : List ℕ) (low : 2 ≤ length theme) (high : length 
           → (bit (getD (sets score) (j - 1 + i) 0) (themeInterval theme i .0) ≡ 0)
           ↔ Apart (getD score (j - 1 + i) []) (getD score (j - 1 + i + 1) []) (themeInterval theme i)
       same i k =
-          rw (sets-at score (j - 1 + i) (omega arith))
+          rw (full-sets-at score full (j - 1 + i) (omega arith))
           (set-bit (getD score (j - 1 + i) []) (getD score (j - 1 + i + 1) []) (themeInterval theme i) (interval-lt (note theme (i + 1)) (note theme (i + 2))))
 
 -- ---- where the theme stands
@@ -122,9 +124,9 @@ held-apart way code p q a b h e f =
     record { x = x .0; y = y .0; here = x .1; next = y .1; far = interval-from (x .0) (y .0) (interval p q) (interval-lt p q) (omega (arith, x .2, y .2)) }
 
 module _ (w : ℕ) (way : Way) (score : List (List ℕ)) (theme : List ℕ) (low : 2 ≤ length theme) (high : length theme ≤ w) (notes : (i : ℕ) → getD theme i 0 ≤ 127) where
-  each-candidate : (code j : ℕ) → 1 ≤ j → j + length theme ≤ length score + 1 → Each way code theme (onward score (columnAt j))
+  each-candidate : hasEmpty score ≡ false → (code j : ℕ) → 1 ≤ j → j + length theme ≤ length score + 1 → Each way code theme (columnsFrom score (columnAt j))
       → candidate w (themeTable w theme) (sets score) (length theme) j ≡ true
-  each-candidate code j from-first to-last each = candidate-apart w theme low high score j from-first to-last .1 there
+  each-candidate full code j from-first to-last each = candidate-apart w theme low high score full j from-first to-last .1 there
     where
       held : (i k c : ℕ) → i < length theme → k ≡ i → c ≡ j - 1 + i → holds way code (pitch (getD theme k 0)) (getD score c []) ≡ true
       held i k c h e f = rw (e, f) (rw (getD-drop (j - 1) score i []) at (each i h))
@@ -135,11 +137,23 @@ module _ (w : ℕ) (way : Way) (score : List (List ℕ)) (theme : List ℕ) (low
           (held i (i + 1 - 1) (j - 1 + i) (omega arith) (omega arith) refl)
           (held (i + 1) (i + 2 - 1) (j - 1 + i + 1) (omega arith) (omega arith) (omega arith))
 
-  pub stands-candidate : {pair : Pair} → Stands way score theme pair → candidate w (themeTable w theme) (sets score) (length theme) (pair .column .0) ≡ true
-  stands-candidate {pair} t = each-candidate (placeOf way pair .code) (pair .column .0) (t .from-first) (t .to-last) (stands-each way score theme t)
+-- ---- in a score: its own sets at the columns with a pitch are those of the score without its empty columns
 
-  pub hit-candidate : {s : Place} → In s (starts way score theme) → hit way score theme s ≡ true
-      → candidate w (themeTable w theme) (sets score) (length theme) (s .column) ≡ true
+module _ (w : ℕ) (way : Way) (score : List (List ℕ)) (theme : List ℕ) (low : 2 ≤ length theme) (high : length theme ≤ w) (notes : (i : ℕ) → getD theme i 0 ≤ 127) where
+  own-candidate : (code i : ℕ) → 1 ≤ i → i + length theme ≤ length (heardOf score) + 1 → Each way code theme (columnsFrom (heardOf score) (columnAt i))
+      → candidateOf w score (themeTable w theme) (sets score) (length theme) i ≡ true
+  own-candidate code i from-first to-last each =
+      rw (heard-sets score) (each-candidate w way (heardOf score) theme low high notes (heard-full score) code i from-first to-last each)
+
+  pub stands-candidate : {pair : Pair} → Stands way score theme pair
+      → candidateOf w score (themeTable w theme) (sets score) (length theme) (rankOf score (pair .column)) ≡ true
+  stands-candidate {pair} t =
+      let p = stood way score theme t in
+      let s = stands-start way score theme t (omega (arith, low)) in
+      rw (ranks way score theme p) (own-candidate (codeOf way (pair .shift)) (p .i) (s .from-first) (s .to-last) (stands-each way score theme t))
+
+  pub hit-candidate : {s : Place} → In s (starts way (heardOf score) theme) → hit way (heardOf score) theme s ≡ true
+      → candidateOf w score (themeTable w theme) (sets score) (length theme) (s .column) ≡ true
   hit-candidate {s} m e =
-      let t = in-starts way score theme m in
-      each-candidate (s .code) (s .column) (t .from-first) (t .to-last) (hit-each way score theme s (t .first-note) e)
+      let t = in-starts way (heardOf score) theme m in
+      own-candidate (s .code) (s .column) (t .from-first) (t .to-last) (hit-each way (heardOf score) theme s (t .first-note) e)

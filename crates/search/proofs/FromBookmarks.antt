@@ -5,12 +5,14 @@
 use mathlib.Core.Path.{_≡_, sym, subst}
 use mathlib.Core.Bool.{Bool, true}
 use mathlib.Core.Logic.{_↔_}
-use mathlib.Core.List.{List, map, List·Memᴰ as In, Memᴰ·map, Memᴰ·of-map, Memᴰ·cast}
-use Prim.Native.Nat.{ℕ, _≤_}
-use lib.ListN.{length}
+use mathlib.Core.List.{List, [], map, List·Memᴰ as In, Memᴰ·map, Memᴰ·of-map, Memᴰ·cast}
+use Prim.Native.Nat.{ℕ, _-_, _≤_}
+use native.Mathlib.Omega.{arith}
+use lib.ListN.{length, getD, length-drop}
 use Rattle.theory.specs.Pages.{hits}
 use Rattle.theory.proofs.Members.{in-hits, hits-in}
-use Rattle.score.specs.Score.{column, note}
+use Rattle.score.specs.Score.{note, heardOf, rankOf}
+use Rattle.score.proofs.Heard.{number-is}
 use Rattle.ways.specs.declared.way.Way.{Way}
 use Rattle.ways.specs.declared.bookmark.Pair.{Pair}
 use Rattle.ways.specs.declared.bookmark.Bookmark.{Bookmark}
@@ -22,101 +24,116 @@ use Rattle.paging.specs.Search.{Search, left}
 use Rattle.paging.proofs.Orders.{ordered-hits}
 use Rattle.paging.proofs.AtOrAfter.{left-exactly, left-ordered}
 use Rattle.walking.specs.Starts.{Place, starts, hit, looks}
-use Rattle.walking.specs.Candidates.{candidate}
 use Rattle.walking.proofs.Order.{Start, in-starts, starts-in}
-use Rattle.search.specs.Pairs.{pairAt, plainSearch, quickSearch}
+use Rattle.search.specs.Pairs.{plainSearch, candidateOf, quickSearch}
 use Rattle.search.specs.ReachedStarts.{IsStart, plainReached, quickReached}
-use Rattle.search.proofs.Listed.{placeOf, pair-place, starts-ordered}
+use Rattle.search.proofs.Listed.{start-inside, shownAt, Placed, placed, startOf, shows, goes-on, stands-at, ranks, starts-ordered}
 
 module _ (way : Way) (score : List (List ℕ)) (theme : List ℕ) where
+  abbrev heards : List (List ℕ)
+  heards = heardOf score
+
+  abbrev shown : Place → Pair
+  shown = shownAt way score theme
+
   -- ---- a start as a place and as a pair
 
-  start-pair : {s : Place} → Start way score theme s → IsStart way score theme (pairAt way s)
+  start-pair : {s : Place} → Start way heards theme s → IsStart way score theme (shown s)
   start-pair {s} t =
+      let k = number-is score (s .column) (t .from-first) (start-inside way heards theme t) in
       record {
-        from-first = t .from-first;
-        to-last = t .to-last;
+        from-first = k .from-first;
+        with-pitch = k .heard-there;
+        to-last = rw (k .on) (omega (arith, length-drop (s .column - 1) heards, t .from-first, t .to-last));
         not-below = shift-above way (s .code);
         not-above = shift-below way (t .small);
-        first-note = holds-true way (s .code) (note theme 1) (column score (pairAt way s .column)) (t .first-note);
+        first-note = rw (k .named) (holds-true way (s .code) (note theme 1) (getD heards (s .column - 1) []) (t .first-note));
       }
 
-  pair-start : {pair : Pair} → IsStart way score theme pair → Start way score theme (placeOf way pair)
+  -- where a start stands among the columns with a pitch
+  abbrev among : {pair : Pair} → IsStart way score theme pair → Placed way score theme pair
+  among {pair} t = placed way score theme pair (t .from-first) (t .with-pitch)
+
+  pair-start : {pair : Pair} (t : IsStart way score theme pair) → Start way heards theme (startOf way score theme (among t))
   pair-start {pair} t =
+      let p = among t in
       record {
-        from-first = t .from-first;
-        to-last = t .to-last;
+        from-first = p .from-first;
+        to-last = omega (arith, length-drop (p .i - 1) heards, p .from-first, p .to-last, rw (goes-on way score theme p) at (t .to-last));
         small = code-lt way (pair .shift) (t .not-below) (t .not-above);
         first-note =
-            true-holds way (codeOf way (pair .shift)) (note theme 1) (column score (pair .column))
-            (rw (shift-code way (pair .shift) (t .not-below)) (t .first-note));
+            true-holds way (codeOf way (pair .shift)) (note theme 1) (getD heards (p .i - 1) [])
+            (rw (shift-code way (pair .shift) (t .not-below)) (rw (stands-at way score theme p) at (t .first-note)));
       }
 
   -- ---- from a bookmark on
 
   -- along starts at some columns
   module _ (b : Bookmark) (reached : List Place) (At : ℕ → Type 0)
-      (exactly : (s : Place) → In s reached ↔ (Start way score theme s × At (s .column))) where
+      (exactly : (s : Place) → In s reached ↔ (Start way heards theme s × At (s .column))) where
     abbrev S : Search Place
     S =
         record {
           columns = length score;
           range = rangeOf way;
           starts = reached;
-          hit = hit way score theme;
-          looks = looks way score theme;
-          shown = pairAt way;
+          hit = hit way heards theme;
+          looks = looks way heards theme;
+          shown = shown;
         }
 
     abbrev Meant : Pair → Type 0
-    Meant pair = IsStart way score theme pair × At (pair .column .0) × (Before pair (markedPair b) → ⊥)
+    Meant pair = IsStart way score theme pair × At (rankOf score (pair .column)) × (Before pair (markedPair b) → ⊥)
 
-    reached-exactly : (pair : Pair) → In pair (map (pairAt way) (left S b)) ↔ Meant pair
+    reached-exactly : (pair : Pair) → In pair (map shown (left S b)) ↔ Meant pair
     reached-exactly pair = (there, back)
       where
-        there : In pair (map (pairAt way) (left S b)) → Meant pair
+        there : In pair (map shown (left S b)) → Meant pair
         there m =
-            let f = Memᴰ·of-map (pairAt way) (left S b) m in
+            let f = Memᴰ·of-map shown (left S b) m in
             let g = left-exactly S b (f .0) .0 (f .1) in
             let t = exactly (f .0) .0 (g .0) in
-            subst Meant (f .2) (start-pair (t .0), t .1, g .1)
+            let e : rankOf score (shown (f .0) .column) ≡ f .0 .column
+            = number-is score (f .0 .column) (t .0 .from-first) (start-inside way heards theme (t .0)) .ranked in
+            subst Meant (f .2) (start-pair (t .0), subst At (sym e) (t .1), g .1)
 
-        back : Meant pair → In pair (map (pairAt way) (left S b))
+        back : Meant pair → In pair (map shown (left S b))
         back t =
-            let e : pairAt way (placeOf way pair) ≡ pair = pair-place way pair (t .0 .not-below) in
-            let k = exactly (placeOf way pair) .1 (pair-start (t .0), t .1) in
-            let n : Before (pairAt way (placeOf way pair)) (markedPair b) → ⊥ =
-            subst (λ (p : Pair). Before p (markedPair b) → ⊥) (sym e) (t .2) in
-            Memᴰ·cast (sym e) (Memᴰ·map (pairAt way) (left-exactly S b (placeOf way pair) .1 (k, n)))
+            let p = among (t .0) in
+            let s = startOf way score theme p in
+            let e : shown s ≡ pair = shows way score theme p (t .0 .not-below) in
+            let k = exactly s .1 (pair-start (t .0), subst At (ranks way score theme p) (t .1)) in
+            let n : Before (shown s) (markedPair b) → ⊥ = subst (λ (p : Pair). Before p (markedPair b) → ⊥) (sym e) (t .2) in
+            Memᴰ·cast (sym e) (Memᴰ·map shown (left-exactly S b s .1 (k, n)))
 
   module _ (some : 1 ≤ length theme) (b : Bookmark) where
     -- a plain page goes through every start that does not come before the bookmark
     pub plain-reached : (pair : Pair)
         → In pair (plainReached way score theme b) ↔ (IsStart way score theme pair × (Before pair (markedPair b) → ⊥))
     plain-reached pair =
-        let e = reached-exactly b (starts way score theme) (λ j. Unit {0}) every pair in
+        let e = reached-exactly b (starts way heards theme) (λ j. Unit {0}) every pair in
         (λ m. let t = e .0 m in (t .0, t .2), λ t. e .1 (t .0, tt, t .1))
       where
-        every : (s : Place) → In s (starts way score theme) ↔ (Start way score theme s × Unit {0})
-        every s = (λ m. (in-starts way score theme m, tt), λ t. starts-in way score theme some (t .0))
+        every : (s : Place) → In s (starts way heards theme) ↔ (Start way heards theme s × Unit {0})
+        every s = (λ m. (in-starts way heards theme m, tt), λ t. starts-in way heards theme some (t .0))
 
     -- a quick page through those of them at candidates
     module _ (w : ℕ) (table sets : List ℕ) where
       abbrev Candidate : ℕ → Type 0
-      Candidate j = candidate w table sets (length theme) j ≡ true
+      Candidate i = candidateOf w score table sets (length theme) i ≡ true
 
       pub quick-reached : (pair : Pair) → In pair (quickReached w way score theme table sets b)
-          ↔ (IsStart way score theme pair × (candidate w table sets (length theme) (pair .column .0) ≡ true)
+          ↔ (IsStart way score theme pair × (candidateOf w score table sets (length theme) (rankOf score (pair .column)) ≡ true)
           × (Before pair (markedPair b) → ⊥))
-      quick-reached pair = reached-exactly b (hits keep (starts way score theme)) Candidate exactly pair
+      quick-reached pair = reached-exactly b (hits keep (starts way heards theme)) Candidate exactly pair
         where
           keep : Place → Bool
-          keep s = candidate w table sets (length theme) (s .column)
+          keep s = candidateOf w score table sets (length theme) (s .column)
 
-          exactly : (s : Place) → In s (hits keep (starts way score theme)) ↔ (Start way score theme s × Candidate (s .column))
+          exactly : (s : Place) → In s (hits keep (starts way heards theme)) ↔ (Start way heards theme s × Candidate (s .column))
           exactly s = (
-            λ m. let d = in-hits keep (starts way score theme) m in (in-starts way score theme (d .0), d .1),
-            λ t. hits-in keep (starts way score theme) (starts-in way score theme some (t .0)) (t .1),
+            λ m. let d = in-hits keep (starts way heards theme) m in (in-starts way heards theme (d .0), d .1),
+            λ t. hits-in keep (starts way heards theme) (starts-in way heards theme some (t .0)) (t .1),
           )
 
   -- ---- in order
@@ -128,5 +145,4 @@ module _ (way : Way) (score : List (List ℕ)) (theme : List ℕ) where
     pub quick-reached-ordered : (w : ℕ) (table sets : List ℕ) → Ordered (quickReached w way score theme table sets b)
     quick-reached-ordered w table sets =
         left-ordered (quickSearch w way score theme table sets) b
-        (ordered-hits (λ s. candidate w table sets (length theme) (s .column)) (pairAt way) (starts way score theme)
-        (starts-ordered way score theme))
+        (ordered-hits (λ s. candidateOf w score table sets (length theme) (s .column)) shown (starts way heards theme) (starts-ordered way score theme))

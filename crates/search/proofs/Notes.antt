@@ -8,7 +8,7 @@ use native.Mathlib.Nat.{not-suc-le-zero, le-of-suc-le-suc, add-zero}
 use native.Mathlib.Omega.{arith}
 use lib.ListN.{length, getD, drop}
 use lib.Seq.{getD-drop}
-use Rattle.score.specs.Score.{pitch, columnAt, onward}
+use Rattle.score.specs.Score.{pitch, columnAt, columnsFrom}
 use Rattle.ways.specs.declared.way.Way.{Way}
 use Rattle.ways.specs.Way.{holds}
 use Rattle.score.specs.Score.{note}
@@ -54,11 +54,11 @@ module _ (way : Way) (code : ℕ) where
 
 module _ (way : Way) (score : List (List ℕ)) (theme : List ℕ) (s : Place) where
   pub hit-each : holds way (s .code) (note theme 1) (getD score (s .column - 1) []) ≡ true → hit way score theme s ≡ true
-      → Each way (s .code) theme (onward score (columnAt (s .column)))
+      → Each way (s .code) theme (columnsFrom score (columnAt (s .column)))
   unfolding hit
   hit-each first e =
-      with-first way (s .code) theme (onward score (columnAt (s .column))) (rw (getD-drop (s .column - 1) score 0 [], add-zero) first) e
+      with-first way (s .code) theme (columnsFrom score (columnAt (s .column))) (rw (getD-drop (s .column - 1) score 0 [], add-zero) first) e
 
-  pub each-hit : Each way (s .code) theme (onward score (columnAt (s .column))) → hit way score theme s ≡ true
+  pub each-hit : Each way (s .code) theme (columnsFrom score (columnAt (s .column))) → hit way score theme s ≡ true
   unfolding hit
-  each-hit f = without-first way (s .code) theme (onward score (columnAt (s .column))) f
+  each-hit f = without-first way (s .code) theme (columnsFrom score (columnAt (s .column))) f

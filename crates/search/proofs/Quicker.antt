@@ -9,12 +9,14 @@ use lib.ListN.{length, getD}
 use borrow.Author.Tests.{le-ltb}
 use Rattle.theory.specs.Pages.{hits}
 use Rattle.theory.proofs.Lists.{none-some, none-over}
-use Rattle.theory.proofs.Hits.{hits-map}
+use Rattle.theory.proofs.Hits.{hits-map, hits-same}
+use Rattle.theory.proofs.Members.{in-hits}
 use Rattle.score.specs.Limits.{highestPitch, highestSet, tableWords}
-use Rattle.score.specs.Score.{columnsIn, scoreOf}
+use Rattle.score.specs.Score.{columnsIn, scoreOf, heardOf, rankOf}
 use Rattle.score.specs.Sets.{sets}
 use Rattle.score.specs.Refusals.{Row, badSet}
 use Rattle.score.proofs.Columns.{score-length}
+use Rattle.score.proofs.Heard.{number-is}
 use Rattle.score.proofs.IntervalSets.{sets-length, sets-lt}
 use Rattle.score.proofs.Judged.{clear-append, judge-skip}
 use Rattle.ways.specs.declared.way.Way.{Way}
@@ -34,19 +36,34 @@ use Rattle.paging.specs.Page.{leaf, away, paged}
 use Rattle.paging.specs.Listing.{SamePage}
 use Rattle.paging.proofs.Fewer.{only-listed, same-listed, same-paged}
 use Rattle.walking.specs.Starts.{Place, starts, hit}
-use Rattle.walking.specs.Candidates.{candidate}
-use Rattle.search.specs.Pairs.{pairAt, plainSearch, quickSearch, pairs}
+use Rattle.walking.proofs.Order.{in-starts}
+use Rattle.search.specs.Pairs.{plainSearch, candidateOf, quickSearch, pairs}
 use Rattle.search.specs.Page.{plainPage, quickPage}
 use Rattle.search.specs.WholeList.{candidatePairs}
+use Rattle.search.proofs.Listed.{start-inside}
 use Rattle.search.proofs.Filtered.{hit-candidate}
 
 -- what the quick search lists: the pairs at candidates
 pub quick-pairs : (way : Way) (score : List (List ℕ)) (theme lent : List ℕ)
     → listed (quickSearch wordBits way score theme (themeTable wordBits theme) lent) ≡ candidatePairs way score theme lent
 quick-pairs way score theme lent =
-    only-listed (λ s. candidate wordBits (themeTable wordBits theme) lent (length theme) (s .column)) (plainSearch way score theme)
-    ∙ sym
-    (hits-map (pairAt way) (λ (pair : Pair). candidate wordBits (themeTable wordBits theme) lent (length theme) (pair .column .0)) (hits (hit way score theme) (starts way score theme)))
+    only-listed (λ s. keep (s .column)) (plainSearch way score theme)
+    ∙ ap (map shown) (hits-same (λ s. keep (s .column)) (λ s. keep (rankOf score (shown s .column))) (hits (hit way heards theme) (starts way heards theme)) ranked)
+    ∙ sym (hits-map shown (λ (pair : Pair). keep (rankOf score (pair .column))) (hits (hit way heards theme) (starts way heards theme)))
+  where
+    heards : List (List ℕ)
+    heards = heardOf score
+
+    shown : Place → Pair
+    shown = plainSearch way score theme .shown
+
+    keep : ℕ → Bool
+    keep i = candidateOf wordBits score (themeTable wordBits theme) lent (length theme) i
+
+    ranked : (s : Place) → In s (hits (hit way heards theme) (starts way heards theme)) → keep (s .column) ≡ keep (rankOf score (shown s .column))
+    ranked s m =
+        let t = in-starts way heards theme (in-hits (hit way heards theme) (starts way heards theme) m .0) in
+        ap keep (sym (number-is score (s .column) (t .from-first) (start-inside way heards theme t) .ranked))
 
 -- ---- the score's own sets are accepted, and the notes are pitches
 
@@ -67,9 +84,9 @@ module _ (cells : List ℕ) (h : ℕ) (theme : List ℕ) (way : Way) (a : Accept
   score = scoreOf cells h
 
   abbrev keep : Place → Bool
-  keep s = candidate wordBits (themeTable wordBits theme) (sets score) (length theme) (s .column)
+  keep s = candidateOf wordBits score (themeTable wordBits theme) (sets score) (length theme) (s .column)
 
-  kept : (s : Place) → In s (starts way score theme) → hit way score theme s ≡ true → keep s ≡ true
+  kept : (s : Place) → In s (starts way (heardOf score) theme) → hit way (heardOf score) theme s ≡ true → keep s ≡ true
   kept s m e = hit-candidate wordBits way score theme (a .notes-some) (a .notes-few) (note-le a) m e
 
   -- so all pairs are listed

@@ -29,7 +29,8 @@ use Rattle.walking.specs.Candidates.{candidate, quickStarts}
 use Rattle.walking.specs.Found.{columnsOf, shiftsOf}
 use Rattle.walking.specs.Walk.{Walks}
 use Rattle.walking.proofs.Order.{starts-rising, in-starts}
-use Rattle.search.specs.Pairs.{pairAt, plainSearch, quickSearch}
+use Rattle.search.specs.Pairs.{pairAt, alongSearch}
+use Rattle.search.specs.Along.{quickAlong}
 
 left-reached : (way : Way) (n : ℕ) (b : Bookmark) → InRange (rangeOf way) n b → (reached : List Place) → Rising key 256 reached
     → ((s : Place) → In s reached → s .code < span way) → from key (keyOf way b) reached ≡ hits (λ s. atOrAfter b (pairAt way s)) reached
@@ -39,11 +40,11 @@ left-reached way n b i reached up small =
     (λ s m. key-order way b (i .not-below) (i .not-above) (s .column) (s .code) (omega (arith, small s m, span-lt way)))
 
 module _ (way : Way) (score : List (List ℕ)) (theme : List ℕ) (b : Bookmark) (i : InRange (rangeOf way) (length score) b) where
-  pub left-plain : from key (keyOf way b) (starts way score theme) ≡ left (plainSearch way score theme) b
+  pub left-plain : from key (keyOf way b) (starts way score theme) ≡ left (alongSearch way score theme) b
   left-plain = left-reached way (length score) b i (starts way score theme) (starts-rising way score theme) (λ s m. in-starts way score theme m .small)
 
   pub left-quick : (w : ℕ) (table sets : List ℕ)
-      → from key (keyOf way b) (quickStarts w way score theme table sets) ≡ left (quickSearch w way score theme table sets) b
+      → from key (keyOf way b) (quickStarts w way score theme table sets) ≡ left (quickAlong w way score theme table sets) b
   unfolding quickStarts
   left-quick w table sets =
       let keep : Place → Bool = λ s. candidate w table sets (length theme) (s .column) in

@@ -8,7 +8,7 @@ use native.Mathlib.Omega.{arith}
 use lib.ListN.{length}
 use lib.Signed.{leZ-yes}
 use Rattle.score.specs.Limits.{tableWords}
-use Rattle.score.specs.Score.{scoreOf}
+use Rattle.score.specs.Score.{scoreOf, heardOf, numberOf}
 use Rattle.score.proofs.Columns.{score-length}
 use Rattle.ways.specs.declared.way.Way.{Way}
 use Rattle.ways.specs.declared.way.AnyWay.{AnyWay}
@@ -16,7 +16,6 @@ use Rattle.ways.specs.declared.way.AnyWay.the-variants.{Moved, Written}
 use Rattle.ways.specs.declared.way.Way.the-variants.{Exact, Octave}
 use Rattle.ways.specs.declared.bookmark.Bookmark.{Bookmark}
 use Rattle.ways.specs.Way.{rangeOf, rangeAs}
-use Rattle.ways.proofs.Shifts.{shift-above, shift-below}
 use Rattle.asking.specs.Limits.{mostNotes}
 use Rattle.asking.specs.Asking.{Accepted, AcceptedSets, InRange, PlainAsks, QuickAsks}
 use Rattle.asking.proofs.Rows.{plain-clear, quick-clear}
@@ -27,14 +26,14 @@ use Rattle.paging.specs.Search.{Narrow, Right}
 use Rattle.paging.specs.Page.{leaf}
 use Rattle.paging.proofs.Answers.{paged-clear}
 use Rattle.paging.proofs.Fewer.{only-right}
+use Rattle.paging.proofs.Renumbered.{renumbered-right}
 use Rattle.paging.proofs.Paging.{Calls}
-use Rattle.walking.specs.Starts.{Place, starts}
-use Rattle.walking.specs.Candidates.{candidate}
 use Rattle.walking.proofs.Order.{in-starts}
 use Rattle.written.proofs.Listed.{written-right}
-use Rattle.search.specs.Pairs.{pairAt, plainSearch, quickSearch, searchAs}
+use Rattle.search.specs.Pairs.{alongAs, plainSearch, candidateOf, quickSearch, searchAs}
 use Rattle.search.specs.Page.{rowsOfPlain, plainPage, rowsOfQuick, quickPage}
-use Rattle.search.proofs.Listed.{starts-ordered}
+use Rattle.search.proofs.Numbers.{numbers-rise, heard-few}
+use Rattle.search.proofs.Listed.{start-within, along-ordered}
 
 -- ---- right searches
 
@@ -42,29 +41,27 @@ pub way-narrow : (way : Way) → Narrow (rangeOf way)
 way-narrow Exact = record { not-below = leZ-yes tt; some = leZ-yes tt; not-above = leZ-yes tt }
 way-narrow Octave = record { not-below = leZ-yes tt; some = leZ-yes tt; not-above = leZ-yes tt }
 
-module _ (way : Way) (score : List (List ℕ)) (theme : List ℕ) (notes : 2 ≤ length theme) (few : length score < 65535) where
-  pub plain-right : Right (plainSearch way score theme)
-  plain-right =
-      record {
-        ordered = starts-ordered way score theme;
-        each = λ s m. let t = in-starts way score theme m in
-            record {
-              from-first = t .from-first;
-              to-last = omega (arith, t .to-last);
-              not-below = shift-above way (s .code);
-              not-above = shift-below way (t .small);
-            };
-        narrow = way-narrow way;
-        few = few;
-      }
+-- along columns
+pub along-right : (way : AnyWay) (columns : List (List ℕ)) (theme : List ℕ) → 2 ≤ length theme → length columns < 65535 → Right (alongAs way columns theme)
+along-right (Moved way) columns theme notes few =
+    record {
+      ordered = along-ordered way columns theme;
+      each = λ s m. start-within way columns theme (in-starts way columns theme m);
+      narrow = way-narrow way;
+      few = few;
+    }
+along-right Written columns theme notes few = written-right columns theme notes few
 
-  pub quick-right : (w : ℕ) (table sets : List ℕ) → Right (quickSearch w way score theme table sets)
-  quick-right w table sets = only-right (λ s. candidate w table sets (length theme) (s .column)) (plainSearch way score theme) plain-right
-
--- all ways
+-- in a score
 pub right-as : (way : AnyWay) (score : List (List ℕ)) (theme : List ℕ) → 2 ≤ length theme → length score < 65535 → Right (searchAs way score theme)
-right-as (Moved way) score theme notes few = plain-right way score theme notes few
-right-as Written score theme notes few = written-right score theme notes few
+right-as way score theme notes few =
+    renumbered-right (length score) (numberOf score) (alongAs way (heardOf score) theme) (numbers-rise score)
+    (along-right way (heardOf score) theme notes (omega (arith, heard-few score))) few
+
+module _ (way : Way) (score : List (List ℕ)) (theme : List ℕ) (notes : 2 ≤ length theme) (few : length score < 65535) where
+  pub quick-right : (w : ℕ) (table sets : List ℕ) → Right (quickSearch w way score theme table sets)
+  quick-right w table sets =
+      only-right (λ s. candidateOf w score table sets (length theme) (s .column)) (plainSearch way score theme) (right-as (Moved way) score theme notes few)
 
 -- ---- the calls
 

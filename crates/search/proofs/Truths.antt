@@ -1,22 +1,22 @@
 -- Demand 2, and what joins it to the calls: every pair that a page writes stands by the published definition, plain and quick,
 -- whatever sets were lent. Looks: an answer's looks are at most the bound. Then sentences that follow from the definition: a
--- theme longer than the score has no pairs, no pair passes over a column of rests, and a finished bookmark gives an empty
--- finished page. Assumes nothing.
+-- theme with more notes than there are columns with a pitch has no pairs, an empty column begins none, and a finished bookmark
+-- gives an empty finished page. Assumes nothing.
 use mathlib.Core.Path.{_≡_, sym, ap, _∙_, subst}
-use mathlib.Core.Bool.{true}
+use mathlib.Core.Bool.{true, false, true≢false}
 use mathlib.Core.List.{List, [], _∷_, List·Memᴰ as In, List·Memᴰ·head as at-head, List·Memᴰ·tail as in-tail, List·Memᴰ·not-nil as not-nil}
 use Prim.Native.Nat.{ℕ, zero, suc, _+_, _-_, _≤_, _<_}
 use native.Mathlib.Nat.{le-trans, le-of-eq}
 use native.Mathlib.Omega.{arith}
 use lib.IntN.{ℤ}
-use lib.ListN.{length, getD, take}
+use lib.ListN.{length, take, length-drop}
 use Rattle.theory.specs.Lists.{count}
 use Rattle.theory.specs.Pages.{hits}
 use Rattle.theory.proofs.Looks.{sum-none}
 use Rattle.theory.proofs.Members.{in-hits}
 use Rattle.score.specs.Limits.{tableWords}
 use Rattle.score.specs.declared.quantities.Pitch.{Pitch}
-use Rattle.score.specs.Score.{columnAt, scoreOf, onward, pitches, note}
+use Rattle.score.specs.Score.{columnAt, column, scoreOf, heard, heardOf, rankOf}
 use Rattle.ways.specs.declared.way.Way.{Way}
 use Rattle.ways.specs.declared.way.AnyWay.{AnyWay}
 use Rattle.ways.specs.declared.way.AnyWay.the-variants.{Moved, Written}
@@ -39,12 +39,11 @@ use Rattle.paging.specs.Page.{Leaf}
 use Rattle.paging.specs.OnePage.{firstPairs}
 use Rattle.paging.proofs.Finished.{finished-again}
 use Rattle.paging.proofs.OnePages.{page-within}
-use Rattle.walking.specs.Candidates.{candidate}
 use Rattle.search.specs.Definition.{Stands, StandsAs}
-use Rattle.search.specs.Pairs.{searchAs, quickSearch, pairs, pairsAs}
+use Rattle.search.specs.Pairs.{searchAs, candidateOf, quickSearch, pairs, pairsAs}
 use Rattle.search.specs.Page.{plainPage, quickPage}
 use Rattle.search.specs.WholeList.{mostLooks, candidatePairs}
-use Rattle.search.proofs.Listed.{listed-stands}
+use Rattle.search.proofs.Listed.{listed-stands, stood, goes-on}
 use Rattle.search.proofs.AllWays.{as-stands}
 use Rattle.search.proofs.Searches.{plain-calls, quick-calls}
 use Rattle.search.proofs.PlainCall.{plain-turned, plain-leaf}
@@ -68,7 +67,7 @@ module _ (cells : List ℕ) (h : ℕ) (theme : List ℕ) (b : Bookmark) (buffers
       → StandsAs way (scoreOf cells h) theme pair
   plain-true way a {pair} m =
       let p = plain-page cells h theme way b buffers a in
-      as-stands way (scoreOf cells h) theme (in-first (length (buffers .columns)) b (pairsAs way (scoreOf cells h) theme) (subst (In pair) (p .front) m))
+      as-stands way (scoreOf cells h) theme (omega (arith, a .accepted .notes-some)) (in-first (length (buffers .columns)) b (pairsAs way (scoreOf cells h) theme) (subst (In pair) (p .front) m))
 
   -- with sets of any score: nothing false is listed
   pub quick-true : (way : Way) (a : PlainAsks cells h theme (Moved way) b (buffers .columns) (buffers .shifts)) (lent table : List ℕ)
@@ -79,7 +78,7 @@ module _ (cells : List ℕ) (h : ℕ) (theme : List ℕ) (b : Bookmark) (buffers
       let p = quick-page cells h theme way b buffers a lent table s e in
       let c : In pair (candidatePairs way (scoreOf cells h) theme lent)
       = in-first (length (buffers .columns)) b (candidatePairs way (scoreOf cells h) theme lent) (subst (In pair) (p .front) m) in
-      listed-stands way (scoreOf cells h) theme (in-hits (λ (q : Pair). candidate wordBits (themeTable wordBits theme) lent (length theme) (q .column .0)) (pairs way (scoreOf cells h) theme) c .0)
+      listed-stands way (scoreOf cells h) theme (in-hits (λ (q : Pair). candidateOf wordBits (scoreOf cells h) (themeTable wordBits theme) lent (length theme) (rankOf (scoreOf cells h) (q .column))) (pairs way (scoreOf cells h) theme) c .0)
 
 -- ---- looks: the answer's own, within the bound
 
@@ -103,7 +102,7 @@ module _ (cells : List ℕ) (h : ℕ) (theme : List ℕ) (b : Bookmark) (buffers
       let a = plain-turned cells h theme Written b buffers .0 (t, e) in
       let q : t .looks ≡ spent (searchAs Written (scoreOf cells h) theme) (length (buffers .columns)) b =
       ap looksOf (sym e ∙ ap (λ (l : Leaf). l .answer) (plain-leaf cells h theme Written b buffers a)) in
-      omega (arith, q, page-within (searchAs Written (scoreOf cells h) theme) (length (buffers .columns)) b, sum-none (count 1 (length (scoreOf cells h) + 1 - length theme)))
+      omega (arith, q, page-within (searchAs Written (scoreOf cells h) theme) (length (buffers .columns)) b, sum-none (count 1 (length (heardOf (scoreOf cells h)) + 1 - length theme)))
 
   pub quick-looks-le : (way : Way) (lent table : List ℕ) → quickPage cells h theme way b lent table buffers .answer ≡ Turned t → t .looks ≤ mostLooks cells h theme
   unfolding looksOf
@@ -115,20 +114,16 @@ module _ (cells : List ℕ) (h : ℕ) (theme : List ℕ) (b : Bookmark) (buffers
 
 -- ---- what follows from the definition
 
--- a theme longer than the score has no pairs
-pub none-longer : (way : Way) (score : List (List ℕ)) (theme : List ℕ) {pair : Pair} → length score < length theme → Stands way score theme pair → ⊥
-none-longer way score theme h s = omega (arith, s .from-first, s .to-last)
+-- a theme with more notes than there are columns with a pitch has no pairs
+pub none-longer : (way : Way) (score : List (List ℕ)) (theme : List ℕ) {pair : Pair} → length (heardOf score) < length theme → Stands way score theme pair → ⊥
+none-longer way score theme {pair} h s =
+    let p = stood way score theme s in
+    omega (arith, h, length-drop (p .i - 1) (heardOf score), rw (goes-on way score theme p) at (s .to-last))
 
--- a column that holds no pitch holds no note
-nothing-held : (way : Way) (column : List ℕ) (p : Pitch) (c : ℤ) → pitches column ≡ [] → Holds way column p c → ⊥
-nothing-held Exact column p c e k = not-nil (subst (In (k .t)) e (k .there))
-nothing-held Octave column p c e k = not-nil (subst (In (k .t)) e (k .there))
-
--- so no pair passes over a column of rests
-pub none-over-rests : (way : Way) (score : List (List ℕ)) (theme : List ℕ) {pair : Pair} (i : ℕ) → 1 ≤ i → i ≤ length theme
-    → pitches (getD (onward score (pair .column)) (i - 1) []) ≡ [] → Stands way score theme pair → ⊥
-none-over-rests way score theme {pair} i low high e s =
-    nothing-held way (getD (onward score (pair .column)) (i - 1) []) (note theme i) (pair .shift) e (s .each-note i low high)
+-- an empty column begins no pair
+pub none-at-rests : (way : Way) (score : List (List ℕ)) (theme : List ℕ) {pair : Pair} → heard (column score (pair .column)) ≡ false
+    → Stands way score theme pair → ⊥
+none-at-rests way score theme e s = true≢false (sym (s .with-pitch) ∙ e)
 
 -- ---- a finished bookmark handed in again: an empty page that is finished, with that bookmark, and nothing is written
 

@@ -14,15 +14,15 @@
 -- of an answer, `plain-looks-le` and `quick-looks-le` of `Truths`), which fits 32 bits (`most-fits`); `quick-same` of `Quicker`
 -- says that with the score's own sets a quick page is the plain page with no more looks. Assumes nothing.
 use mathlib.Core.Path.{_≡_, refl, sym, ap, _∙_, subst}
-use mathlib.Core.List.{List}
+use mathlib.Core.List.{List, []}
 use Prim.Native.Nat.{ℕ, _+_, _-_, _*_, _^_, _≤_, _<_}
 use native.Mathlib.Nat.{le-trans}
 use native.Mathlib.Omega.{arith}
-use lib.ListN.{length}
+use lib.ListN.{length, getD}
 use Rattle.theory.specs.Lists.{count}
 use Rattle.theory.proofs.Looks.{sum-none}
 use Rattle.score.specs.Limits.{tableWords}
-use Rattle.score.specs.Score.{columnsIn, scoreOf}
+use Rattle.score.specs.Score.{columnsIn, scoreOf, heardOf}
 use Rattle.score.specs.Sets.{sets}
 use Rattle.score.proofs.Columns.{score-length, column-le}
 use Rattle.ways.specs.declared.way.Way.{Way}
@@ -44,31 +44,36 @@ use Rattle.paging.specs.Listing.{Lists}
 use Rattle.paging.proofs.Fewer.{only-looks}
 use Rattle.paging.proofs.Readings.{search-lists}
 use Rattle.paging.proofs.OnePages.{call-page, page-within}
-use Rattle.walking.specs.Candidates.{candidate}
 use Rattle.walking.proofs.LookBound.{most-lt, sum-looks-le, sum-looks-none}
-use Rattle.search.specs.Pairs.{plainSearch, quickSearch, pairs, searchAs, pairsAs}
+use Rattle.search.specs.Pairs.{plainSearch, candidateOf, quickSearch, pairs, searchAs, pairsAs}
 use Rattle.search.specs.Page.{plainPage, quickPage}
 use Rattle.search.specs.WholeList.{plainLooks, candidateLooks, mostLooks, candidatePairs}
+use Rattle.search.proofs.Numbers.{heard-few, heard-long}
 use Rattle.search.proofs.Searches.{plain-calls, quick-calls}
 use Rattle.search.proofs.Quicker.{quick-pairs, own-sets, own-pairs}
 
 -- ---- looks: of a whole list and of a page at most `mostLooks`, which fits 32 bits
 
 module _ (cells : List ℕ) (h : ℕ) (theme : List ℕ) where
-  most-is : (length (scoreOf cells h) + 1 - length theme) * h * (length theme - 1) ≡ mostLooks cells h theme
-  most-is = ap (λ (n : ℕ). (n + 1 - length theme) * h * (length theme - 1)) (score-length cells h)
+  abbrev heards : List (List ℕ)
+  heards = heardOf (scoreOf cells h)
+
+  long : (k : ℕ) → length (getD heards k []) ≤ h
+  long = heard-long (scoreOf cells h) h (column-le (columnsIn cells h) h cells)
 
   pub most-fits : Accepted mostNotes cells h theme → mostLooks cells h theme < 2 ^ 32
-  most-fits a = most-lt (columnsIn cells h) h (length theme) (a .columns-few) (a .tracks-few) (a .notes-some) (a .notes-few)
+  most-fits a =
+      most-lt (length heards) h (length theme) (omega (arith, heard-few (scoreOf cells h), score-length cells h, a .columns-few)) (a .tracks-few) (a .notes-some)
+      (a .notes-few)
 
   -- as the tune is written, none
   pub all-looks-le : (way : AnyWay) → plainLooks way (scoreOf cells h) theme ≤ mostLooks cells h theme
-  all-looks-le (Moved way) = rw (← most-is) (sum-looks-le way (scoreOf cells h) theme h (column-le (columnsIn cells h) h cells))
-  all-looks-le Written = omega (arith, sum-none (count 1 (length (scoreOf cells h) + 1 - length theme)))
+  all-looks-le (Moved way) = sum-looks-le way heards theme h long
+  all-looks-le Written = omega (arith, sum-none (count 1 (length heards + 1 - length theme)))
 
-  -- none where the theme is longer than the score
-  pub all-looks-none : (way : Way) → columnsIn cells h < length theme → plainLooks (Moved way) (scoreOf cells h) theme ≡ 0
-  all-looks-none way l = sum-looks-none way (scoreOf cells h) theme h (column-le (columnsIn cells h) h cells) (omega (arith, score-length cells h))
+  -- none where the theme has more notes than there are columns with a pitch
+  pub all-looks-none : (way : Way) → length heards < length theme → plainLooks (Moved way) (scoreOf cells h) theme ≡ 0
+  all-looks-none way l = sum-looks-none way heards theme h long l
 
   -- of a page
   pub plain-page-le : (way : AnyWay) (b : Bookmark) (r : ℕ) → spent (searchAs way (scoreOf cells h) theme) r b ≤ mostLooks cells h theme
@@ -77,7 +82,7 @@ module _ (cells : List ℕ) (h : ℕ) (theme : List ℕ) where
   module _ (way : Way) where
     -- by any table and any sets
     pub quick-looks-less : (w : ℕ) (table lent : List ℕ) → allLooks (quickSearch w way (scoreOf cells h) theme table lent) ≤ plainLooks (Moved way) (scoreOf cells h) theme
-    quick-looks-less w table lent = only-looks (λ s. candidate w table lent (length theme) (s .column)) (plainSearch way (scoreOf cells h) theme)
+    quick-looks-less w table lent = only-looks (λ s. candidateOf w (scoreOf cells h) table lent (length theme) (s .column)) (plainSearch way (scoreOf cells h) theme)
 
     pub candidate-looks-le : (lent : List ℕ) → candidateLooks way (scoreOf cells h) theme lent ≤ plainLooks (Moved way) (scoreOf cells h) theme
     candidate-looks-le lent = quick-looks-less wordBits (themeTable wordBits theme) lent

@@ -1,2 +1,2 @@
 -- Laws of the functions of `page`.
-mod Calls
+mod Choosing

@@ -7,7 +7,7 @@ use lib.IntN.{ℤ, pos, negsuc}
 use lib.ListN.{length, replicate}
 use Rattle.theory.specs.Lists.{count}
 use Rattle.theory.specs.Pages.{hits}
-use Rattle.score.specs.Score.{columnAt, scoreOf}
+use Rattle.score.specs.Score.{columnAt, scoreOf, heardOf, numberOf}
 use Rattle.score.specs.Sets.{sets as setsOf}
 use Rattle.ways.specs.declared.way.Way.{Way}
 use Rattle.ways.specs.declared.way.AnyWay.{AnyWay}
@@ -22,8 +22,8 @@ use Rattle.paging.specs.Lent.{Lent, lent, readPairs}
 use Rattle.paging.specs.Page.{Leaf}
 use Rattle.filter.specs.Limits.{wordBits}
 use Rattle.filter.specs.Table.{themeTable}
-use Rattle.walking.specs.Candidates.{candidate}
 use Rattle.ways.specs.Bookmarks.{firstBookmark}
+use Rattle.search.specs.Pairs.{candidateOf}
 use Rattle.search.specs.Page.{plainPage, quickPage}
 
 -- a page as it is read: its pairs, the next bookmark, whether it is finished, its looks
@@ -86,6 +86,12 @@ abbrev quickLooks : Case → AnyWay → List ℕ
 quickLooks c (Moved way) = map (λ p. p .looks) (read (quickly c way) 3 (firstBookmark (rangeOf way)))
 quickLooks c Written = []
 
+-- the candidates from which on the theme has room, by the score's own sets
+abbrev candidatesOf : (score : List (List ℕ)) (theme : List ℕ) → List ℕ
+candidatesOf score theme =
+    map (numberOf score)
+    (hits (candidateOf wordBits score (themeTable wordBits theme) (setsOf score) (length theme)) (count 1 (length (heardOf score) + 1 - length theme)))
+
 -- the same question, with the definitions' answers
 abbrev pub made : Case → Case
 made c =
@@ -96,9 +102,7 @@ made c =
       way = c .way;
       room = c .room;
       sets = setsOf (scoreOf (c .cells) (c .tracks));
-      candidates =
-          hits (λ j. candidate wordBits (themeTable wordBits (c .theme)) (setsOf (scoreOf (c .cells) (c .tracks))) (length (c .theme)) j)
-          (count 1 (length (scoreOf (c .cells) (c .tracks)) + 1 - length (c .theme)));
+      candidates = candidatesOf (scoreOf (c .cells) (c .tracks)) (c .theme);
       pages = read (plainly c) 3 (firstBookmark (rangeAs (c .way)));
       quick = quickLooks c (c .way);
     }
@@ -256,29 +260,81 @@ cases =
           ∷ [];
       quick = 1 ∷ [];
     }
-    -- one track 60, rest, 62; theme 60 62: no pair; both sets 4095
+    -- one track 60, rest, 62; theme 60 62: (1, 0) over the empty column; sets 4091 and 4095
     ∷ record {
       cells = 60 ∷ 255 ∷ 62 ∷ [];
       tracks = 1;
       theme = 60 ∷ 62 ∷ [];
       way = Moved Exact;
       room = 9;
-      sets = 4095 ∷ 4095 ∷ [];
-      candidates = [];
-      pages = page [] (mark 4 (negsuc 126)) true 1
+      sets = 4091 ∷ 4095 ∷ [];
+      candidates = 1 ∷ [];
+      pages = page (at 1 (pos 0) ∷ []) (mark 4 (negsuc 126)) true 1
           ∷ [];
-      quick = 0 ∷ [];
+      quick = 1 ∷ [];
     }
-    -- nor in octave
+    -- the same in octave
     ∷ record {
       cells = 60 ∷ 255 ∷ 62 ∷ [];
       tracks = 1;
       theme = 60 ∷ 62 ∷ [];
       way = Moved Octave;
       room = 9;
+      sets = 4091 ∷ 4095 ∷ [];
+      candidates = 1 ∷ [];
+      pages = page (at 1 (pos 0) ∷ []) (mark 4 (pos 0)) true 1
+          ∷ [];
+      quick = 1 ∷ [];
+    }
+    -- one track rest, 60, rest, rest, 62, 64, rest; theme 60 62 64: (2, 0)
+    ∷ record {
+      cells = 255 ∷ 60 ∷ 255 ∷ 255 ∷ 62 ∷ 64 ∷ 255 ∷ [];
+      tracks = 1;
+      theme = 60 ∷ 62 ∷ 64 ∷ [];
+      way = Moved Exact;
+      room = 9;
+      sets = 4095 ∷ 4091 ∷ 4095 ∷ 4095 ∷ 4091 ∷ 4095 ∷ [];
+      candidates = 2 ∷ [];
+      pages = page (at 2 (pos 0) ∷ []) (mark 8 (negsuc 126)) true 2
+          ∷ [];
+      quick = 2 ∷ [];
+    }
+    -- the same in octave
+    ∷ record {
+      cells = 255 ∷ 60 ∷ 255 ∷ 255 ∷ 62 ∷ 64 ∷ 255 ∷ [];
+      tracks = 1;
+      theme = 60 ∷ 62 ∷ 64 ∷ [];
+      way = Moved Octave;
+      room = 9;
+      sets = 4095 ∷ 4091 ∷ 4095 ∷ 4095 ∷ 4091 ∷ 4095 ∷ [];
+      candidates = 2 ∷ [];
+      pages = page (at 2 (pos 0) ∷ []) (mark 8 (pos 0)) true 2
+          ∷ [];
+      quick = 2 ∷ [];
+    }
+    -- one track 60, rest, rest; theme 60 62: too few columns with a pitch, no start
+    ∷ record {
+      cells = 60 ∷ 255 ∷ 255 ∷ [];
+      tracks = 1;
+      theme = 60 ∷ 62 ∷ [];
+      way = Moved Exact;
+      room = 9;
       sets = 4095 ∷ 4095 ∷ [];
       candidates = [];
-      pages = page [] (mark 4 (pos 0)) true 1
+      pages = page [] (mark 4 (negsuc 126)) true 0
+          ∷ [];
+      quick = 0 ∷ [];
+    }
+    -- rests only: no pair, finished behind the last column
+    ∷ record {
+      cells = 255 ∷ 255 ∷ [];
+      tracks = 1;
+      theme = 60 ∷ 62 ∷ [];
+      way = Moved Exact;
+      room = 9;
+      sets = 4095 ∷ [];
+      candidates = [];
+      pages = page [] (mark 3 (negsuc 126)) true 0
           ∷ [];
       quick = 0 ∷ [];
     }
@@ -335,16 +391,29 @@ cases =
           ∷ [];
       quick = [];
     }
-    -- one track 60, rest, 62; theme 60 62 as it is written: no pair
+    -- one track 60, rest, 62; theme 60 62 as it is written: (1, 0) over the empty column
     ∷ record {
       cells = 60 ∷ 255 ∷ 62 ∷ [];
       tracks = 1;
       theme = 60 ∷ 62 ∷ [];
       way = Written;
       room = 9;
-      sets = 4095 ∷ 4095 ∷ [];
-      candidates = [];
-      pages = page [] (mark 4 (pos 0)) true 0
+      sets = 4091 ∷ 4095 ∷ [];
+      candidates = 1 ∷ [];
+      pages = page (at 1 (pos 0) ∷ []) (mark 4 (pos 0)) true 0
+          ∷ [];
+      quick = [];
+    }
+    -- rest, 60, rest, rest, 62, 64, rest; theme 60 62 64 as it is written: (2, 0)
+    ∷ record {
+      cells = 255 ∷ 60 ∷ 255 ∷ 255 ∷ 62 ∷ 64 ∷ 255 ∷ [];
+      tracks = 1;
+      theme = 60 ∷ 62 ∷ 64 ∷ [];
+      way = Written;
+      room = 9;
+      sets = 4095 ∷ 4091 ∷ 4095 ∷ 4095 ∷ 4091 ∷ 4095 ∷ [];
+      candidates = 2 ∷ [];
+      pages = page (at 2 (pos 0) ∷ []) (mark 8 (pos 0)) true 0
           ∷ [];
       quick = [];
     }

@@ -7,3 +7,5 @@ pub mod ReachedStarts
 pub mod Page
 pub mod WholeList
 pub mod Cases
+-- contracts of inner functions, which no public call promises
+pub mod Along

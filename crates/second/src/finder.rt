@@ -1,6 +1,7 @@
 // The definition in the requirement's own words, tried at every column and every shift, by signed differences.
 //
-// A score is read from the whole lent buffer by its number of tracks; a place that is not there is a rest. Columns count from 1.
+// A score is read from the whole lent buffer by its numbers of tracks and columns; a place that is not there is a rest. Columns
+// count from 1, and keep their numbers: those that hold no pitch are passed over one by one wherever the next one is sought.
 
 use crate::asks::Ask;
 use crate::asks::Call;
@@ -45,13 +46,48 @@ fn holds(cells: &[u8], h: usize, j: usize, p: u8, c: i16, way: Way) -> bool {
     false
 }
 
-// How many notes stand at column j with shift c, from the first to the one before the first that is missing.
+// Whether column j holds a pitch.
+fn heard(cells: &[u8], h: usize, j: usize) -> bool {
+    for track in 0..h {
+        if byte(cells, place(j, h, track)) < 128 {
+            return true;
+        }
+    }
+    false
+}
+
+// The next column with a pitch after column j; one behind the last of n where none follows.
+pub fn next_heard(cells: &[u8], h: usize, n: usize, j: usize) -> usize {
+    for k in more(j, 1)..more(n, 1) {
+        if heard(cells, h, k) {
+            return k;
+        }
+    }
+    more(n, 1)
+}
+
+// Whether column j is the first of at least m columns with a pitch, of n columns in all.
+fn roomy(cells: &[u8], h: usize, n: usize, j: usize, m: usize) -> bool {
+    if !heard(cells, h, j) {
+        return false;
+    }
+    let mut k = j;
+    for i in 1..m {
+        k = next_heard(cells, h, n, k);
+    }
+    k <= n
+}
+
+// How many notes stand at column j with shift c, from the first to the one before the first that is missing: the first in
+// column j, each other one in the next column with a pitch. Where it is asked there are enough of them.
 fn standing(cells: &[u8], theme: &[u8], a: Ask, j: usize, c: i16) -> usize {
     let way = a.way;
+    let mut k = j;
     for i in 0..a.notes {
-        if !holds(cells, a.h, more(j, i), byte(theme, i), c, way) {
+        if !holds(cells, a.h, k, byte(theme, i), c, way) {
             return i;
         }
+        k = next_heard(cells, a.h, columns_of(a.cells, a.h), k);
     }
     a.notes
 }
@@ -107,21 +143,27 @@ fn bit(x: usize, d: u8) -> bool {
     if d < 32 { (x >> d) % 2 == 1 } else { true }
 }
 
-// Whether each interval of the theme is in its set: a 0 at its bit.
-fn candidate(theme: &[u8], m: usize, sets: &[u16], j: usize) -> bool {
-    for i in 1..m {
+// Whether each interval of the theme is in its set, which has a 0 at its bit: the first in that of column j, each other one in
+// that of the next column with a pitch. The sets of the columns between are not looked at.
+fn candidate(cells: &[u8], theme: &[u8], sets: &[u16], a: Ask, j: usize) -> bool {
+    let mut k = j;
+    for i in 1..a.notes {
         let d = interval(byte(theme, less_one(i)), byte(theme, i));
-        if bit(set(sets, more(less_one(j), less_one(i))), d) {
+        if bit(set(sets, less_one(k)), d) {
             return false;
         }
+        k = next_heard(cells, a.h, columns_of(a.cells, a.h), k);
     }
     true
 }
 
-// Whether a call looks at column j: quick at candidates alone.
-fn reached(theme: &[u8], m: usize, sets: &[u16], call: Call, j: usize) -> bool {
+// Whether a call tries column j: where it has a pitch and the theme has room from there on; quick only where it is a candidate.
+fn reached(cells: &[u8], theme: &[u8], sets: &[u16], a: Ask, call: Call, j: usize) -> bool {
+    if !roomy(cells, a.h, columns_of(a.cells, a.h), j, a.notes) {
+        return false;
+    }
     if let Call::Quick = call {
-        return candidate(theme, m, sets, j);
+        return candidate(cells, theme, sets, a, j);
     }
     true
 }
@@ -140,8 +182,8 @@ pub fn next_pair(
     let n = columns_of(a.cells, a.h);
     let mut looks: usize = 0;
     let mut from = shift;
-    for j in column..last_start(n, a.notes) {
-        if reached(theme, a.notes, sets, call, j) {
+    for j in column..more(n, 1) {
+        if reached(cells, theme, sets, a, call, j) {
             let f = in_column(cells, theme, a, j, from);
             looks = more(looks, f.looks);
             if f.hit {
@@ -163,27 +205,39 @@ pub fn next_pair(
     }
 }
 
-// One more than the last column at which the theme has room: n - m + 2, or 0 where it is longer than the score.
-fn last_start(n: usize, m: usize) -> usize {
-    if m <= n { more(n - m, 2) } else { 0 }
+// How many of n columns hold a pitch.
+pub fn heard_columns(cells: &[u8], h: usize, n: usize) -> usize {
+    let mut q: usize = 0;
+    for j in 1..more(n, 1) {
+        if heard(cells, h, j) {
+            q = more(q, 1);
+        }
+    }
+    q
 }
 
-// The most looks of a whole list: (n - m + 1) * h * (m - 1), or 0 where the theme is longer than the score or none are counted.
-pub fn most_looks(a: Ask) -> usize {
+// At how many of q columns the theme has room: q - m + 1, or 0 where it is longer.
+pub fn starts_among(q: usize, m: usize) -> usize {
+    if m <= q { more(q - m, 1) } else { 0 }
+}
+
+// The most looks of a whole list: (q - m + 1) * h * (m - 1), where q columns hold a pitch, or 0 where the theme has more notes
+// or none are counted.
+pub fn most_looks(cells: &[u8], a: Ask) -> usize {
     let way = a.way;
     if !counted(way) {
         return 0;
     }
-    let starts = less_one(last_start(columns_of(a.cells, a.h), a.notes));
-    product(product(starts, a.h), less_one(a.notes))
+    let q = heard_columns(cells, a.h, columns_of(a.cells, a.h));
+    product(product(starts_among(q, a.notes), a.h), less_one(a.notes))
 }
 
-// Whether some pitch x of column k and y of the next have (y - x) mod 12 = d.
-fn spans(cells: &[u8], h: usize, k: usize, d: u8) -> bool {
+// Whether some pitch x of column k and y of column l have (y - x) mod 12 = d.
+fn spans(cells: &[u8], h: usize, k: usize, l: usize, d: u8) -> bool {
     for track in 0..h {
         let x = byte(cells, place(k, h, track));
         if x < 128 {
-            if holds(cells, h, more(k, 1), x, whole(d), Way::Octave) {
+            if holds(cells, h, l, x, whole(d), Way::Octave) {
                 return true;
             }
         }
@@ -191,10 +245,15 @@ fn spans(cells: &[u8], h: usize, k: usize, d: u8) -> bool {
     false
 }
 
-// Whether a number is the set of columns k and k + 1: bit d is 0 exactly where d is an interval, and bits 12 to 15 are 0.
-fn set_right(cells: &[u8], h: usize, k: usize, number: usize) -> bool {
+// Whether a number is the set of column k, of n columns: bit d is 0 exactly where d is an interval from column k to the next
+// one with a pitch, and bits 12 to 15 are 0. Where none follows, there is no interval.
+fn set_right(cells: &[u8], h: usize, n: usize, k: usize, number: usize) -> bool {
+    let l = next_heard(cells, h, n, k);
+    if n < l {
+        return number == 4095;
+    }
     for d in 0..12 {
-        if bit(number, d) == spans(cells, h, k, d) {
+        if bit(number, d) == spans(cells, h, k, l, d) {
             return false;
         }
     }
@@ -229,9 +288,10 @@ pub fn table_right(theme: &[u8], m: usize, table: &[u32], many: usize, stride: u
 }
 
 // Whether so many sets are those of the score, from the first on.
-pub fn sets_right(cells: &[u8], h: usize, sets: &[u16], many: usize) -> bool {
-    for k in 0..many {
-        if !set_right(cells, h, more(k, 1), set(sets, k)) {
+pub fn sets_right(cells: &[u8], sets: &[u16], a: Ask) -> bool {
+    let n = columns_of(a.cells, a.h);
+    for k in 0..a.sets {
+        if !set_right(cells, a.h, n, more(k, 1), set(sets, k)) {
             return false;
         }
     }

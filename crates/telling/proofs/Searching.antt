@@ -2,22 +2,23 @@
 -- that are left are those of the starts left at the bookmark. Laws: start, the turn of a page, end. Assumes nothing.
 use mathlib.Core.Path.{_≡_, refl, sym, ap, _∙_, subst}
 use mathlib.Core.Bool.{Bool, true, cond}
-use mathlib.Core.List.{List, [], _∷_, _++_, map, map-append, append-assoc, List·Memᴰ as In, Memᴰ·of-map}
+use mathlib.Core.List.{List, [], _∷_, _++_, map, map-append, append-assoc, List·Memᴰ as In}
 use Prim.Native.Nat.{ℕ, _+_, _-_, _*_, _≤_, _<_, zero-le}
 use native.Mathlib.Nat.{zero-add, mul-le-mul}
 use native.Mathlib.Omega.{arith}
-use lib.IntN.{ℤ}
+use lib.IntN.{ℤ, pos, natAbs}
 use lib.ListN.{length, length-append, length-map}
 use Rattle.theory.specs.Lists.{join, count}
 use Rattle.theory.specs.Pages.{hits}
 use Rattle.theory.proofs.Pages.{hits-le}
-use Rattle.theory.proofs.Lists.{count-length, map-twice}
+use Rattle.theory.proofs.Lists.{count-length}
 use Rattle.theory.proofs.Looks.{sum-none}
 use Rattle.theory.proofs.Members.{in-hits, in-count}
 use Rattle.score.specs.Limits.{mostTracks, mostColumns, tableWords}
 use Rattle.preparing.specs.declared.sets.Preparation.{Preparation}
 use Rattle.preparing.specs.declared.sets.Preparation.the-variants as Preparations
-use Rattle.score.specs.Score.{columnsIn, scoreOf}
+use Rattle.score.specs.Score.{columnsIn, scoreOf, heardOf, numberOf}
+use Rattle.score.proofs.Heard.{number-is}
 use Rattle.score.specs.Sets.{sets as setsOf}
 use Rattle.preparing.specs.Preparing.{Filled, prepareRows, Prepares}
 use Rattle.score.proofs.Judged.{judge-clear}
@@ -25,16 +26,14 @@ use Rattle.asking.specs.Limits.{mostNotes}
 use Rattle.asking.proofs.Rows.{accepted-clear, row6-clear}
 use Rattle.score.proofs.Columns.{score-length, column-le}
 use Rattle.ways.specs.declared.way.Way.{Way}
-use Rattle.ways.specs.declared.way.Way.the-variants.{Exact}
 use Rattle.ways.specs.declared.way.AnyWay.{AnyWay}
 use Rattle.ways.specs.declared.way.AnyWay.the-variants.{Moved, Written}
 use Rattle.ways.specs.declared.bookmark.Pair.{Pair}
 use Rattle.ways.specs.declared.bookmark.Bookmark.{Bookmark}
-use Rattle.ways.specs.Way.{span, rangeAs}
-use Rattle.walking.specs.Starts.{Place, place, starts, hit}
-use Rattle.written.specs.Written.{standsAt, writtenSearch}
-use Rattle.written.proofs.Listed.{asPair}
-use Rattle.search.specs.Pairs.{pairAt, quickSearch, StartAs, pairsAs}
+use Rattle.ways.specs.Way.{shiftOf, rangeAs}
+use Rattle.walking.specs.Starts.{Place, starts, hit}
+use Rattle.written.specs.Written.{standsAt}
+use Rattle.search.specs.Pairs.{quickSearch, StartAs, searchAs, pairsAs}
 use Rattle.search.specs.Page.{PlainPages, QuickPages}
 use Rattle.filter.specs.Limits.{wordBits}
 use Rattle.filter.specs.Table.{themeTable}
@@ -49,6 +48,7 @@ use Rattle.paging.proofs.UnderWay.{UnderWay, under-way-start}
 use Rattle.search.specs.WholeList.{candidateLooks}
 use Rattle.walking.proofs.Order.{in-starts}
 use Rattle.walking.proofs.LookBound.{starts-le}
+use Rattle.search.proofs.Numbers.{heard-few, heard-long}
 use Rattle.search.proofs.Searches.{plain-calls, quick-calls}
 use Rattle.search.proofs.Quicker.{own-sets, own-listed}
 use Rattle.search.proofs.WholeLists.{all-looks-le, candidate-looks-le}
@@ -56,12 +56,12 @@ use Rattle.telling.specs.Lines.{hitLine, hitLines, endLine, toldLooks, l
 use Rattle.telling.specs.Limits.{room, pagePairs, mostPairs, mostAllLooks}
 use Rattle.telling.specs.Steps.{Wrote, Room, toldPage, PageTold}
 use Rattle.telling.proofs.Puts.{wrote-nil}
-use Rattle.telling.proofs.Widths.{lines-le, end-le}
+use Rattle.telling.proofs.Widths.{shift-le, lines-le, end-le}
 
 -- what is sought: the quick search by the theme's table; or the columns at which the tune stands as it is written
 abbrev byWay : (cells : List ℕ) (h : ℕ) (theme : List ℕ) (way : AnyWay) (lent : List ℕ) → Search (StartAs way)
 byWay cells h theme (Moved way) lent = quickSearch wordBits way (scoreOf cells h) theme (themeTable wordBits theme) lent
-byWay cells h theme Written lent = writtenSearch (scoreOf cells h) theme
+byWay cells h theme Written lent = searchAs Written (scoreOf cells h) theme
 
 abbrev pub searchOf : (cells : List ℕ) (h : ℕ) (theme : List ℕ) (way : AnyWay) (lent : List ℕ) → Search (StartAs way)
 searchOf cells h theme way lent =
@@ -100,27 +100,33 @@ lines-append a b = ap join (map-append hitLine a b) ∙ join-append (map hitLine
 -- ---- bounds
 
 module _ (cells : List ℕ) (h : ℕ) (theme : List ℕ) (a : Accepted mostNotes cells h theme) where
-  -- the columns from which on the theme has room
+  abbrev heards : List (List ℕ)
+  heards = heardOf (scoreOf cells h)
+
+  heards-few : length heards ≤ mostColumns
+  heards-few = omega (arith, heard-few (scoreOf cells h), score-length cells h, a .columns-few)
+
+  -- the columns with a pitch from which on the theme has room
   abbrev fitting : ℕ
-  fitting = length (scoreOf cells h) + 1 - length theme
+  fitting = length heards + 1 - length theme
 
   fitting-few : fitting ≤ mostColumns - 1
-  fitting-few = omega (arith, score-length cells h, a .columns-few, a .notes-some)
+  fitting-few = omega (arith, heards-few, a .notes-some)
 
   pub pairs-few : (way : AnyWay) → length (pairsAs way (scoreOf cells h) theme) ≤ mostPairs
   pairs-few (Moved way) =
       omega (
         arith,
-        length-map (hits (hit way (scoreOf cells h) theme) (starts way (scoreOf cells h) theme)) (pairAt way),
-        hits-le (hit way (scoreOf cells h) theme) (starts way (scoreOf cells h) theme),
-        starts-le way (scoreOf cells h) theme h (column-le (columnsIn cells h) h cells),
+        length-map (hits (hit way heards theme) (starts way heards theme)) (searchAs (Moved way) (scoreOf cells h) theme .shown),
+        hits-le (hit way heards theme) (starts way heards theme),
+        starts-le way heards theme h (heard-long (scoreOf cells h) h (column-le (columnsIn cells h) h cells)),
         mul-le-mul {n₁ = fitting} {m₁ = h} {n₂ = mostColumns - 1} {m₂ = mostTracks} fitting-few (a .tracks-few),
       )
   pairs-few Written =
       omega (
         arith,
-        length-map (hits (standsAt (scoreOf cells h) theme) (count 1 fitting)) asPair,
-        hits-le (standsAt (scoreOf cells h) theme) (count 1 fitting),
+        length-map (hits (standsAt heards theme) (count 1 fitting)) (searchAs Written (scoreOf cells h) theme .shown),
+        hits-le (standsAt heards theme) (count 1 fitting),
         count-length 1 fitting,
         fitting-few,
       )
@@ -131,8 +137,8 @@ module _ (cells : List ℕ) (h : ℕ) (theme : List ℕ) (a : Accepted mostNotes
         arith,
         candidate-looks-le cells h theme way lent,
         all-looks-le cells h theme (Moved way),
-        mul-le-mul {n₁ = (columnsIn cells h + 1 - length theme) * h} {m₁ = length theme - 1} {n₂ = (mostColumns - 1) * mostTracks} {m₂ = mostNotes - 1}
-            (mul-le-mul {n₁ = columnsIn cells h + 1 - length theme} {m₁ = h} {n₂ = mostColumns - 1} {m₂ = mostTracks} (omega (arith, a .columns-few, a .notes-some)) (a .tracks-few))
+        mul-le-mul {n₁ = fitting * h} {m₁ = length theme - 1} {n₂ = (mostColumns - 1) * mostTracks} {m₂ = mostNotes - 1}
+            (mul-le-mul {n₁ = fitting} {m₁ = h} {n₂ = mostColumns - 1} {m₂ = mostTracks} fitting-few (a .tracks-few))
             (omega (arith, a .notes-few)),
       )
 
@@ -145,35 +151,31 @@ module _ (cells : List ℕ) (h : ℕ) (theme : List ℕ) (a : Accepted mostNotes
   told-few (Moved way) = looks-few-moved way (setsOf (scoreOf cells h))
   told-few Written = zero-le
 
+  -- the number of a column with a pitch has four digits at most
+  number-few : (i : ℕ) → 1 ≤ i → i ≤ length heards → numberOf (scoreOf cells h) i < 10000
+  number-few i low high = omega (arith, number-is (scoreOf cells h) i low high .to-last, score-length cells h, a .columns-few)
+
   -- the lines of the pairs, each of 14 bytes at most
   hits-few : (way : AnyWay) → length (hitLines (pairsAs way (scoreOf cells h) theme)) ≤ length (pairsAs way (scoreOf cells h) theme) * 14
   hits-few (Moved way) =
-      let found = hits (hit way (scoreOf cells h) theme) (starts way (scoreOf cells h) theme) in
-      omega (arith, length-map found (pairAt way), lines-le way found inside)
+      let found = hits (hit way heards theme) (starts way heards theme) in
+      let shown = searchAs (Moved way) (scoreOf cells h) theme .shown in
+      omega (arith, length-map found shown, lines-le shown found inside)
     where
-      inside : (s : Place) → In s (hits (hit way (scoreOf cells h) theme) (starts way (scoreOf cells h) theme)) → (s .column < 10000) × (s .code < span way)
+      inside : (s : Place) → In s (hits (hit way heards theme) (starts way heards theme))
+          → (numberOf (scoreOf cells h) (s .column) < 10000) × (natAbs (shiftOf way (s .code)) ≤ 127)
       inside s m =
-          let f = in-starts way (scoreOf cells h) theme (in-hits (hit way (scoreOf cells h) theme) (starts way (scoreOf cells h) theme) m .0) in
-          (omega (arith, f .to-last, score-length cells h, a .columns-few, a .notes-some), f .small)
+          let f = in-starts way heards theme (in-hits (hit way heards theme) (starts way heards theme) m .0) in
+          (number-few (s .column) (f .from-first) (omega (arith, f .to-last, a .notes-some)), shift-le way (s .code) (f .small))
   hits-few Written =
-      let found = hits (standsAt (scoreOf cells h) theme) (count 1 fitting) in
-      let same : map (pairAt Exact) (map unmoved found) ≡ map asPair found = map-twice unmoved (pairAt Exact) found in
-      omega (
-        arith,
-        length-map found asPair,
-        length-map found unmoved,
-        ap (λ (l : List Pair). length (hitLines l)) same,
-        lines-le Exact (map unmoved found) inside,
-      )
+      let found = hits (standsAt heards theme) (count 1 fitting) in
+      let shown = searchAs Written (scoreOf cells h) theme .shown in
+      omega (arith, length-map found shown, lines-le shown found inside)
     where
-      unmoved : ℕ → Place
-      unmoved j = place j 127
-
-      inside : (s : Place) → In s (map unmoved (hits (standsAt (scoreOf cells h) theme) (count 1 fitting))) → (s .column < 10000) × (s .code < span Exact)
-      inside s m =
-          let f = Memᴰ·of-map unmoved (hits (standsAt (scoreOf cells h) theme) (count 1 fitting)) m in
-          let t = in-count 1 fitting (in-hits (standsAt (scoreOf cells h) theme) (count 1 fitting) (f .1) .0) in
-          subst (λ (x : Place). (x .column < 10000) × (x .code < span Exact)) (f .2) (omega (arith, t .1, fitting-few), omega arith)
+      inside : (j : ℕ) → In j (hits (standsAt heards theme) (count 1 fitting)) → (numberOf (scoreOf cells h) j < 10000) × (natAbs (pos 0) ≤ 127)
+      inside j m =
+          let t = in-count 1 fitting (in-hits (standsAt heards theme) (count 1 fitting) m .0) in
+          (number-few j (t .0) (omega (arith, t .1, a .notes-some)), omega arith)
 
   -- all lines have room
   pub lines-few : (way : AnyWay) → length (linesOf way (scoreOf cells h) theme) ≤ room
@@ -214,7 +216,7 @@ module _ (cells : List ℕ) (h : ℕ) (theme : List ℕ) (way : AnyWay) (lent : 
     where
       by : (way : AnyWay) → allLooks (searchOf cells h theme way lent) ≡ toldLooks way (scoreOf cells h) theme
       by (Moved way) = ap (λ (l : List ℕ). candidateLooks way (scoreOf cells h) theme l) o
-      by Written = sum-none (count 1 (length (scoreOf cells h) + 1 - length theme))
+      by Written = sum-none (count 1 (length (heardOf (scoreOf cells h)) + 1 - length theme))
 
   abbrev pub callOf : (table : List ℕ) → Bookmark → Lent → Leaf
   callOf table b buffers = toldPage cells h theme way b lent table buffers

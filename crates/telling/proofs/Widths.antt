@@ -14,8 +14,6 @@ use Rattle.ways.specs.declared.way.Way.{Way}
 use Rattle.ways.specs.declared.way.Way.the-variants.{Exact, Octave}
 use Rattle.ways.specs.declared.bookmark.Pair.{Pair}
 use Rattle.ways.specs.Way.{span, shiftOf}
-use Rattle.walking.specs.Starts.{Place}
-use Rattle.search.specs.Pairs.{pairAt}
 use Rattle.telling.specs.Text.{digits, decimal, signed, line, hitWord, endWord, refusedWord}
 use Rattle.telling.specs.Lines.{hitLine, endLine, refusedLine, hitLines}
 
@@ -74,17 +72,17 @@ pub shift-le : (way : Way) (code : ℕ) → code < span way → natAbs (shiftOf 
 shift-le Exact code h = size-le (ltb code 127) (127 - suc code) (code - 127) (λ e. let l : code < 127 = ltb-true code 127 e in omega arith) (λ e. omega arith)
 shift-le Octave code h = omega arith
 
--- ---- all lines of some places
+-- ---- all lines of some starts, each of which shows a pair
 
-pub lines-le : (way : Way) (places : List Place) → ((s : Place) → In s places → (s .column < 10000) × (s .code < span way))
-    → length (hitLines (map (pairAt way) places)) ≤ length places * 14
-lines-le way [] f = omega arith
-lines-le way (s ∷ places) f =
+pub lines-le : {Start : Type 0} (shown : Start → Pair) (xs : List Start)
+    → ((s : Start) → In s xs → (shown s .column .0 < 10000) × (natAbs (shown s .shift) ≤ 127)) → length (hitLines (map shown xs)) ≤ length xs * 14
+lines-le shown [] f = omega arith
+lines-le shown (s ∷ xs) f =
     let here = f s (at-head refl) in
     omega (
       arith,
-      length-append (hitLine (pairAt way s)) (hitLines (map (pairAt way) places)),
-      hit-le (pairAt way s) (here .0) (shift-le way (s .code) (here .1)),
-      lines-le way places (λ p m. f p (in-tail m)),
-      suc-mul (length places) 14,
+      length-append (hitLine (shown s)) (hitLines (map shown xs)),
+      hit-le (shown s) (here .0) (here .1),
+      lines-le shown xs (λ p m. f p (in-tail m)),
+      suc-mul (length xs) 14,
     )

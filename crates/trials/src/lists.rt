@@ -112,36 +112,36 @@ fn turned_on(r: Reading, got: Got) -> Reading {
 }
 
 // What differs of a list: where it is over, floor(L / r) + 1 pages, and no more looks than the bound.
-fn whole_fault(a: Ask, r: Reading) -> Fault {
+fn whole_fault(cells: &[u8], a: Ask, r: Reading) -> Fault {
     if !r.over {
         return Fault::Nothing;
     }
     if r.pages != pages_for(r.pairs, a.columns) {
         return Fault::Pages;
     }
-    if most_looks(a) < r.looks {
+    if most_looks(cells, a) < r.looks {
         return Fault::Looks;
     }
     Fault::Nothing
 }
 
 // What differs of a page that is no refusal. A list is asked for where nothing is turned away.
-fn list_fault(a: Ask, r: Reading, number: u8) -> Fault {
+fn list_fault(cells: &[u8], a: Ask, r: Reading, number: u8) -> Fault {
     if number != 0 {
         return Fault::Refusal;
     }
-    whole_fault(a, r)
+    whole_fault(cells, a, r)
 }
 
 // What was seen of a page, and of the list where it is over.
-fn judged(a: Ask, r: Reading, s: Seen) -> Seen {
+fn judged(cells: &[u8], a: Ask, r: Reading, s: Seen) -> Seen {
     let seen = s.fault;
     if differs(seen) {
         return s;
     }
     let call = s.call;
     let got = s.got;
-    let fault = list_fault(a, r, got.number);
+    let fault = list_fault(cells, a, r, got.number);
     Seen { call, fault, got }
 }
 
@@ -194,7 +194,7 @@ fn read_on(
         page(columns, shifts, a, call, got);
     }
     let mut next = turned_on(r, got);
-    if !noted(cells, theme, sets, tally, a, judged(a, next, s)) {
+    if !noted(cells, theme, sets, tally, a, judged(cells, a, next, s)) {
         next.over = true;
     }
     next

@@ -17,7 +17,7 @@ use Rattle.theory.proofs.Looks.{sum-le}
 use Rattle.score.specs.declared.quantities.Pitch.{Pitch}
 use Rattle.score.specs.Limits.{mostTracks, mostColumns}
 use Rattle.asking.specs.Limits.{mostNotes}
-use Rattle.score.specs.Score.{pitch, pitches, columnAt, onward}
+use Rattle.score.specs.Score.{pitch, pitches, columnAt, columnsFrom}
 use Rattle.ways.specs.declared.way.Way.{Way}
 use Rattle.ways.specs.declared.way.Way.the-variants.{Exact, Octave}
 use Rattle.ways.specs.Way.{holds}
@@ -37,7 +37,7 @@ looked-le way code (p ∷ notes) columns = step (holds way code (pitch p) (getD 
 pub looks-le : (way : Way) (score : List (List ℕ)) (theme : List ℕ) (s : Place) → looks way score theme s ≤ length theme - 1
 unfolding looks
 looks-le way score theme s =
-    omega (arith, looked-le way (s .code) (drop 1 theme) (drop 1 (onward score (columnAt (s .column)))), length-drop 1 theme)
+    omega (arith, looked-le way (s .code) (drop 1 theme) (drop 1 (columnsFrom score (columnAt (s .column)))), length-drop 1 theme)
 
 -- ---- the starts of a column
 

@@ -8,7 +8,7 @@ use lib.ListN.{length, getD, drop}
 use Rattle.theory.specs.Lists.{count}
 use Rattle.theory.specs.Pages.{hits}
 use Rattle.score.specs.declared.quantities.Pitch.{Pitch}
-use Rattle.score.specs.Score.{pitch, columnAt, onward}
+use Rattle.score.specs.Score.{pitch, columnAt, columnsFrom}
 use Rattle.ways.specs.declared.way.Way.{Way}
 use Rattle.ways.specs.Way.{span, holds}
 use Rattle.score.specs.Score.{note}
@@ -50,7 +50,7 @@ looked way code (p ∷ notes) columns = suc (cond (holds way code (pitch p) (get
 module _ (way : Way) (score : List (List ℕ)) (theme : List ℕ) where
   -- a start is a hit where the notes from the second on follow, and costs its looks
   unfoldable pub hit : Place → Bool
-  hit s = follows way (s .code) (drop 1 theme) (drop 1 (onward score (columnAt (s .column))))
+  hit s = follows way (s .code) (drop 1 theme) (drop 1 (columnsFrom score (columnAt (s .column))))
 
   unfoldable pub looks : Place → ℕ
-  looks s = looked way (s .code) (drop 1 theme) (drop 1 (onward score (columnAt (s .column))))
+  looks s = looked way (s .code) (drop 1 theme) (drop 1 (columnsFrom score (columnAt (s .column))))

@@ -137,7 +137,7 @@ module _ (w : ℕ) (theme : List ℕ) where
 pub made-end : {theme words : List ℕ} {k : ℕ} → Made wordBits theme k words → k ≡ length theme → Words theme words
 made-end {theme} m e = record { long = m .long; each = λ cell h. rw e at (m .each cell h) ∙ sym (cells-zeros wordBits theme (cell ∷ [])) }
 
--- ---- a column that is looked up cell by cell
+-- ---- a column that is looked up, one cell after another
 
 pub looked-first : {theme words : List ℕ} → Words theme words → (column : List ℕ) → 1 ≤ length column → getD column 0 0 < bytes
     → getD words (getD column 0 0) 0 ≡ cellsWord wordBits theme (take 1 column)
@@ -152,3 +152,14 @@ module _ {theme words : List ℕ} (t : Words theme words) (column : List ℕ) {i
 
   pub looked-end : i ≡ length column → word ≡ cellsWord wordBits theme column
   looked-end all = e ∙ ap (cellsWord wordBits theme) (take-all i column (omega arith))
+
+-- two cells more, and a last one that is left over
+module _ {theme words : List ℕ} (t : Words theme words) (column : List ℕ) (i : ℕ) {word : ℕ} (e : word ≡ cellsWord wordBits theme (take i column)) where
+  pub looked-two : i + 1 < length column → getD column i 0 < bytes → getD column (i + 1) 0 < bytes
+      → bitAnd (bitAnd word (getD words (getD column i 0) 0)) (getD words (getD column (i + 1) 0) 0) ≡ cellsWord wordBits theme (take (i + 2) column)
+  looked-two h b₁ b₂ =
+      let two : i + 2 ≡ i + 1 + 1 = omega arith in
+      rw two (looked-more t column {i = i + 1} (looked-more t column {i = i} e (omega arith) b₁) h b₂)
+
+  pub looked-last : i + 1 ≡ length column → getD column i 0 < bytes → bitAnd word (getD words (getD column i 0) 0) ≡ cellsWord wordBits theme column
+  looked-last all b = looked-end t column {i = i + 1} (looked-more t column {i = i} e (omega arith) b) all

@@ -12,7 +12,7 @@ use lib.Signed.{leZ-yes}
 use Rattle.theory.specs.Lists.{count}
 use Rattle.theory.specs.Pages.{hits}
 use Rattle.theory.proofs.Members.{in-count, count-in, in-hits, hits-in}
-use Rattle.score.specs.Score.{columnAt, onward}
+use Rattle.score.specs.Score.{columnAt, columnsFrom}
 use Rattle.ways.specs.declared.bookmark.Pair.{Pair}
 use Rattle.paging.specs.Order.{Ordered, none, one, more}
 use Rattle.paging.specs.Search.{Right, listed}
@@ -24,7 +24,7 @@ use Rattle.written.proofs.Standing.{Each, stands-each, each-stands}
 abbrev pub asPair : ℕ → Pair
 asPair j = record { column = columnAt j; shift = pos 0 }
 
-count-ordered : (a n : ℕ) → Ordered (map asPair (count a n))
+pub count-ordered : (a n : ℕ) → Ordered (map asPair (count a n))
 count-ordered a zero = none
 count-ordered a (suc zero) = one
 count-ordered a (suc (suc n)) = let l : a < suc a = omega arith in more (inl l) (count-ordered (suc a) (suc n))
@@ -51,7 +51,7 @@ module _ (score : List (List ℕ)) (theme : List ℕ) where
     pub from-first : 1 ≤ pair .column .0
     pub to-last : pair .column .0 + length theme ≤ length score + 1
     pub untouched : pair .shift ≡ pos 0
-    pub each : Each theme (onward score (pair .column))
+    pub each : Each theme (columnsFrom score (pair .column))
 
   pub listed-each : {pair : Pair} → In pair (listed (writtenSearch score theme)) → Sounding pair
   listed-each {pair} m =

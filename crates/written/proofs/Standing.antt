@@ -16,7 +16,7 @@ use Rattle.theory.specs.Bits.{bit}
 use Rattle.theory.proofs.Either.{either}
 use Rattle.theory.proofs.Register.{Diagonal}
 use Rattle.score.specs.Limits.{highestPitch}
-use Rattle.score.specs.Score.{columnAt, columnsIn, scoreOf, onward, pitches}
+use Rattle.score.specs.Score.{columnAt, columnsIn, scoreOf, columnsFrom, pitches}
 use Rattle.score.proofs.Columns.{cut-at}
 use Rattle.written.specs.Written.{has, sounds, standsAt}
 use Rattle.written.specs.Words.{wordAt}
@@ -55,13 +55,13 @@ each-sounds (p ∷ notes) columns f =
     (each-sounds notes (drop 1 columns) (λ i h. ap (λ (c : List ℕ). has c (getD notes i 0)) (next-column columns i) ∙ f (suc i) (omega arith)))
 
 module _ (score : List (List ℕ)) (theme : List ℕ) (j : ℕ) where
-  pub stands-each : standsAt score theme j ≡ true → Each theme (onward score (columnAt j))
+  pub stands-each : standsAt score theme j ≡ true → Each theme (columnsFrom score (columnAt j))
   unfolding standsAt
-  stands-each e = sounds-each theme (onward score (columnAt j)) e
+  stands-each e = sounds-each theme (columnsFrom score (columnAt j)) e
 
-  pub each-stands : Each theme (onward score (columnAt j)) → standsAt score theme j ≡ true
+  pub each-stands : Each theme (columnsFrom score (columnAt j)) → standsAt score theme j ≡ true
   unfolding standsAt
-  each-stands f = each-sounds theme (onward score (columnAt j)) f
+  each-stands f = each-sounds theme (columnsFrom score (columnAt j)) f
 
 -- ---- the words of the columns
 
@@ -69,7 +69,7 @@ module _ (w : ℕ) (cells : List ℕ) (h : ℕ) (theme : List ℕ) (notes : 1 �
     (sung : (i : ℕ) → getD theme i 0 ≤ highestPitch) (s : ℕ) (room : s + length theme ≤ columnsIn cells h) where
   -- bit i of the word of column s + i is 0 exactly where that column has note i + 1
   at-note : (i : ℕ) → i < length theme
-      → bit (wordAt w cells h theme (s + i)) i ≡ cond (has (getD (onward (scoreOf cells h) (columnAt (s + 1))) i []) (getD theme i 0)) 0 1
+      → bit (wordAt w cells h theme (s + i)) i ≡ cond (has (getD (columnsFrom (scoreOf cells h) (columnAt (s + 1))) i []) (getD theme i 0)) 0 1
   at-note i l =
       let z : s + 1 - 1 ≡ s = omega arith in
       rw (z, getD-drop s (scoreOf cells h) i [], cut-at (columnsIn cells h) h cells (s + i) (omega arith), has-cells (take h (drop ((s + i) * h) cells)) (getD theme i 0) (sung i))

@@ -1,6 +1,7 @@
 -- The tune in its own key: a theme stands at a column as it is written where each of its notes is a pitch of its own column.
 -- The definition that matters is `standsAt`; that these are the exact pairs with shift 0 is proved (in `search`). The page call
--- promises `WrittenPages`. Assumes nothing.
+-- promises `WrittenPages`. The search goes along the columns that it is handed, one after another; empty columns, those without
+-- a pitch, are taken out before, by its caller. Assumes nothing.
 use mathlib.Core.Bool.{Bool, true, false, cond}
 use mathlib.Core.List.{List, [], _∷_}
 use Prim.Native.Nat.{ℕ, _+_, _-_}
@@ -8,7 +9,7 @@ use lib.Dec.{eqb}
 use lib.IntN.{pos}
 use lib.ListN.{length, getD, drop}
 use Rattle.theory.specs.Lists.{some, count}
-use Rattle.score.specs.Score.{columnAt, scoreOf, onward, pitches}
+use Rattle.score.specs.Score.{columnAt, scoreOf, columnsFrom, pitches}
 use Rattle.ways.specs.declared.way.AnyWay.the-variants.{Written}
 use Rattle.ways.specs.declared.bookmark.Bookmark.{Bookmark}
 use Rattle.ways.specs.Way.{rangeAs}
@@ -29,7 +30,7 @@ sounds (p ∷ notes) columns = cond (has (getD columns 0 []) p) (sounds notes (d
 
 -- the theme stands at column j as it is written
 unfoldable pub standsAt : (score : List (List ℕ)) (theme : List ℕ) (j : ℕ) → Bool
-standsAt score theme j = sounds theme (onward score (columnAt j))
+standsAt score theme j = sounds theme (columnsFrom score (columnAt j))
 
 -- the search reaches each column from which on the theme has room, 1 to n - m + 1; each shows the pair with shift 0, and none
 -- costs a look

@@ -26,16 +26,20 @@ pub fn words_of(theme: &[u8]) -> [u32; BYTES]
     words
 }
 
-// The words of a column's cells, and-ed: all ones where there are only rests.
+// The words of a column's cells, and-ed: all ones where there are only rests. After the first cell it takes two a turn,
+// and then the one that may be left.
 pub fn column_word(column: &[u8], words: &[u32; BYTES]) -> u32
     requires { ⌜ 1 ≤ length (now column) ⌝ }
     ensures { λ r. ⌜ ((theme : List ℕ) → Words theme (now (words .entry)) → r ≡ cellsWord wordBits theme (now (column .entry))) ⌝ }
 {
     let mut word = words[column[0] as usize];
     let mut i = 1;
-    while i < column.len() {
-        word = word & words[column[i] as usize];
-        i += 1;
+    while i + 1 < column.len() {
+        word = word & words[column[i] as usize] & words[column[i + 1] as usize];
+        i += 2;
+    }
+    if i < column.len() {
+        return word & words[column[i] as usize];
     }
     word
 }

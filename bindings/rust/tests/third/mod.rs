@@ -36,6 +36,16 @@ impl Call {
         self.cells[(j - 1) * self.tracks..j * self.tracks].iter().filter(|c| **c <= 127).map(|c| i32::from(*c))
     }
 
+    fn has_pitch(&self, j: usize) -> bool {
+        self.column(j).next().is_some()
+    }
+
+    /// Where the theme's notes are sought from column j on: the columns with a pitch, one after another, one for each note,
+    /// or fewer where no more are left.
+    pub fn onward(&self, j: usize) -> Vec<usize> {
+        (j..=self.n()).filter(|k| self.has_pitch(*k)).take(self.theme.len()).collect()
+    }
+
     fn check_score(&self) -> Result<(), Refusal> {
         if self.tracks == 0 || self.tracks > 16 {
             return refuse(1, 0);
@@ -91,8 +101,9 @@ impl Call {
         }
         let set = |k| {
             let mut set = 4095;
+            let Some(next) = (k + 1..=self.n()).find(|l| self.has_pitch(*l)) else { return set };
             for x in self.column(k) {
-                for y in self.column(k + 1) {
+                for y in self.column(next) {
                     set &= !(1 << (y - x).rem_euclid(12));
                 }
             }
@@ -101,7 +112,8 @@ impl Call {
         (Ok(()), (1..self.n()).map(set).collect())
     }
 
-    fn interval(&self, i: usize) -> i32 {
+    /// The interval from note i to the next, counted from 0.
+    pub fn interval(&self, i: usize) -> i32 {
         (i32::from(self.theme[i + 1]) - i32::from(self.theme[i])).rem_euclid(12)
     }
 
@@ -126,8 +138,12 @@ impl Call {
         // the tune as it is written takes no looks
         let cost = u32::from(self.way != AnyWay::Written);
         let (mut written, mut looks) = (0, 0);
-        for j in 1..=(self.n() + 1).saturating_sub(self.theme.len()) {
-            if quick && !(0..self.theme.len() - 1).all(|i| self.lent.sets[j - 1 + i] >> self.interval(i) & 1 == 0) {
+        for j in 1..=self.n() {
+            let places = self.onward(j);
+            if !self.has_pitch(j) || places.len() < self.theme.len() {
+                continue;
+            }
+            if quick && !(0..self.theme.len() - 1).all(|i| self.lent.sets[places[i] - 1] >> self.interval(i) & 1 == 0) {
                 continue;
             }
             for c in lowest..=highest {
@@ -137,7 +153,7 @@ impl Call {
                 let mut hit = true;
                 for i in 1..self.theme.len() {
                     looks += cost;
-                    if !self.holds(j + i, i, c) {
+                    if !self.holds(places[i], i, c) {
                         hit = false;
                         break;
                     }

@@ -18,6 +18,9 @@ column-in-requires c κs = search needs
 loop-holds : tie.Need-loop-holds Inv-loop μ-loop
 loop-holds c = search needs
 
+more-requires : tie.Need-more-requires Inv-loop μ-loop
+more-requires c κs = search needs
+
 note-of-requires : tie.Need-note-of-requires Inv-loop μ-loop
 note-of-requires c κs = search needs
 
@@ -47,6 +50,7 @@ fill-theme-spec =
     μ-loop
     column-in-requires
     loop-holds
+    more-requires
     note-of-requires
     put-byte-requires
     add-i

@@ -7,10 +7,10 @@ use Rattle.cases.proofs.worlds.spell.Statement.{statement}
 use Rattle.cases.proofs.worlds.spell.Tie as tie
 
 abbrev Inv-loop : tie.InvT-loop
-Inv-loop s₀ many x base rest₀ i₀ s rest i = length s ≡ length s₀
+Inv-loop s₀ many x base low rest₀ i₀ s rest i = length s ≡ length s₀
 
 abbrev μ-loop : tie.MeasureT-loop
-μ-loop s₀ many x base rest₀ i₀ s rest i = many - i
+μ-loop s₀ many x base low rest₀ i₀ s rest i = many - i
 
 returns : tie.Need-returns Inv-loop μ-loop
 returns c = search needs
@@ -18,8 +18,11 @@ returns c = search needs
 loop-holds : tie.Need-loop-holds Inv-loop μ-loop
 loop-holds c = search needs
 
-rem-world-cell : tie.Need-rem-world-cell Inv-loop μ-loop
-rem-world-cell c = search needs
+rem-more : tie.Need-rem-more Inv-loop μ-loop
+rem-more c = search needs
+
+more-requires : tie.Need-more-requires Inv-loop μ-loop
+more-requires c κs = search needs
 
 world-cell-requires : tie.Need-world-cell-requires Inv-loop μ-loop
 world-cell-requires c κs = search needs
@@ -53,7 +56,8 @@ spell-spec =
     μ-loop
     returns
     loop-holds
-    rem-world-cell
+    rem-more
+    more-requires
     world-cell-requires
     put-byte-requires
     div-rest

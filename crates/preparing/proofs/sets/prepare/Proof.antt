@@ -1,7 +1,7 @@
 -- `preparing::sets::prepare` meets its contract: each way out is a row of the call. Assumes nothing.
 use borrow.Author.Needs.{needs}
 use mathlib.Core.Path.{sym, _∙_}
-use Rattle.preparing.proofs.Preparing.{prepares-refused, prepares-long, prepares-room, prepares-filled}
+use Rattle.preparing.proofs.Preparing.{prepares-refused, prepares-long, prepares-room, prepares-few, prepares-filled}
 use Rattle.preparing.proofs.sets.prepare.Statement.{statement}
 use Rattle.preparing.proofs.sets.prepare.Tie as tie
 
@@ -29,7 +29,8 @@ fill-requires : tie.Need-fill-requires
 fill-requires c κs =
     let score = sym (c .before .before .before .before .before .check-score .ensures) ∙ c .before .before .before .enum-told .given .1 in
     let x = c .before .before .before .before .before .before .before .before .args in
-    prepares-room (x .cells .now) (x .tracks) (x .sets .now) score (sym (c .before .before .bad-length .ensures) ∙ c .before .if1 .left)
+    let long = sym (c .before .before .bad-length .ensures) ∙ c .before .if1 .left in
+    (prepares-room (x .cells .now) (x .tracks) (x .sets .now) score long, prepares-few (x .cells .now) (x .tracks) (x .sets .now) score long)
 
 same-length : tie.Need-same-length
 same-length c = search needs

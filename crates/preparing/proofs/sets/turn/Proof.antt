@@ -3,18 +3,18 @@
 use borrow.Author.Needs.{needs}
 use Prim.Native.Nat.{_-_}
 use lib.ListN.{length}
-use Rattle.preparing.proofs.Filling.{Turns, turns-start, turns-more, turns-end}
+use Rattle.preparing.proofs.Filling.{Turns, turns-start, turns-on, turns-end}
 use Rattle.preparing.proofs.sets.turn.Statement.{statement}
 use Rattle.preparing.proofs.sets.turn.Tie as tie
 
 abbrev Inv-loop : tie.InvT-loop
-Inv-loop first sets₀ earlier₀ k₀ sets earlier k = Turns first sets₀ sets k earlier
+Inv-loop first sets₀ earlier₀ k₀ sets earlier k = Turns first sets₀ sets₀ sets k earlier
 
 abbrev μ-loop : tie.MeasureT-loop
 μ-loop first sets₀ earlier₀ k₀ sets earlier k = length sets₀ - k
 
 loop-holds : tie.Need-loop-holds Inv-loop μ-loop
-loop-holds c = turns-start _ _
+loop-holds c = turns-start _ _ _
 
 mul-later : tie.Need-mul-later Inv-loop μ-loop
 mul-later c = search needs
@@ -38,13 +38,13 @@ loop-less : tie.Need-loop-less Inv-loop μ-loop
 loop-less c = search needs
 
 loop-again : tie.Need-loop-again Inv-loop μ-loop
-loop-again c = turns-more _ _ _ (c .before .before .before .loop .inv) (search needs) (c .set-of .ensures)
+loop-again c = turns-on _ _ _ (c .before .before .before .loop .inv) (search needs) (c .set-of .ensures)
 
 same-length : tie.Need-same-length Inv-loop μ-loop
 same-length c = c .before .loop .inv .long
 
 returns : tie.Need-returns Inv-loop μ-loop
-returns c = turns-end _ _ (c .before .loop .inv) (search needs)
+returns c = turns-end _ _ _ (c .before .loop .inv) (search needs)
 
 pub turn-spec : {M : Type 1} → statement M
 turn-spec =

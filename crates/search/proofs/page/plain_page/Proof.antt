@@ -1,20 +1,20 @@
--- `search::page::plain_page` meets its contract: by cases on the way. Assumes nothing.
+-- `search::page::plain_page` meets its contract: along all columns, turned away, or over the empty columns. Assumes nothing.
 use borrow.Author.Needs.{needs}
-use Rattle.search.proofs.page.Calls.{written-plain}
+use mathlib.Core.Path.{sym, _∙_}
+use Prim.Native.Nat.{ℕ}
+use native.Mathlib.Omega.{arith}
+use lib.ListN.{length-replicate}
+use borrow.Author.Tests.{not-true}
+use Rattle.score.specs.Limits.{mostCells}
+use Rattle.search.proofs.page.Choosing.{cells-most, full-pages, plain-checked, plain-refused}
 use Rattle.search.proofs.page.plain_page.Statement.{statement}
 use Rattle.search.proofs.page.plain_page.Tie as tie
 
-enum-known-way : tie.Need-enum-known-way
-enum-known-way c = search needs
+any-empty-requires : tie.Need-any-empty-requires
+any-empty-requires c κs = tt
 
-moved-page-requires : tie.Need-moved-page-requires
-moved-page-requires c κs = search needs
-
-enum-told : tie.Need-enum-told
-enum-told c = search needs
-
-written-page-requires : tie.Need-written-page-requires
-written-page-requires c κs = search needs
+along-page-requires : tie.Need-along-page-requires
+along-page-requires c κs = tt
 
 same-length : tie.Need-same-length
 same-length c = search needs
@@ -23,7 +23,39 @@ same-length-2 : tie.Need-same-length-2
 same-length-2 c = search needs
 
 returns : tie.Need-returns
-returns c = let m = c .before .before .before in rw (m .before .before .before .before .way .given .1) (m .moved-page .ensures)
+returns c =
+    let e = c .before .before .before .before .before .before .before in
+    let a = e .before .before .before .before .args in
+    full-pages (a .cells .now) (a .tracks) (a .theme .now) (a .way) (a .bookmark) (a .columns .now) (a .shifts .now)
+    (sym (e .any-empty .ensures) ∙ not-true _ (c .before .before .before .before .before .before .if1 .taken))
+    (c .before .before .before .along-page .ensures)
+
+check-plain-requires : tie.Need-check-plain-requires
+check-plain-requires c κs = tt
+
+enum-known-e : tie.Need-enum-known-e
+enum-known-e c = search needs
+
+returns-2 : tie.Need-returns-2
+returns-2 c =
+    let c8 = c .before .before .before .before .before .before .before .before in
+    let a = c8 .before .args in
+    plain-refused (a .cells .now) (a .tracks) (a .theme .now) (a .way) (a .bookmark) (a .columns .now) (a .shifts .now)
+    (c .before .before .before .check-plain .ensures) (c .before .e .given .1)
+
+enum-told : tie.Need-enum-told
+enum-told c = search needs
+
+slice-aggregate-passed-page : tie.Need-slice-aggregate-passed-page
+slice-aggregate-passed-page c = search needs
+
+passed-page-requires : tie.Need-passed-page-requires
+passed-page-requires c κs =
+    let c8 = c .before .before .before .before .before .before .before .before in
+    let a = c8 .before .before .before .before .args in
+    let k = plain-checked (a .cells .now) (a .tracks) (a .theme .now) (a .way) (a .bookmark) (a .columns .now) (a .shifts .now)
+    (c .before .before .before .before .before .before .check-plain .ensures) (c .before .before .before .before .enum-told .given .1) in
+    (k, omega (arith, c .before .before .before .if2 .taken, length-replicate {A = ℕ} 2048 0))
 
 same-length-3 : tie.Need-same-length-3
 same-length-3 c = search needs
@@ -31,20 +63,49 @@ same-length-3 c = search needs
 same-length-4 : tie.Need-same-length-4
 same-length-4 c = search needs
 
-returns-2 : tie.Need-returns-2
-returns-2 c = let m = c .before .before .before in rw (m .before .before .before .enum-told .given .1) (written-plain (m .written-page .ensures))
+returns-3 : tie.Need-returns-3
+returns-3 c = search needs
+
+slice-aggregate-passed-page-2 : tie.Need-slice-aggregate-passed-page-2
+slice-aggregate-passed-page-2 c = search needs
+
+passed-page-requires-2 : tie.Need-passed-page-requires-2
+passed-page-requires-2 c κs =
+    let c8 = c .before .before .before .before .before .before .before .before in
+    let a = c8 .before .before .before .before .args in
+    let k = plain-checked (a .cells .now) (a .tracks) (a .theme .now) (a .way) (a .bookmark) (a .columns .now) (a .shifts .now)
+    (c .before .before .before .before .before .before .check-plain .ensures) (c .before .before .before .before .enum-told .given .1) in
+    (k, omega (arith, cells-most (k .accepted), length-replicate {A = ℕ} mostCells 0))
+
+same-length-5 : tie.Need-same-length-5
+same-length-5 c = search needs
+
+same-length-6 : tie.Need-same-length-6
+same-length-6 c = search needs
+
+returns-4 : tie.Need-returns-4
+returns-4 c = search needs
 
 pub plain-page-spec : {M : Type 1} → statement M
 plain-page-spec =
     tie.close
     (tie.spec
-    enum-known-way
-    moved-page-requires
-    enum-told
-    written-page-requires
+    any-empty-requires
+    along-page-requires
     same-length
     same-length-2
     returns
+    check-plain-requires
+    enum-known-e
+    returns-2
+    enum-told
+    slice-aggregate-passed-page
+    passed-page-requires
     same-length-3
     same-length-4
-    returns-2)
+    returns-3
+    slice-aggregate-passed-page-2
+    passed-page-requires-2
+    same-length-5
+    same-length-6
+    returns-4)

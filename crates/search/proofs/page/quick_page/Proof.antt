@@ -1,27 +1,20 @@
--- `search::page::quick_page` meets its contract: a walk that is turned away, or the answer that is read off the buffers of one
--- that is done. Assumes nothing.
+-- `search::page::quick_page` meets its contract: along all columns, turned away, or over the empty columns. Assumes nothing.
 use borrow.Author.Needs.{needs}
-use Rattle.search.proofs.page.Calls.{quick-away, quick-fits, quick-turns}
+use mathlib.Core.Path.{sym, _∙_}
+use Prim.Native.Nat.{ℕ}
+use native.Mathlib.Omega.{arith}
+use lib.ListN.{length-replicate}
+use borrow.Author.Tests.{not-true}
+use Rattle.score.specs.Limits.{mostCells}
+use Rattle.search.proofs.page.Choosing.{cells-most, full-quick-pages, quick-checked, quick-refused}
 use Rattle.search.proofs.page.quick_page.Statement.{statement}
 use Rattle.search.proofs.page.quick_page.Tie as tie
 
-walk-quick-requires : tie.Need-walk-quick-requires
-walk-quick-requires c κs = search needs
+any-empty-requires : tie.Need-any-empty-requires
+any-empty-requires c κs = tt
 
-enum-known-w : tie.Need-enum-known-w
-enum-known-w c = search needs
-
-columns-in-requires : tie.Need-columns-in-requires
-columns-in-requires c κs = search needs
-
-page-of-requires : tie.Need-page-of-requires
-page-of-requires c κs =
-    let found = c .before .before .before .before in
-    quick-fits _ _ _ _ _ _ _ _ _
-    (rw (found .w .given .1) at (found .before .before .before .before .before .before .before .walk-quick .ensures)) (c .before .before .columns-in .ensures)
-
-enum-known-e : tie.Need-enum-known-e
-enum-known-e c = search needs
+quick-along-page-requires : tie.Need-quick-along-page-requires
+quick-along-page-requires c κs = tt
 
 same-length : tie.Need-same-length
 same-length c = search needs
@@ -34,10 +27,39 @@ same-length-3 c = search needs
 
 returns : tie.Need-returns
 returns c =
-    let counted = c .before .before .before in
-    let found = counted .before .before in
-    quick-turns _ _ _ _ _ _ _ _ _
-    (rw (found .w .given .1) at (found .before .before .before .before .before .before .before .walk-quick .ensures)) (counted .columns-in .ensures) (c .page-of .ensures)
+    let c8 = c .before .before .before .before .before .before .before .before in
+    let e = c8 .before .before in
+    let a = e .before .before .before .before .before .before .args in
+    full-quick-pages (a .cells .now) (a .tracks) (a .theme .now) (a .way) (a .bookmark) (a .sets .now) (a .table .now) (a .columns .now)
+    (a .shifts .now) (sym (e .any-empty .ensures) ∙ not-true _ (c8 .before .if1 .taken))
+    (c .before .before .before .before .before .quick-along-page .ensures)
+
+check-quick-requires : tie.Need-check-quick-requires
+check-quick-requires c κs = tt
+
+enum-known-e : tie.Need-enum-known-e
+enum-known-e c = search needs
+
+returns-2 : tie.Need-returns-2
+returns-2 c =
+    let c8 = c .before .before .before .before .before .before .before .before in
+    let a = c8 .before .before .before .args in
+    quick-refused (a .cells .now) (a .tracks) (a .theme .now) (a .way) (a .bookmark) (a .sets .now) (a .table .now) (a .columns .now) (a .shifts .now)
+    (c .before .before .before .check-quick .ensures) (c .before .e .given .1)
+
+enum-told : tie.Need-enum-told
+enum-told c = search needs
+
+slice-aggregate-passed-quick-page : tie.Need-slice-aggregate-passed-quick-page
+slice-aggregate-passed-quick-page c = search needs
+
+passed-quick-page-requires : tie.Need-passed-quick-page-requires
+passed-quick-page-requires c κs =
+    let c8 = c .before .before .before .before .before .before .before .before in
+    let a = c8 .before .before .before .before .before .before .before .args in
+    let k = quick-checked (a .cells .now) (a .tracks) (a .theme .now) (a .way) (a .bookmark) (a .sets .now) (a .table .now) (a .columns .now) (a .shifts .now)
+    (c .before .before .before .before .before .before .before .check-quick .ensures) (c .before .before .before .before .before .enum-told .given .1) in
+    (k, omega (arith, c .before .before .before .before .if2 .taken, length-replicate {A = ℕ} 2048 0))
 
 same-length-4 : tie.Need-same-length-4
 same-length-4 c = search needs
@@ -48,23 +70,56 @@ same-length-5 c = search needs
 same-length-6 : tie.Need-same-length-6
 same-length-6 c = search needs
 
-returns-2 : tie.Need-returns-2
-returns-2 c = quick-away _ _ _ _ _ _ _ _ _ (rw (c .before .e .given .1) at (c .before .before .before .before .before .before .before .before .walk-quick .ensures))
+returns-3 : tie.Need-returns-3
+returns-3 c = search needs
+
+slice-aggregate-passed-quick-page-2 : tie.Need-slice-aggregate-passed-quick-page-2
+slice-aggregate-passed-quick-page-2 c = search needs
+
+passed-quick-page-requires-2 : tie.Need-passed-quick-page-requires-2
+passed-quick-page-requires-2 c κs =
+    let c8 = c .before .before .before .before .before .before .before .before in
+    let a = c8 .before .before .before .before .before .before .before .args in
+    let k = quick-checked (a .cells .now) (a .tracks) (a .theme .now) (a .way) (a .bookmark) (a .sets .now) (a .table .now) (a .columns .now)
+    (a .shifts .now) (c .before .before .before .before .before .before .before .check-quick .ensures)
+    (c .before .before .before .before .before .enum-told .given .1) in
+    (k, omega (arith, cells-most (k .plain .accepted), length-replicate {A = ℕ} mostCells 0))
+
+same-length-7 : tie.Need-same-length-7
+same-length-7 c = search needs
+
+same-length-8 : tie.Need-same-length-8
+same-length-8 c = search needs
+
+same-length-9 : tie.Need-same-length-9
+same-length-9 c = search needs
+
+returns-4 : tie.Need-returns-4
+returns-4 c = search needs
 
 pub quick-page-spec : {M : Type 1} → statement M
 quick-page-spec =
     tie.close
     (tie.spec
-    walk-quick-requires
-    enum-known-w
-    columns-in-requires
-    page-of-requires
-    enum-known-e
+    any-empty-requires
+    quick-along-page-requires
     same-length
     same-length-2
     same-length-3
     returns
+    check-quick-requires
+    enum-known-e
+    returns-2
+    enum-told
+    slice-aggregate-passed-quick-page
+    passed-quick-page-requires
     same-length-4
     same-length-5
     same-length-6
-    returns-2)
+    returns-3
+    slice-aggregate-passed-quick-page-2
+    passed-quick-page-requires-2
+    same-length-7
+    same-length-8
+    same-length-9
+    returns-4)

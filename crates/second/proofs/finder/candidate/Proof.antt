@@ -5,10 +5,10 @@ use Rattle.second.proofs.finder.candidate.Statement.{statement}
 use Rattle.second.proofs.finder.candidate.Tie as tie
 
 abbrev Inv-loop : tie.InvT-loop
-Inv-loop theme m sets j i₀ i = Unit {0}
+Inv-loop cells theme sets a j k₀ i₀ i-end k i = Unit {0}
 
 abbrev μ-loop : tie.MeasureT-loop
-μ-loop theme m sets j i₀ i = m - i
+μ-loop cells theme sets a j k₀ i₀ i-end k i = i-end - i
 
 loop-holds : tie.Need-loop-holds Inv-loop μ-loop
 loop-holds c = search needs
@@ -28,12 +28,6 @@ interval-requires c κs = search needs
 less-one-requires-2 : tie.Need-less-one-requires-2 Inv-loop μ-loop
 less-one-requires-2 c κs = search needs
 
-less-one-requires-3 : tie.Need-less-one-requires-3 Inv-loop μ-loop
-less-one-requires-3 c κs = search needs
-
-more-requires : tie.Need-more-requires Inv-loop μ-loop
-more-requires c κs = search needs
-
 set-requires : tie.Need-set-requires Inv-loop μ-loop
 set-requires c κs = search needs
 
@@ -42,6 +36,12 @@ bit-requires c κs = search needs
 
 returns : tie.Need-returns Inv-loop μ-loop
 returns c = search needs
+
+columns-of-requires : tie.Need-columns-of-requires Inv-loop μ-loop
+columns-of-requires c κs = search needs
+
+next-heard-requires : tie.Need-next-heard-requires Inv-loop μ-loop
+next-heard-requires c κs = search needs
 
 add-i : tie.Need-add-i Inv-loop μ-loop
 add-i c = search needs
@@ -67,11 +67,11 @@ candidate-spec =
     byte-requires-2
     interval-requires
     less-one-requires-2
-    less-one-requires-3
-    more-requires
     set-requires
     bit-requires
     returns
+    columns-of-requires
+    next-heard-requires
     add-i
     loop-less
     loop-again

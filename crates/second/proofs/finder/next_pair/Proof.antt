@@ -13,8 +13,8 @@ abbrev μ-loop : tie.MeasureT-loop
 columns-of-requires : tie.Need-columns-of-requires Inv-loop μ-loop
 columns-of-requires c κs = search needs
 
-last-start-requires : tie.Need-last-start-requires Inv-loop μ-loop
-last-start-requires c κs = search needs
+more-requires : tie.Need-more-requires Inv-loop μ-loop
+more-requires c κs = search needs
 
 loop-holds : tie.Need-loop-holds Inv-loop μ-loop
 loop-holds c = search needs
@@ -25,8 +25,8 @@ reached-requires c κs = search needs
 in-column-requires : tie.Need-in-column-requires Inv-loop μ-loop
 in-column-requires c κs = search needs
 
-more-requires : tie.Need-more-requires Inv-loop μ-loop
-more-requires c κs = search needs
+more-requires-2 : tie.Need-more-requires-2 Inv-loop μ-loop
+more-requires-2 c κs = search needs
 
 returns : tie.Need-returns Inv-loop μ-loop
 returns c = search needs
@@ -43,8 +43,8 @@ loop-less c = search needs
 loop-again : tie.Need-loop-again Inv-loop μ-loop
 loop-again c = search needs
 
-more-requires-2 : tie.Need-more-requires-2 Inv-loop μ-loop
-more-requires-2 c κs = search needs
+more-requires-3 : tie.Need-more-requires-3 Inv-loop μ-loop
+more-requires-3 c κs = search needs
 
 lowest-requires-2 : tie.Need-lowest-requires-2 Inv-loop μ-loop
 lowest-requires-2 c κs = search needs
@@ -59,16 +59,16 @@ next-pair-spec =
     Inv-loop
     μ-loop
     columns-of-requires
-    last-start-requires
+    more-requires
     loop-holds
     reached-requires
     in-column-requires
-    more-requires
+    more-requires-2
     returns
     lowest-requires
     add-j
     loop-less
     loop-again
-    more-requires-2
+    more-requires-3
     lowest-requires-2
     returns-2)

@@ -5,10 +5,16 @@ use Rattle.second.proofs.finder.set_right.Statement.{statement}
 use Rattle.second.proofs.finder.set_right.Tie as tie
 
 abbrev Inv-loop : tie.InvT-loop
-Inv-loop cells h k number d₀ d = Unit {0}
+Inv-loop cells h n k number l d₀ d = Unit {0}
 
 abbrev μ-loop : tie.MeasureT-loop
-μ-loop cells h k number d₀ d = 12 - d
+μ-loop cells h n k number l d₀ d = 12 - d
+
+next-heard-requires : tie.Need-next-heard-requires Inv-loop μ-loop
+next-heard-requires c κs = search needs
+
+returns : tie.Need-returns Inv-loop μ-loop
+returns c = search needs
 
 loop-holds : tie.Need-loop-holds Inv-loop μ-loop
 loop-holds c = search needs
@@ -19,8 +25,8 @@ bit-requires c κs = search needs
 spans-requires : tie.Need-spans-requires Inv-loop μ-loop
 spans-requires c κs = search needs
 
-returns : tie.Need-returns Inv-loop μ-loop
-returns c = search needs
+returns-2 : tie.Need-returns-2 Inv-loop μ-loop
+returns-2 c = search needs
 
 add-d : tie.Need-add-d Inv-loop μ-loop
 add-d c = search needs
@@ -31,8 +37,8 @@ loop-less c = search needs
 loop-again : tie.Need-loop-again Inv-loop μ-loop
 loop-again c = search needs
 
-returns-2 : tie.Need-returns-2 Inv-loop μ-loop
-returns-2 c = search needs
+returns-3 : tie.Need-returns-3 Inv-loop μ-loop
+returns-3 c = search needs
 
 pub set-right-spec : {M : Type 1} → statement M
 set-right-spec =
@@ -40,11 +46,13 @@ set-right-spec =
     (tie.spec
     Inv-loop
     μ-loop
+    next-heard-requires
+    returns
     loop-holds
     bit-requires
     spans-requires
-    returns
+    returns-2
     add-d
     loop-less
     loop-again
-    returns-2)
+    returns-3)

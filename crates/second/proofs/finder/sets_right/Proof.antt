@@ -5,10 +5,13 @@ use Rattle.second.proofs.finder.sets_right.Statement.{statement}
 use Rattle.second.proofs.finder.sets_right.Tie as tie
 
 abbrev Inv-loop : tie.InvT-loop
-Inv-loop cells h sets many k₀ k = Unit {0}
+Inv-loop cells sets a n k₀ k-end k = Unit {0}
 
 abbrev μ-loop : tie.MeasureT-loop
-μ-loop cells h sets many k₀ k = many - k
+μ-loop cells sets a n k₀ k-end k = k-end - k
+
+columns-of-requires : tie.Need-columns-of-requires Inv-loop μ-loop
+columns-of-requires c κs = search needs
 
 loop-holds : tie.Need-loop-holds Inv-loop μ-loop
 loop-holds c = search needs
@@ -43,6 +46,7 @@ sets-right-spec =
     (tie.spec
     Inv-loop
     μ-loop
+    columns-of-requires
     loop-holds
     more-requires
     set-requires

@@ -5,10 +5,10 @@ use Rattle.second.proofs.finder.spans.Statement.{statement}
 use Rattle.second.proofs.finder.spans.Tie as tie
 
 abbrev Inv-loop : tie.InvT-loop
-Inv-loop cells h k d track₀ track = Unit {0}
+Inv-loop cells h k l d track₀ track = Unit {0}
 
 abbrev μ-loop : tie.MeasureT-loop
-μ-loop cells h k d track₀ track = h - track
+μ-loop cells h k l d track₀ track = h - track
 
 loop-holds : tie.Need-loop-holds Inv-loop μ-loop
 loop-holds c = search needs
@@ -18,9 +18,6 @@ place-requires c κs = search needs
 
 byte-requires : tie.Need-byte-requires Inv-loop μ-loop
 byte-requires c κs = search needs
-
-more-requires : tie.Need-more-requires Inv-loop μ-loop
-more-requires c κs = search needs
 
 whole-requires : tie.Need-whole-requires Inv-loop μ-loop
 whole-requires c κs = search needs
@@ -52,7 +49,6 @@ spans-spec =
     loop-holds
     place-requires
     byte-requires
-    more-requires
     whole-requires
     holds-requires
     returns

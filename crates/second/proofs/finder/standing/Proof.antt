@@ -5,16 +5,13 @@ use Rattle.second.proofs.finder.standing.Statement.{statement}
 use Rattle.second.proofs.finder.standing.Tie as tie
 
 abbrev Inv-loop : tie.InvT-loop
-Inv-loop cells theme a j c way i₀ i-end i = Unit {0}
+Inv-loop cells theme a j c way k₀ i₀ i-end k i = Unit {0}
 
 abbrev μ-loop : tie.MeasureT-loop
-μ-loop cells theme a j c way i₀ i-end i = i-end - i
+μ-loop cells theme a j c way k₀ i₀ i-end k i = i-end - i
 
 loop-holds : tie.Need-loop-holds Inv-loop μ-loop
 loop-holds c = search needs
-
-more-requires : tie.Need-more-requires Inv-loop μ-loop
-more-requires c κs = search needs
 
 byte-requires : tie.Need-byte-requires Inv-loop μ-loop
 byte-requires c κs = search needs
@@ -24,6 +21,12 @@ holds-requires c κs = search needs
 
 returns : tie.Need-returns Inv-loop μ-loop
 returns c = search needs
+
+columns-of-requires : tie.Need-columns-of-requires Inv-loop μ-loop
+columns-of-requires c κs = search needs
+
+next-heard-requires : tie.Need-next-heard-requires Inv-loop μ-loop
+next-heard-requires c κs = search needs
 
 add-i : tie.Need-add-i Inv-loop μ-loop
 add-i c = search needs
@@ -44,10 +47,11 @@ standing-spec =
     Inv-loop
     μ-loop
     loop-holds
-    more-requires
     byte-requires
     holds-requires
     returns
+    columns-of-requires
+    next-heard-requires
     add-i
     loop-less
     loop-again

@@ -1,0 +1,2 @@
+-- Empty columns passed over.
+pub mod Passing

@@ -1,0 +1,2 @@
+-- Laws of the functions of `passed`.
+mod Laws
