@@ -4,7 +4,6 @@ use mathlib.Core.Path.{_≡_, refl, sym, ap, _∙_}
 use mathlib.Core.Bool.{Bool, true, false, _&&_}
 use mathlib.Core.List.{List, [], _∷_, _++_, map}
 use Prim.Native.Nat.{ℕ, zero, suc, _+_, _-_, min, _≤_, _<_, zero-le}
-use native.Mathlib.Nat.{not-suc-le-zero, le-of-suc-le-suc}
 use native.Mathlib.Decide.{decLt}
 use native.Mathlib.Numerals.{add-one}
 use native.Mathlib.Omega.{arith}
@@ -14,7 +13,7 @@ use lib.Seq.{take-suc, take-all, length-take-le, drop-cons, getD-at, getD-take}
 use borrow.Author.Tests.{ltb-true, ltb-false}
 use Rattle.theory.specs.Lists.{over}
 use Rattle.theory.proofs.Either.{both-left, both-right}
-use Rattle.theory.proofs.Lists.{over-more}
+use Rattle.theory.proofs.Lists.{map-at, over-more}
 use Rattle.passing.specs.Passing.{entryAt, KeepsSets, Renames}
 
 -- the number is not above k
@@ -74,12 +73,6 @@ take-past i r vs l p = pick (decLt i r)
     pick (yes h) = take-all i vs (omega arith) ∙ sym (take-all r vs (omega arith))
     pick (no h) = let e : i ≡ r = omega arith in ap (λ (n : ℕ). take n vs) e
 
--- the value at a place of a list under a function
-map-at : (f : ℕ → ℕ) (xs : List ℕ) (i : ℕ) → i < length xs → getD (map f xs) i 0 ≡ f (getD xs i 0)
-map-at f [] i h = absurd (not-suc-le-zero h)
-map-at f (x ∷ xs) zero h = refl
-map-at f (x ∷ xs) (suc i) h = map-at f xs i (le-of-suc-le-suc h)
-
 -- ---- the entries at the numbers
 
 -- the place of a number's entry, which is there or is not
@@ -97,7 +90,7 @@ module _ (sets numbers kept₀ : List ℕ) where
   pub kept-more : {kept : List ℕ} {i : ℕ} (v : ℕ) → Writing entries kept₀ kept i → (i < length numbers) × (i < length kept)
       → v ≡ entryAt sets (getD numbers i 0) → Writing entries kept₀ (set kept i v) (i + 1)
   kept-more {kept} {i} v w (h, r) e =
-      writing-more w v (e ∙ sym (map-at (entryAt sets) numbers i h)) (omega (arith, length-map numbers (entryAt sets))) (omega (arith, w .long))
+      writing-more w v (e ∙ sym (map-at (entryAt sets) numbers i 0 0 h)) (omega (arith, length-map numbers (entryAt sets))) (omega (arith, w .long))
 
   pub kept-end : {kept : List ℕ} {i : ℕ} → Writing entries kept₀ kept i → (ltb i (length numbers) && ltb i (length kept)) ≡ false
       → KeepsSets sets numbers kept₀ kept
@@ -121,7 +114,7 @@ module _ (columns₀ : List ℕ) (many : ℕ) (numbers : List ℕ) where
       let s : i < length columns₀ = omega (arith, w .long) in
       let n : i < length (take many columns₀) = omega (arith, length-take many columns₀) in
       let f : getD (take many columns₀) i 0 ≡ getD columns i 0 = getD-take many columns₀ i 0 h ∙ sym (writing-next w s) in
-      writing-more w v (e ∙ ap (entryAt numbers) (sym f) ∙ sym (map-at (entryAt numbers) (take many columns₀) i n)) (omega (arith, others-length)) s
+      writing-more w v (e ∙ ap (entryAt numbers) (sym f) ∙ sym (map-at (entryAt numbers) (take many columns₀) i 0 0 n)) (omega (arith, others-length)) s
 
   pub renamed-end : {columns : List ℕ} {i : ℕ} → Writing others columns₀ columns i → (ltb i many && ltb i (length columns)) ≡ false
       → Renames columns₀ many numbers columns

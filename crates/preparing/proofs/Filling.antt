@@ -4,24 +4,18 @@
 use mathlib.Core.Path.{_≡_, refl, sym, ap, ap₂, _∙_}
 use mathlib.Core.List.{List, [], _∷_, map}
 use Prim.Native.Nat.{ℕ, zero, suc, _+_, _-_, _*_, _≤_, _<_, zero-le}
-use native.Mathlib.Nat.{add-mul, one-mul, zero-mul, sub-zero, add-sub-cancel-left, mul-le-mul-right, not-suc-le-zero, le-of-suc-le-suc, le-refl}
+use native.Mathlib.Nat.{add-mul, one-mul, zero-mul, sub-zero, add-sub-cancel-left, mul-le-mul-right, not-suc-le-zero, le-refl}
 use native.Mathlib.Numerals.{add-one}
 use native.Mathlib.Omega.{arith}
 use lib.ListN.{length, getD, take, drop, set, length-set, length-map}
 use lib.Seq.{ext-getD, getD-set-other}
-use Rattle.theory.proofs.Lists.{stored-more}
+use Rattle.theory.proofs.Lists.{map-at, stored-more}
 use Rattle.score.specs.Score.{cut}
 use Rattle.score.specs.Sets.{nextHeard, sets}
 use Rattle.preparing.specs.Classes.{classSet, SetOf, ClassSets, nextClass, Carried, Turned}
 use Rattle.score.proofs.Columns.{cut-length, cut-at}
 use Rattle.score.proofs.IntervalSets.{sets-length, sets-at}
 use Rattle.preparing.proofs.Carrying.{next-class}
-
--- an entry of the class sets
-class-at : (score : List (List ℕ)) (i : ℕ) → i < length score → getD (map classSet score) i 0 ≡ classSet (getD score i [])
-class-at [] i h = absurd (not-suc-le-zero h)
-class-at (a ∷ score) zero h = refl
-class-at (a ∷ score) (suc i) h = class-at score i (le-of-suc-le-suc h)
 
 -- ---- gathering
 
@@ -72,7 +66,7 @@ module _ (cells : List ℕ) (h n : ℕ) where
       same = omega (arith, g .long, length-map (cut (n + 1) h cells) classSet, cut-length (n + 1) h cells)
 
       column : (i : ℕ) → i < n + 1 → getD (map classSet (cut (n + 1) h cells)) i 0 ≡ classSet (columnFrom cells h i)
-      column i l = class-at (cut (n + 1) h cells) i (omega (arith, cut-length (n + 1) h cells)) ∙ ap classSet (cut-at (n + 1) h cells i l)
+      column i l = map-at classSet (cut (n + 1) h cells) i [] 0 (omega (arith, cut-length (n + 1) h cells)) ∙ ap classSet (cut-at (n + 1) h cells i l)
 
       at : (i : ℕ) → i < suc (length out) → getD (first ∷ out) i 0 ≡ getD (map classSet (cut (n + 1) h cells)) i 0
       at zero l = rw zero-mul (rw sub-zero at e) ∙ sym (column 0 (omega arith))
@@ -129,7 +123,7 @@ turned-sets score {first} {others} {later} {after} c n t = ext-getD 0 after (set
     columns = ap length (c .each) ∙ length-map score classSet
 
     own : (i : ℕ) → i < length score → getD (first ∷ others) i 0 ≡ classSet (getD score i [])
-    own i l = ap (λ (all : List ℕ). getD all i 0) (c .each) ∙ class-at score i l
+    own i l = ap (λ (all : List ℕ). getD all i 0) (c .each) ∙ map-at classSet score i [] 0 l
 
     next : (i : ℕ) → i < length others → getD later i 0 ≡ classSet (nextHeard (drop (suc i) score))
     next i l =

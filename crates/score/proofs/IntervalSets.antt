@@ -5,7 +5,7 @@ use mathlib.Core.Bool.{Bool, true, false, cond}
 use mathlib.Core.Logic.{_↔_}
 use mathlib.Core.List.{List, [], _∷_, map, List·Memᴰ as In, List·Memᴰ·not-nil as not-nil}
 use Prim.Native.Nat.{ℕ, zero, suc, _+_, _-_, _≤_, _<_}
-use native.Mathlib.Nat.{suc-add, add-zero, not-suc-le-zero, le-of-suc-le-suc}
+use native.Mathlib.Nat.{suc-add, add-zero}
 use native.Mathlib.Omega.{arith}
 use lib.Dec.{eqb}
 use lib.ListN.{length, getD, take, drop, length-map}
@@ -14,7 +14,7 @@ use borrow.Author.Tests.{eqb-true, eq-eqb}
 use Rattle.theory.specs.Bits.{bit}
 use Rattle.theory.specs.Lists.{some}
 use Rattle.theory.proofs.Bits.{bit-number, number-lt, bit-high, bit-ext, bit-ones}
-use Rattle.theory.proofs.Lists.{some-in, in-some}
+use Rattle.theory.proofs.Lists.{map-at, some-in, in-some}
 use Rattle.score.specs.Limits.{highestSet, tableWords}
 use Rattle.score.specs.declared.quantities.Pitch.{Pitch}
 use Rattle.score.specs.declared.quantities.Interval.{Interval}
@@ -86,11 +86,6 @@ set-none a b f =
 
 -- ---- the sets of a score
 
-pub map-at : (f : ℕ → ℕ) (xs : List ℕ) (i : ℕ) → i < length xs → getD (map f xs) i 0 ≡ f (getD xs i 0)
-map-at f [] i l = absurd (not-suc-le-zero l)
-map-at f (x ∷ xs) zero l = refl
-map-at f (x ∷ xs) (suc i) l = map-at f xs i (le-of-suc-le-suc l)
-
 pub sets-length : (score : List (List ℕ)) → length (sets score) ≡ length score - 1
 sets-length [] = refl
 sets-length (a ∷ []) = refl
@@ -149,7 +144,7 @@ heard-sets score = ext-getD 0 (map entry front) (sets (heardOf score)) long at
         let more : x - 1 + 1 ≡ suc (x - 1) = omega arith in
         let next : i + 1 ≡ suc i = omega arith in
         let here : getD (map entry front) i 0 ≡ entry x =
-        map-at entry front i (omega (arith, front-long)) ∙ ap entry (getD-take (length (heardOf score) - 1) (heardFrom 1 score) i 0 (omega arith)) in
+        map-at entry front i 0 0 (omega (arith, front-long)) ∙ ap entry (getD-take (length (heardOf score) - 1) (heardFrom 1 score) i 0 (omega arith)) in
         let there : getD (heardOf (drop (suc (x - 1)) score)) 0 [] ≡ getD (heardOf score) (i + 1) [] =
         rw (a .past, getD-drop (suc i) (heardOf score) 0 [], add-zero, next) in
         here ∙ sets-at score (x - 1) (omega (arith, b .within)) ∙ rw (more, a .named, there)

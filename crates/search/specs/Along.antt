@@ -51,7 +51,8 @@ pub record QuickAlongPages (cells : List ℕ) (h : ℕ) (theme : List ℕ) (way 
 
 -- ---- bookmarks
 
--- a bookmark among columns that have these numbers: at its own column, or, where that is none of them, at the first of the next
+-- a bookmark among columns that have these numbers: at its own column, or, where that is none of them,
+-- at the lowest shift of the next
 abbrev pub among : Range → (numbers : List ℕ) → Bookmark → Bookmark
 among range numbers b =
     let at = first (λ k. leb (b .column .0) k) numbers in

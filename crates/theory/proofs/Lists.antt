@@ -46,6 +46,12 @@ pub map-twice : {A B C : Type 0} (f : A → B) (g : B → C) (xs : List A) → m
 map-twice f g [] = refl
 map-twice {C = C} f g (x ∷ xs) = ap (λ (l : List C). g (f x) ∷ l) (map-twice f g xs)
 
+-- the entry at a place of a list under a function
+pub map-at : {A B : Type 0} (f : A → B) (xs : List A) (i : ℕ) (a : A) (b : B) → i < length xs → getD (map f xs) i b ≡ f (getD xs i a)
+map-at f [] i a b h = absurd (not-suc-le-zero h)
+map-at f (x ∷ xs) zero a b h = refl
+map-at f (x ∷ xs) (suc i) a b h = map-at f xs i a b (le-of-suc-le-suc h)
+
 pub over-sets : {A : Type 0} (d vs : List A) (z : A) (ws : List A) (n : ℕ) → length vs ≡ n → n + length ws ≤ length d → sets (over d vs) n ws ≡ over d (vs ++ ws)
 over-sets d vs z [] n e h = ap (λ (l : List _). l ++ drop (length l) d) (sym (append-nil vs))
 over-sets d vs z (w ∷ ws) n e h =

@@ -10,7 +10,7 @@ use lib.IntN.{ℤ}
 use lib.ListN.{length, getD, take, length-map}
 use lib.Seq.{getD-take, ext-getD, length-take-le}
 use Rattle.theory.specs.Lists.{count}
-use Rattle.theory.proofs.Lists.{count-length, count-at}
+use Rattle.theory.proofs.Lists.{count-length, count-at, map-at}
 use Rattle.score.specs.declared.refusals.Refusal.{Refusal}
 use Rattle.score.specs.declared.refusals.Verdict.{Verdict}
 use Rattle.score.specs.declared.refusals.Verdict.the-variants.{Accepted as Passed, Refused as Away}
@@ -19,7 +19,6 @@ use Rattle.score.specs.Refusals.{Row, verdict, judge}
 use Rattle.score.specs.Limits.{mostTracks, mostColumns, mostCells}
 use Rattle.score.proofs.Columns.{columns-whole, score-length}
 use Rattle.score.proofs.Heard.{full-heard, full-numbers}
-use Rattle.score.proofs.IntervalSets.{map-at}
 use Rattle.score.proofs.Judging.{judge-away}
 use Rattle.score.proofs.Judged.{Clear, verdict-clear}
 use Rattle.ways.specs.declared.way.Way.{Way}
@@ -87,7 +86,7 @@ module _ (score : List (List ℕ)) (full : hasEmpty score ≡ false) where
       at i l =
           let h : i < length score - 1 = omega (arith, length-map front entry, front-long) in
           let k : 1 + i - 1 ≡ i = omega arith in
-          map-at entry front i (omega (arith, front-long))
+          map-at entry front i 0 0 (omega (arith, front-long))
           ∙ ap entry (getD-take (length score - 1) (count 1 (length score)) i 0 h ∙ count-at 1 (length score) i 0 (omega arith))
           ∙ ap (λ (n : ℕ). getD sets n 0) k
 
