@@ -1,2 +1,3 @@
 -- Laws of the functions of `page`.
 mod Choosing
+mod Silent

@@ -1,14 +1,14 @@
 -- A page along all columns of a score, one after another, for the contracts of inner functions: no public call promises it by
 -- itself (`AlongPages`, `QuickAlongPages`). And a bookmark of a score as one among its columns with a pitch (`among`). Assumes nothing.
 use mathlib.Core.Path.{_≡_}
-use mathlib.Core.Bool.{cond}
+use mathlib.Core.Bool.{Bool, true, cond, not}
 use mathlib.Core.List.{List, map}
-use Prim.Native.Nat.{ℕ, _+_, _-_}
+use Prim.Native.Nat.{ℕ, _+_, _-_, _≤_}
 use lib.Dec.{leb, eqb}
 use lib.IntN.{ℤ}
 use lib.ListN.{length, getD, take}
 use Rattle.theory.specs.Lists.{over, first}
-use Rattle.score.specs.Score.{columnAt, scoreOf}
+use Rattle.score.specs.Score.{columnAt, scoreOf, heard, hasEmpty, heardOf}
 use Rattle.ways.specs.declared.way.Way.{Way}
 use Rattle.ways.specs.declared.way.AnyWay.{AnyWay}
 use Rattle.ways.specs.declared.bookmark.Bookmark.{Bookmark}
@@ -48,6 +48,17 @@ pub record QuickAlongPages (cells : List ℕ) (h : ℕ) (theme : List ℕ) (way 
     (answer : Page) (table′ : List ℕ) (after : Lent) : Type 0 where
   pub pages : Pages (quickAlongPage cells h theme way b sets table buffers) answer after
   pub fills-table : table′ ≡ quickTable cells h theme way b sets table buffers
+
+-- ---- what is left without the empty columns
+
+-- a page goes along all columns: none of them is empty, or no cell is a pitch
+abbrev pub goesAlong : (cells : List ℕ) (h : ℕ) → Bool
+goesAlong cells h = cond (hasEmpty (scoreOf cells h)) (not (heard cells)) true
+
+-- some column has a pitch, and a buffer has room for the cells
+pub record Leaves (cells : List ℕ) (h : ℕ) (kept : List ℕ) : Type 0 where
+  pub some-heard : 1 ≤ length (heardOf (scoreOf cells h))
+  pub room : length cells ≤ length kept
 
 -- ---- bookmarks
 

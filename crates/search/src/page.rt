@@ -1,5 +1,5 @@
 // The two page calls: plain, of any way, and quick, which reaches the starts at candidates. Empty columns are passed over: most
-// scores have none, and then the page goes along all columns.
+// scores have none, and then the page goes along all columns. So it does where all are empty, and nothing is found.
 
 use crate::along::along_page;
 use crate::along::quick_along_page;
@@ -9,16 +9,29 @@ use asking::check_plain;
 use asking::check_quick;
 use paging::Page;
 use passing::any_empty;
+use passing::empties::is_empty;
 use score::MOST_CELLS;
 use score::Verdict;
 use ways::AnyWay;
 use ways::Bookmark;
 use ways::Way;
+ghost use mathlib.Core.Path.{_≡_};
 ghost use Rattle.paging.specs.Lent.{lent};
 ghost use Rattle.search.specs.Page.{PlainPages, QuickPages};
+ghost use Rattle.search.specs.Along.{goesAlong};
 
 // So few cells go into a small buffer, which is made ready sooner.
 const FEW: usize = 2048;
+
+// Whether a page goes along all columns: none of them is empty, or no cell is a pitch.
+fn goes_along(cells: &[u8], tracks: usize) -> bool
+    ensures { λ r. ⌜ r ≡ goesAlong (now (cells .entry)) tracks ⌝ }
+{
+    if any_empty(cells, tracks) {
+        return is_empty(cells);
+    }
+    true
+}
 
 // The first pairs at or after the bookmark, as many as there is room for, written from the front; places behind them keep
 // their contents. Refuses 1 to 5, 9 and 10, and then writes nothing.
@@ -33,7 +46,7 @@ pub fn plain_page(
 ) -> Page
     ensures { λ r. ⌜ PlainPages (now (cells .entry)) tracks (now (theme .entry)) way bookmark (lent (now (columns .entry)) (now (shifts .entry))) r (lent (now (columns .exit)) (now (shifts .exit))) ⌝ }
 {
-    if !any_empty(cells, tracks) {
+    if goes_along(cells, tracks) {
         return along_page(cells, tracks, theme, way, bookmark, columns, shifts);
     }
     if let Verdict::Refused(e) = check_plain(
@@ -88,7 +101,7 @@ pub fn quick_page(
 ) -> Page
     ensures { λ r. ⌜ QuickPages (now (cells .entry)) tracks (now (theme .entry)) way bookmark (now (sets .entry)) (now (table .entry)) (lent (now (columns .entry)) (now (shifts .entry))) r (now (table .exit)) (lent (now (columns .exit)) (now (shifts .exit))) ⌝ }
 {
-    if !any_empty(cells, tracks) {
+    if goes_along(cells, tracks) {
         return quick_along_page(
             cells,
             tracks,

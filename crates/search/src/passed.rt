@@ -3,7 +3,6 @@
 
 use crate::along::along_page;
 use crate::along::quick_along_page;
-use filter::fill_table;
 use paging::Page;
 use paging::turned;
 use passing::kept_sets;
@@ -26,7 +25,7 @@ ghost use Rattle.ways.specs.Bookmarks.{finishedBookmark};
 ghost use Rattle.asking.specs.Asking.{PlainAsks, QuickAsks};
 ghost use Rattle.paging.specs.Lent.{lent};
 ghost use Rattle.search.specs.Page.{PlainPages, QuickPages};
-ghost use Rattle.search.specs.Along.{among, InScore};
+ghost use Rattle.search.specs.Along.{among, Leaves, InScore};
 
 // A bookmark of the score among the columns with these numbers: at its own column, or, where that is none of them, at the lowest
 // shift of the next.
@@ -95,23 +94,20 @@ pub fn passed_page(
     shifts: &mut [i16],
 ) -> Page
     requires { ⌜ PlainAsks (now cells) tracks (now theme) way bookmark (now columns) (now shifts) ⌝ }
-    requires { ⌜ length (now cells) ≤ length (now kept) ⌝ }
+    requires { ⌜ Leaves (now cells) tracks (now kept) ⌝ }
     ensures { λ r. ⌜ PlainPages (now (cells .entry)) tracks (now (theme .entry)) way bookmark (lent (now (columns .entry)) (now (shifts .entry))) r (lent (now (columns .exit)) (now (shifts .exit))) ⌝ }
 {
-    let mut numbers = [0u16; MOST_COLUMNS];
-    let n = columns_in(cells, tracks);
-    let q = take_out(cells, tracks, kept, &mut numbers);
-    if q == 0 {
-        let end = Bookmark::finished(way, Column(n as u16));
-        return Page::Turned(turned(end, 0, 0, columns, shifts));
-    }
+    let mut all = [0u16; MOST_COLUMNS];
+    let q = take_out(cells, tracks, kept, &mut all);
     let end = q * tracks;
-    let b = among(way, bookmark, &numbers[0..q]);
-    let p = along_page(&kept[0..end], tracks, theme, way, b, columns, shifts);
-    in_score(p, way, n, &numbers[0..q], columns, shifts)
+    let numbers = &all[..q];
+    let b = among(way, bookmark, numbers);
+    let p = along_page(&kept[..end], tracks, theme, way, b, columns, shifts);
+    let n = columns_in(cells, tracks);
+    in_score(p, way, n, numbers, columns, shifts)
 }
 
-// The quick page. The entries of the columns that are kept go with them; where no column has a pitch, the table is still filled.
+// The quick page. The entries of the columns that are kept go with them.
 pub fn passed_quick_page(
     cells: &[u8],
     tracks: usize,
@@ -125,33 +121,29 @@ pub fn passed_quick_page(
     shifts: &mut [i16],
 ) -> Page
     requires { ⌜ QuickAsks (now cells) tracks (now theme) way bookmark (now sets) (now table) (now columns) (now shifts) ⌝ }
-    requires { ⌜ length (now cells) ≤ length (now kept) ⌝ }
+    requires { ⌜ Leaves (now cells) tracks (now kept) ⌝ }
     ensures { λ r. ⌜ QuickPages (now (cells .entry)) tracks (now (theme .entry)) way bookmark (now (sets .entry)) (now (table .entry)) (lent (now (columns .entry)) (now (shifts .entry))) r (now (table .exit)) (lent (now (columns .exit)) (now (shifts .exit))) ⌝ }
 {
-    let mut numbers = [0u16; MOST_COLUMNS];
-    let n = columns_in(cells, tracks);
-    let q = take_out(cells, tracks, kept, &mut numbers);
-    let any = AnyWay::Moved(way);
-    if q == 0 {
-        fill_table(theme, table);
-        let end = Bookmark::finished(any, Column(n as u16));
-        return Page::Turned(turned(end, 0, 0, columns, shifts));
-    }
+    let mut all = [0u16; MOST_COLUMNS];
+    let q = take_out(cells, tracks, kept, &mut all);
+    let end = q * tracks;
+    let numbers = &all[..q];
     let last = q - 1;
     let mut entries = [0u16; MOST_COLUMNS];
-    kept_sets(sets, &numbers[0..last], &mut entries);
-    let end = q * tracks;
-    let b = among(any, bookmark, &numbers[0..q]);
+    kept_sets(sets, &numbers[..last], &mut entries);
+    let any = AnyWay::Moved(way);
+    let b = among(any, bookmark, numbers);
     let p = quick_along_page(
-        &kept[0..end],
+        &kept[..end],
         tracks,
         theme,
         way,
         b,
-        &entries[0..last],
+        &entries[..last],
         table,
         columns,
         shifts,
     );
-    in_score(p, any, n, &numbers[0..q], columns, shifts)
+    let n = columns_in(cells, tracks);
+    in_score(p, any, n, numbers, columns, shifts)
 }

@@ -1,22 +1,24 @@
 -- Which way a page goes: along all columns where none is empty, since a score without an empty column is its own columns with a
--- pitch, under its own numbers (`full-pages`, `full-quick-pages`); turned away, or asked right, otherwise. Assumes nothing.
+-- pitch, under its own numbers (`full-page`, `full-quick-page`), and where all are (`Silent`); turned away, or asked right and
+-- with a column that has a pitch, otherwise. Assumes nothing.
 use mathlib.Core.Path.{_≡_, refl, sym, ap, _∙_, subst}
-use mathlib.Core.Bool.{Bool, true, false, cond}
+use mathlib.Core.Bool.{Bool, true, false, cond, not, true≢false}
 use mathlib.Core.List.{List, [], _∷_, map}
-use Prim.Native.Nat.{ℕ, _+_, _-_, _*_, _≤_, _<_}
+use Prim.Native.Nat.{ℕ, _+_, _-_, _≤_, _<_}
 use native.Mathlib.Nat.{mul-le-mul-right, mul-comm}
 use native.Mathlib.Omega.{arith}
 use lib.IntN.{ℤ}
 use lib.ListN.{length, getD, take, length-map}
 use lib.Seq.{getD-take, ext-getD, length-take-le}
+use borrow.Author.Tests.{not-true, not-false}
 use Rattle.theory.specs.Lists.{count}
 use Rattle.theory.proofs.Lists.{count-length, count-at, map-at}
 use Rattle.score.specs.declared.refusals.Refusal.{Refusal}
 use Rattle.score.specs.declared.refusals.Verdict.{Verdict}
 use Rattle.score.specs.declared.refusals.Verdict.the-variants.{Accepted as Passed, Refused as Away}
-use Rattle.score.specs.Score.{scoreOf, hasEmpty, heardOf, heardFrom, numberOf}
+use Rattle.score.specs.Score.{columnsIn, scoreOf, heard, hasEmpty, heardOf, numberOf}
 use Rattle.score.specs.Refusals.{Row, verdict, judge}
-use Rattle.score.specs.Limits.{mostTracks, mostColumns, mostCells}
+use Rattle.score.specs.Limits.{mostColumns, mostCells}
 use Rattle.score.proofs.Columns.{columns-whole, score-length}
 use Rattle.score.proofs.Heard.{full-heard, full-numbers}
 use Rattle.score.proofs.Judging.{judge-away}
@@ -40,8 +42,9 @@ use Rattle.paging.proofs.Renumbered.{own-leaf}
 use Rattle.walking.specs.Candidates.{candidate}
 use Rattle.search.specs.Pairs.{alongSearch, alongAs, inScore, searchAs, entriesOf, quickSearch}
 use Rattle.search.specs.Page.{rowsOfPlain, plainPage, PlainPages, rowsOfQuick, quickPage, quickTable, QuickPages}
-use Rattle.search.specs.Along.{alongPage, AlongPages, quickAlong, quickAlongPage, QuickAlongPages}
+use Rattle.search.specs.Along.{alongPage, AlongPages, quickAlong, quickAlongPage, QuickAlongPages, goesAlong, Leaves}
 use Rattle.search.proofs.Searches.{along-right}
+use Rattle.search.proofs.page.Silent.{none-heard, some-heard, silent-leaf, silent-quick-leaf}
 
 -- ---- no column is empty
 
@@ -90,6 +93,25 @@ module _ (score : List (List ℕ)) (full : hasEmpty score ≡ false) where
           ∙ ap entry (getD-take (length score - 1) (count 1 (length score)) i 0 h ∙ count-at 1 (length score) i 0 (omega arith))
           ∙ ap (λ (n : ℕ). getD sets n 0) k
 
+-- ---- along all columns, or not
+
+goes-either : {A : Type 0} (cells : List ℕ) (h : ℕ) → goesAlong cells h ≡ true → (hasEmpty (scoreOf cells h) ≡ false → A) → (heardOf (scoreOf cells h) ≡ [] → A) → A
+goes-either {A} cells h g full silent = step (hasEmpty (scoreOf cells h)) refl g
+  where
+    step : (t : Bool) → hasEmpty (scoreOf cells h) ≡ t → cond t (not (heard cells)) true ≡ true → A
+    step true e g = silent (none-heard (columnsIn cells h) h cells (not-true _ g))
+    step false e g = full e
+
+-- where it does not, what is left without the empty columns is some columns with a pitch
+pub leaves : {most : ℕ} {cells : List ℕ} {h : ℕ} {theme : List ℕ} → Accepted most cells h theme → {t : Bool} → t ≡ goesAlong cells h → t ≡ false
+    → {kept : List ℕ} → length cells ≤ length kept → Leaves cells h kept
+leaves {cells = cells} {h = h} a e g l =
+    record { some-heard = some-heard (columnsIn cells h) h cells (sym (columns-whole cells h (a .columns-whole))) (step (hasEmpty (scoreOf cells h)) (sym e ∙ g)); room = l }
+  where
+    step : (t : Bool) → cond t (not (heard cells)) true ≡ false → heard cells ≡ true
+    step true g = not-false _ g
+    step false g = absurd (true≢false g)
+
 -- ---- plain
 
 -- an accepted score has no more cells than the most
@@ -113,8 +135,17 @@ module _ (cells : List ℕ) (h : ℕ) (theme : List ℕ) (way : AnyWay) (b : Boo
       (λ c. let a = plain-clear cells h theme way b columns shifts .1 c .accepted in
       full-leaf score full (alongAs way score theme) refl (along-right way score theme (a .notes-some) (omega (arith, score-length cells h, a .columns-few))) b buffers)
 
-  pub full-pages : hasEmpty (scoreOf cells h) ≡ false → {answer : Page} {after : Lent} → AlongPages cells h theme way b buffers answer after → PlainPages cells h theme way b buffers answer after
-  full-pages full {answer} {after} p = record { pages = subst (λ (l : Leaf). Pages l answer after) (sym (full-page full)) (p .pages) }
+  silent-page : heardOf (scoreOf cells h) ≡ [] → plainPage cells h theme way b buffers ≡ alongPage cells h theme way b buffers
+  unfolding plainPage alongPage
+  silent-page silent =
+      let score = scoreOf cells h in
+      judge-where (away buffers) (leaf (searchAs way score theme) b buffers) (leaf (alongAs way score theme) b buffers) rows
+      (λ c. let a = plain-clear cells h theme way b columns shifts .1 c .accepted in silent-leaf score theme silent (omega (arith, a .notes-some)) b buffers way)
+
+  pub along-pages : {t : Bool} → t ≡ goesAlong cells h → t ≡ true → {answer : Page} {after : Lent} → AlongPages cells h theme way b buffers answer after
+      → PlainPages cells h theme way b buffers answer after
+  along-pages e g {answer} {after} p =
+      record { pages = subst (λ (l : Leaf). Pages l answer after) (sym (goes-either cells h (sym e ∙ g) full-page silent-page)) (p .pages) }
 
   -- what was checked is asked right, or turned away
   pub plain-checked : {v : Verdict} → v ≡ verdict rows → v ≡ Passed → PlainAsks cells h theme way b columns shifts
@@ -150,10 +181,22 @@ module _ (cells : List ℕ) (h : ℕ) (theme : List ℕ) (way : Way) (b : Bookma
       (only-right (λ s. candidate wordBits T sets (length theme) (s .column)) (alongSearch way score theme)
       (along-right (Moved way) score theme (a .notes-some) (omega (arith, score-length cells h, a .columns-few)))) b lents)
 
-  pub full-quick-pages : hasEmpty (scoreOf cells h) ≡ false → {answer : Page} {table′ : List ℕ} {after : Lent}
+  silent-quick-page : heardOf (scoreOf cells h) ≡ [] → quickPage cells h theme way b sets table lents ≡ quickAlongPage cells h theme way b sets table lents
+  unfolding quickPage quickAlongPage
+  silent-quick-page silent =
+      let score = scoreOf cells h in
+      let T = themeTable wordBits theme in
+      judge-where (away lents) (leaf (quickSearch wordBits way score theme T sets) b lents) (leaf (quickAlong wordBits way score theme T sets) b lents) quickly
+      (λ c. let a = quick-clear cells h theme way b sets table columns shifts .1 c .plain .accepted in
+      silent-quick-leaf score theme silent (omega (arith, a .notes-some)) b lents wordBits way T sets)
+
+  pub along-quick-pages : {t : Bool} → t ≡ goesAlong cells h → t ≡ true → {answer : Page} {table′ : List ℕ} {after : Lent}
       → QuickAlongPages cells h theme way b sets table lents answer table′ after → QuickPages cells h theme way b sets table lents answer table′ after
-  full-quick-pages full {answer} {table′} {after} p =
-      record { pages = subst (λ (l : Leaf). Pages l answer after) (sym (full-quick-page full)) (p .pages); fills-table = p .fills-table }
+  along-quick-pages e g {answer} {table′} {after} p =
+      record {
+        pages = subst (λ (l : Leaf). Pages l answer after) (sym (goes-either cells h (sym e ∙ g) full-quick-page silent-quick-page)) (p .pages);
+        fills-table = p .fills-table;
+      }
 
   pub quick-checked : {v : Verdict} → v ≡ verdict quickly → v ≡ Passed → QuickAsks cells h theme way b sets table columns shifts
   quick-checked e p = quick-clear cells h theme way b sets table columns shifts .1 (verdict-clear quickly (sym e ∙ p))

@@ -1,24 +1,22 @@
 -- A page of a score with empty columns. What was taken out (`Took`) makes a call along the columns with a pitch that is asked
--- right, and its page, renamed, is the page of the score (`passed-turns`, `passed-quick-turns`); where no column has a pitch the
--- page is empty and finished (`none-turns`). Assumes nothing.
+-- right, and its page, renamed, is the page of the score (`passed-turns`, `passed-quick-turns`). Assumes nothing.
 use mathlib.Core.Path.{_≡_, refl, sym, ap, _∙_, subst}
-use mathlib.Core.Bool.{Bool, true, false, cond, _&&_}
+use mathlib.Core.Bool.{Bool, true, false}
 use mathlib.Core.List.{List, [], _∷_, map, List·Memᴰ as In}
-use Prim.Native.Nat.{ℕ, zero, suc, _+_, _-_, _*_, _≤_, _<_}
-use native.Mathlib.Nat.{sub-zero, le-refl, mul-le-mul-right, zero-mul}
+use Prim.Native.Nat.{ℕ, _+_, _-_, _*_, _≤_, _<_}
+use native.Mathlib.Nat.{mul-le-mul-right}
 use native.Mathlib.Omega.{arith}
 use lib.Dec.{leb, eqb}
 use lib.IntN.{ℤ}
-use lib.ListN.{length, getD, take, drop, length-map, List·getD-eq-default}
-use lib.Seq.{take-append-seam, take-append-le, take-all, length-take-le}
-use borrow.Author.Tests.{le-leb, le-ltb, eq-eqb, ne-eqb}
+use lib.ListN.{length, getD, take, drop, replicate, length-map, length-take, length-replicate, List·getD-eq-default}
+use lib.Seq.{take-append-seam, take-all, length-take-le}
+use borrow.Author.Tests.{le-leb, le-ltb, ne-eqb}
 use Rattle.theory.specs.Lists.{over, first, some as anyOf, join}
-use Rattle.theory.specs.Pages.{hits, pageHits, pageLooks}
 use Rattle.theory.proofs.Lists.{over-length, none-over, first-le}
 use Rattle.theory.proofs.Members.{in-hits}
-use Rattle.score.specs.Limits.{mostColumns, mostCells, highestSet, tableWords}
+use Rattle.score.specs.Limits.{mostColumns, mostCells, highestSet}
 use Rattle.score.specs.Score.{columnAt, columnsIn, scoreOf, heardOf, heardFrom, numberOf}
-use Rattle.score.specs.Refusals.{Row, badSet}
+use Rattle.score.specs.Refusals.{badSet}
 use Rattle.score.proofs.Columns.{columns-whole, score-length}
 use Rattle.score.proofs.Heard.{heard-length}
 use Rattle.score.proofs.Judged.{Clear, judge-clear}
@@ -26,31 +24,30 @@ use Rattle.score.specs.declared.refusals.Refusal.{Refusal}
 use Rattle.passing.specs.Passing.{hasRoom, TakesOut, entryAt, KeepsSets, Renames}
 use Rattle.ways.specs.declared.way.Way.{Way}
 use Rattle.ways.specs.declared.way.AnyWay.{AnyWay}
-use Rattle.ways.specs.declared.way.AnyWay.the-variants.{Moved, Written}
+use Rattle.ways.specs.declared.way.AnyWay.the-variants.{Moved}
 use Rattle.ways.specs.declared.bookmark.Bookmark.{Bookmark}
 use Rattle.ways.specs.Way.{Range, rangeAs}
 use Rattle.ways.specs.Bookmarks.{finishedBookmark}
 use Rattle.asking.specs.Limits.{mostNotes}
-use Rattle.asking.specs.Asking.{Accepted, AcceptedSets, InRange, PlainAsks, QuickAsks}
+use Rattle.asking.specs.Asking.{Accepted, InRange, PlainAsks, QuickAsks}
 use Rattle.asking.proofs.Rows.{plain-clear, quick-clear}
 use Rattle.filter.specs.Limits.{wordBits}
-use Rattle.filter.specs.Table.{themeTable, tableAfter}
+use Rattle.filter.specs.Table.{themeTable}
 use Rattle.paging.specs.declared.page.Turn.{Turn}
 use Rattle.paging.specs.declared.page.Page.{Page}
 use Rattle.paging.specs.declared.page.Page.the-variants.{Turned, Refused}
-use Rattle.paging.specs.Lent.{Lent, lent, written}
+use Rattle.paging.specs.Lent.{lent, written}
 use Rattle.paging.specs.Order.{atOrAfter}
-use Rattle.paging.specs.Search.{Search, Right, left, found, spent, renamed}
-use Rattle.paging.specs.Page.{Leaf, leaf, paged, Pages}
+use Rattle.paging.specs.Search.{Search, Right, renamed}
+use Rattle.paging.specs.Page.{Leaf, leaf, Pages}
 use Rattle.paging.specs.Turning.{readTurn}
 use Rattle.paging.proofs.Answers.{paged-clear, turned-refused}
-use Rattle.paging.proofs.Turnings.{went-pages}
 use Rattle.paging.proofs.Renumbered.{renumbered-pages}
 use Rattle.walking.specs.Starts.{Place, starts}
 use Rattle.walking.specs.Candidates.{candidate}
-use Rattle.search.specs.Pairs.{StartAs, alongAs, searchAs, entriesOf, quickSearch}
+use Rattle.search.specs.Pairs.{StartAs, alongAs, entriesOf}
 use Rattle.search.specs.Page.{rowsOfPlain, plainPage, PlainPages, rowsOfQuick, quickPage, quickTable, QuickPages}
-use Rattle.search.specs.Along.{alongPage, AlongPages, quickAlong, quickAlongPage, QuickAlongPages, among, InScore}
+use Rattle.search.specs.Along.{alongPage, AlongPages, quickAlong, quickAlongPage, QuickAlongPages, Leaves, among, InScore}
 use Rattle.search.proofs.Numbers.{heard-few}
 use Rattle.search.proofs.Kept.{kept-length, kept-columns, kept-score, kept-accepted, among-range, among-same}
 use Rattle.search.proofs.Searches.{along-right}
@@ -81,36 +78,11 @@ module _ {page : Page} {numbers columns : List ℕ} {shifts : List ℤ} where
   pub in-refused : {r : Refusal} {end : Bookmark} → page ≡ Refused r → InScore page end numbers columns shifts (Refused r) columns
   in-refused e = rw e (record { renames = refl; answers = refl })
 
--- ---- no start at all
-
-none-hits : {A : Type 0} (hit : A → Bool) (r : ℕ) → pageHits hit r [] ≡ []
-none-hits hit zero = refl
-none-hits hit (suc r) = refl
-
-none-looks : {A : Type 0} (hit : A → Bool) (looks : A → ℕ) (r : ℕ) → pageLooks hit looks r [] ≡ 0
-none-looks hit looks zero = refl
-none-looks hit looks (suc r) = refl
-
--- an empty page that is finished
-none-pages : {Start : Type 0} (rows : List Row) (S : Search Start) (b : Bookmark) (columns : List ℕ) (shifts : List ℤ) → S .starts ≡ [] → 1 ≤ length columns
-    → length shifts ≡ length columns → Clear rows → {answer : Page}
-    → answer ≡ Turned (readTurn (finishedBookmark (S .range) (columnAt (S .columns))) 0 0 (lent columns shifts))
-    → Pages (paged rows S b (lent columns shifts)) answer (lent columns shifts)
-none-pages {Start} rows S b columns shifts e some room clear {answer} r =
-    let nothing : found S (length columns) b ≡ [] =
-    ap (λ (xs : List Start). map (S .shown) (pageHits (S .hit) (length columns) (hits (λ s. atOrAfter b (S .shown s)) xs))) e
-    ∙ ap (map (S .shown)) (none-hits (S .hit) (length columns)) in
-    let free : spent S (length columns) b ≡ 0 =
-    ap (λ (xs : List Start). pageLooks (S .hit) (S .looks) (length columns) (hits (λ s. atOrAfter b (S .shown s)) xs)) e ∙ none-looks (S .hit) (S .looks) (length columns) in
-    rw r
-    (went-pages rows S b (lent columns shifts) (length columns) some (record { of-columns = refl; of-shifts = room }) clear (sym (ap length nothing)) (sym free)
-    (sym (ap (written (lent columns shifts)) nothing)) refl)
-
 -- ---- what was taken out
 
 -- what was written over the front is read there
-front : (vs d d′ : List ℕ) (k : ℕ) → d′ ≡ over d vs → k ≡ length vs → take (k - 0) (drop 0 d′) ≡ vs
-front vs d d′ k e l = rw (sub-zero, l, e) (take-append-seam vs (drop (length vs) d))
+front : (vs d d′ : List ℕ) (k : ℕ) → d′ ≡ over d vs → k ≡ length vs → take k d′ ≡ vs
+front vs d d′ k e l = rw (l, e) (take-append-seam vs (drop (length vs) d))
 
 module _ (cells : List ℕ) (h : ℕ) (theme : List ℕ) (a : Accepted mostNotes cells h theme) where
   abbrev heards : List (List ℕ)
@@ -119,34 +91,35 @@ module _ (cells : List ℕ) (h : ℕ) (theme : List ℕ) (a : Accepted mostNotes
   -- so many columns have a pitch; the buffers hold their cells and their numbers in front
   pub record Took (q : ℕ) (kept numbers : List ℕ) : Type 0 where
     pub many : q ≡ length heards
+    pub some : 1 ≤ q
     pub few : q ≤ mostColumns
     pub small : q * h ≤ mostCells
     pub cells-long : q * h ≤ length kept
     pub numbers-long : q ≤ length numbers
-    pub cells-front : {k : ℕ} → k ≡ q * h → take (k - 0) (drop 0 kept) ≡ join heards
-    pub numbers-front : take (q - 0) (drop 0 numbers) ≡ heardFrom 1 (scoreOf cells h)
-    pub numbers-less : {k : ℕ} → k ≤ q → take (k - 0) (drop 0 numbers) ≡ take k (heardFrom 1 (scoreOf cells h))
+    pub numbers-many : length (take q numbers) ≡ q
+    pub cells-front : {k : ℕ} → k ≡ q * h → take k kept ≡ join heards
+    pub numbers-front : take q numbers ≡ heardFrom 1 (scoreOf cells h)
 
-  pub took : {kept numbers kept′ numbers′ : List ℕ} {q : ℕ} → length cells ≤ length kept → length numbers ≡ mostColumns
+  took : {kept numbers kept′ numbers′ : List ℕ} {q : ℕ} → Leaves cells h kept → length numbers ≡ mostColumns
       → TakesOut cells h kept numbers q kept′ numbers′ → Took q kept′ numbers′
-  took {kept} {numbers} {kept′} {numbers′} {q} long exact t =
+  took {kept} {numbers} {kept′} {numbers′} {q} l exact t =
       record {
         many = many;
+        some = omega (arith, many, l .some-heard);
         few = few;
         small = omega (arith, mul-le-mul-right h few, most);
-        cells-long = omega (arith, inside, long, kept-same);
+        cells-long = omega (arith, inside, l .room, kept-same);
         numbers-long = omega (arith, few, exact, numbers-same);
+        numbers-many = length-take-le q numbers′ (omega (arith, few, exact, numbers-same));
         cells-front = λ {k} e. front (join (heardOf score)) kept kept′ k held (e ∙ sym joined);
         numbers-front = front (heardFrom 1 score) numbers numbers′ q named (many ∙ sym (heard-length 1 score));
-        numbers-less = λ {k} l. rw (sub-zero, named)
-            (take-append-le k (heardFrom 1 score) (drop (length (heardFrom 1 score)) numbers) (omega (arith, l, many, heard-length 1 score)));
       }
     where
       score : List (List ℕ)
       score = scoreOf cells h
 
       room : hasRoom cells h kept numbers ≡ true
-      room = rw (le-leb (length cells) (length kept) long, le-leb (columnsIn cells h) (length numbers) (omega (arith, exact, a .columns-few)), le-leb (columnsIn cells h) mostColumns (a .columns-few))
+      room = rw (le-leb (length cells) (length kept) (l .room), le-leb (columnsIn cells h) (length numbers) (omega (arith, exact, a .columns-few)), le-leb (columnsIn cells h) mostColumns (a .columns-few))
 
       many : q ≡ length (heardOf score)
       many = rw room at (t .counted) ∙ heard-length 1 score
@@ -172,10 +145,15 @@ module _ (cells : List ℕ) (h : ℕ) (theme : List ℕ) (a : Accepted mostNotes
       named = rw room at (t .numbered)
 
       kept-same : length kept′ ≡ length kept
-      kept-same = ap length held ∙ over-length kept (join (heardOf score)) (omega (arith, joined, inside, long))
+      kept-same = ap length held ∙ over-length kept (join (heardOf score)) (omega (arith, joined, inside, l .room))
 
       numbers-same : length numbers′ ≡ length numbers
       numbers-same = ap length named ∙ over-length numbers (heardFrom 1 score) (omega (arith, heard-length 1 score, many, few, exact))
+
+-- the numbers go into a buffer that is all 0
+pub taken : {cells : List ℕ} {h : ℕ} {theme : List ℕ} (a : Accepted mostNotes cells h theme) {kept kept′ numbers′ : List ℕ} {q : ℕ} → Leaves cells h kept
+    → TakesOut cells h kept (replicate mostColumns 0) q kept′ numbers′ → Took cells h theme a q kept′ numbers′
+taken {cells} {h} {theme} a l t = took cells h theme a l (length-replicate {A = ℕ} mostColumns 0) t
 
 -- ---- plain
 
@@ -237,14 +215,14 @@ module _ (cells : List ℕ) (h : ℕ) (theme : List ℕ) (way : AnyWay) (b : Boo
   in-score (Refused r) p i = absurd (turned-refused (sym (p .answers)))
 
   -- a page along them, renamed, is one of the score
-  module _ {n q k : ℕ} {kept numbers : List ℕ} (t : Took cells h theme a q kept numbers) (some : 1 ≤ q) (counted : n ≡ columnsIn cells h) (e : k ≡ q * h) where
+  module _ {n q k : ℕ} {kept numbers : List ℕ} (t : Took cells h theme a q kept numbers) (counted : n ≡ columnsIn cells h) (e : k ≡ q * h) where
     some-heard : 1 ≤ length (heardOf score)
-    some-heard = omega (arith, some, t .many)
+    some-heard = omega (arith, t .some, t .many)
 
-    pub passed-turns : {mark : Bookmark} → mark ≡ among (rangeAs way) (take (q - 0) (drop 0 numbers)) b
+    pub passed-turns : {mark : Bookmark} → mark ≡ among (rangeAs way) (take q numbers) b
         → {page answer : Page} {columns′ columns″ : List ℕ} {shifts′ : List ℤ}
-        → AlongPages (take (k - 0) (drop 0 kept)) h theme way mark (lent columns shifts) page (lent columns′ shifts′)
-        → InScore page (finishedBookmark (rangeAs way) (columnAt n)) (take (q - 0) (drop 0 numbers)) columns′ shifts′ answer columns″
+        → AlongPages (take k kept) h theme way mark (lent columns shifts) page (lent columns′ shifts′)
+        → InScore page (finishedBookmark (rangeAs way) (columnAt n)) (take q numbers) columns′ shifts′ answer columns″
         → PlainPages cells h theme way b (lent columns shifts) answer (lent columns″ shifts′)
     passed-turns {mark} m {page} {answer} {columns′} {columns″} {shifts′} p i =
         let is : mark ≡ b′ = m ∙ ap (λ (l : List ℕ). among (rangeAs way) l b) (t .numbers-front) in
@@ -254,31 +232,16 @@ module _ (cells : List ℕ) (h : ℕ) (theme : List ℕ) (way : AnyWay) (b : Boo
         ∙ ap (λ (x : Bookmark). alongPage (join (heardOf score)) h theme way x (lent columns shifts)) is ∙ along-leaf some-heard) (p .pages) in
         record { pages = in-score page along-page (rw (t .numbers-front, counted ∙ sym (score-length cells h)) at i) }
 
-  -- none has a pitch
-  heards-none : length (heardOf score) ≡ 0 → heardOf score ≡ []
-  heards-none e = nothing (heardOf score) e
-    where
-      nothing : (xs : List (List ℕ)) → length xs ≡ 0 → xs ≡ []
-      nothing [] e = refl
-      nothing (x ∷ xs) e = absurd (omega arith)
-
-  no-starts : (way : AnyWay) → 2 ≤ length theme → alongAs way [] theme .starts ≡ []
-  no-starts (Moved w) l = refl
-  no-starts Written l = let e : 0 + 1 - length theme ≡ 0 = omega arith in rw e
-
-  pub none-turns : {q n : ℕ} {kept numbers : List ℕ} → Took cells h theme a q kept numbers → q ≡ 0 → n ≡ columnsIn cells h → {answer : Page}
-      → answer ≡ Turned (readTurn (finishedBookmark (rangeAs way) (columnAt n)) 0 0 (lent columns shifts))
-      → PlainPages cells h theme way b (lent columns shifts) answer (lent columns shifts)
-  unfolding plainPage
-  none-turns t z c r =
-      let e : heardOf score ≡ [] = heards-none (sym (t .many) ∙ z) in
-      record {
-        pages = none-pages (rowsOfPlain cells h theme way b (lent columns shifts)) (searchAs way score theme) b columns shifts
-            (ap (λ (s : List (List ℕ)). alongAs way s theme .starts) e ∙ no-starts way (a .notes-some)) (asks .room) (asks .same-room) plain-rows
-            (r ∙ rw (c, score-length cells h));
-      }
-
 -- ---- quick
+
+kept-long : {sets numbers into into′ : List ℕ} → KeepsSets sets numbers into into′ → length into′ ≡ length into
+kept-long {sets} {numbers} {into} s =
+    ap length (s .entries)
+    ∙ over-length into (take (length into) (map (entryAt sets) numbers)) (omega (arith, length-take (length into) (map (entryAt sets) numbers)))
+
+-- the entries go into a buffer that is all 0
+pub entries-long : {sets numbers into′ : List ℕ} → KeepsSets sets numbers (replicate mostColumns 0) into′ → length into′ ≡ mostColumns
+entries-long s = kept-long s ∙ length-replicate {A = ℕ} mostColumns 0
 
 good-entries : (sets : List ℕ) → anyOf badSet sets ≡ false → (numbers : List ℕ) → anyOf badSet (map (entryAt sets) numbers) ≡ false
 good-entries sets e [] = refl
@@ -356,12 +319,12 @@ module _ (cells : List ℕ) (h : ℕ) (theme : List ℕ) (way : Way) (b : Bookma
   in-score-quick (Refused r) p i = absurd (turned-refused (sym (p .answers)))
 
   -- the entries of the columns that are kept
-  pub kept-entries : {q last : ℕ} {kept numbers into into′ : List ℕ} → Took cells h theme (plainly .accepted) q kept numbers → last ≡ q - 1 → length into ≡ mostColumns
-      → KeepsSets sets (take (last - 0) (drop 0 numbers)) into into′ → take (last - 0) (drop 0 into′) ≡ entries
+  kept-entries : {q last : ℕ} {kept numbers into into′ : List ℕ} → Took cells h theme (plainly .accepted) q kept numbers → last ≡ q - 1 → length into ≡ mostColumns
+      → KeepsSets sets (take last (take q numbers)) into into′ → take last into′ ≡ entries
   kept-entries {q} {last} {kept} {numbers} {into} {into′} t e long s =
       let N = heardFrom 1 (scoreOf cells h) in
       let k : last ≡ length columnsHeard - 1 = e ∙ ap (λ (n : ℕ). n - 1) (t .many) in
-      let is : take (last - 0) (drop 0 numbers) ≡ take (length columnsHeard - 1) N = t .numbers-less {k = last} (omega (arith, e)) ∙ ap (λ (n : ℕ). take n N) k in
+      let is : take last (take q numbers) ≡ take (length columnsHeard - 1) N = rw (t .numbers-front) (ap (λ (n : ℕ). take n N) k) in
       let size : length entries ≡ length columnsHeard - 1 =
       length-map (take (length columnsHeard - 1) N) (entryAt sets)
       ∙ length-take-le (length columnsHeard - 1) N (omega (arith, heard-length 1 (scoreOf cells h))) in
@@ -370,39 +333,23 @@ module _ (cells : List ℕ) (h : ℕ) (theme : List ℕ) (way : Way) (b : Bookma
       ∙ ap (over into) (take-all (length into) entries (omega (arith, size, long, t .many, t .few))) in
       front entries into into′ last w (k ∙ sym size)
 
-  module _ {n q k last : ℕ} {kept numbers into into′ : List ℕ} (t : Took cells h theme (plainly .accepted) q kept numbers) (some : 1 ≤ q) (counted : n ≡ columnsIn cells h) (e : k ≡ q * h)
-      (l : last ≡ q - 1) (long : length into ≡ mostColumns) (s : KeepsSets sets (take (last - 0) (drop 0 numbers)) into into′) where
+  module _ {n q k last : ℕ} {kept numbers into′ : List ℕ} (t : Took cells h theme (plainly .accepted) q kept numbers) (counted : n ≡ columnsIn cells h) (e : k ≡ q * h)
+      (l : last ≡ q - 1) (s : KeepsSets sets (take last (take q numbers)) (replicate mostColumns 0) into′) where
     quick-heard : 1 ≤ length columnsHeard
-    quick-heard = omega (arith, some, t .many)
+    quick-heard = omega (arith, t .some, t .many)
 
-    pub passed-quick-turns : {mark : Bookmark} → mark ≡ among (rangeAs (Moved way)) (take (q - 0) (drop 0 numbers)) b
+    pub passed-quick-turns : {mark : Bookmark} → mark ≡ among (rangeAs (Moved way)) (take q numbers) b
         → {page answer : Page} {table′ columns′ columns″ : List ℕ} {shifts′ : List ℤ}
-        → QuickAlongPages (take (k - 0) (drop 0 kept)) h theme way mark (take (last - 0) (drop 0 into′)) table (lent columns shifts) page table′ (lent columns′ shifts′)
-        → InScore page (finishedBookmark (rangeAs (Moved way)) (columnAt n)) (take (q - 0) (drop 0 numbers)) columns′ shifts′ answer columns″
+        → QuickAlongPages (take k kept) h theme way mark (take last into′) table (lent columns shifts) page table′ (lent columns′ shifts′)
+        → InScore page (finishedBookmark (rangeAs (Moved way)) (columnAt n)) (take q numbers) columns′ shifts′ answer columns″
         → QuickPages cells h theme way b sets table (lent columns shifts) answer table′ (lent columns″ shifts′)
     passed-quick-turns {mark} m {page} {answer} {table′} {columns′} {columns″} {shifts′} p i =
         let is : mark ≡ mark′ = m ∙ ap (λ (l : List ℕ). among (rangeAs (Moved way)) l b) (t .numbers-front) in
         let given : QuickAlongPages (join columnsHeard) h theme way mark′ entries table (lent columns shifts) page table′ (lent columns′ shifts′) =
-        rw (t .cells-front e, kept-entries t l long s, is) at p in
+        rw (t .cells-front e, kept-entries t l (length-replicate {A = ℕ} mostColumns 0) s, is) at p in
         record {
           pages =
               in-score-quick page (subst (λ (x : Leaf). Pages x page (lent columns′ shifts′)) (quick-leaf quick-heard) (given .pages))
               (rw (t .numbers-front, counted ∙ sym (score-length cells h)) at i);
           fills-table = given .fills-table ∙ inner-filled quick-heard ∙ sym quick-filled;
         }
-
-  pub none-quick-turns : {q n : ℕ} {kept numbers : List ℕ} → Took cells h theme (plainly .accepted) q kept numbers → q ≡ 0 → n ≡ columnsIn cells h
-      → {answer : Page} {table′ : List ℕ} → table′ ≡ tableAfter wordBits theme table
-      → answer ≡ Turned (readTurn (finishedBookmark (rangeAs (Moved way)) (columnAt n)) 0 0 (lent columns shifts))
-      → QuickPages cells h theme way b sets table (lent columns shifts) answer table′ (lent columns shifts)
-  unfolding quickPage
-  none-quick-turns t z c f r =
-      let filled : tableAfter wordBits theme table ≡ themeTable wordBits theme =
-      rw (ne-eqb (length theme) 0 (λ x. omega (arith, plainly .accepted .notes-some)), eq-eqb (length table) tableWords (asks .table-long)) in
-      let e : columnsHeard ≡ [] = heards-none cells h theme (Moved way) b columns shifts plainly (sym (t .many) ∙ z) in
-      record {
-        pages = none-pages (rowsOfQuick cells h theme way b sets table (lent columns shifts)) (quickSearch wordBits way (scoreOf cells h) theme (themeTable wordBits theme) sets) b columns shifts
-            (ap (λ (s : List (List ℕ)). hits (λ s. candidate wordBits (themeTable wordBits theme) entries (length theme) (s .column)) (starts way s theme)) e)
-            (plainly .room) (plainly .same-room) quick-rows (r ∙ rw (c, score-length cells h));
-        fills-table = f ∙ filled ∙ sym quick-filled;
-      }

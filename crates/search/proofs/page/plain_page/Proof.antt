@@ -1,17 +1,15 @@
 -- `search::page::plain_page` meets its contract: along all columns, turned away, or over the empty columns. Assumes nothing.
 use borrow.Author.Needs.{needs}
-use mathlib.Core.Path.{sym, _∙_}
 use Prim.Native.Nat.{ℕ}
 use native.Mathlib.Omega.{arith}
 use lib.ListN.{length-replicate}
-use borrow.Author.Tests.{not-true}
 use Rattle.score.specs.Limits.{mostCells}
-use Rattle.search.proofs.page.Choosing.{cells-most, full-pages, plain-checked, plain-refused}
+use Rattle.search.proofs.page.Choosing.{cells-most, leaves, along-pages, plain-checked, plain-refused}
 use Rattle.search.proofs.page.plain_page.Statement.{statement}
 use Rattle.search.proofs.page.plain_page.Tie as tie
 
-any-empty-requires : tie.Need-any-empty-requires
-any-empty-requires c κs = tt
+goes-along-requires : tie.Need-goes-along-requires
+goes-along-requires c κs = tt
 
 along-page-requires : tie.Need-along-page-requires
 along-page-requires c κs = tt
@@ -24,11 +22,10 @@ same-length-2 c = search needs
 
 returns : tie.Need-returns
 returns c =
-    let e = c .before .before .before .before .before .before .before in
-    let a = e .before .before .before .before .args in
-    full-pages (a .cells .now) (a .tracks) (a .theme .now) (a .way) (a .bookmark) (a .columns .now) (a .shifts .now)
-    (sym (e .any-empty .ensures) ∙ not-true _ (c .before .before .before .before .before .before .if1 .taken))
-    (c .before .before .before .along-page .ensures)
+    let g = c .before .before .before .before .before .before .before in
+    let a = g .before .before .before .before .args in
+    along-pages (a .cells .now) (a .tracks) (a .theme .now) (a .way) (a .bookmark) (a .columns .now) (a .shifts .now) (g .goes-along .ensures)
+    (c .before .before .before .before .before .before .if1 .taken) (c .before .before .before .along-page .ensures)
 
 check-plain-requires : tie.Need-check-plain-requires
 check-plain-requires c κs = tt
@@ -51,11 +48,12 @@ slice-aggregate-passed-page c = search needs
 
 passed-page-requires : tie.Need-passed-page-requires
 passed-page-requires c κs =
-    let c8 = c .before .before .before .before .before .before .before .before in
-    let a = c8 .before .before .before .before .args in
+    let checked = c .before .before .before .before .before .before in
+    let g = checked .before .before in
+    let a = g .before .before .before .before .args in
     let k = plain-checked (a .cells .now) (a .tracks) (a .theme .now) (a .way) (a .bookmark) (a .columns .now) (a .shifts .now)
-    (c .before .before .before .before .before .before .check-plain .ensures) (c .before .before .before .before .enum-told .given .1) in
-    (k, omega (arith, c .before .before .before .if2 .taken, length-replicate {A = ℕ} 2048 0))
+    (checked .check-plain .ensures) (c .before .before .before .before .enum-told .given .1) in
+    (k, leaves (k .accepted) (g .goes-along .ensures) (checked .before .if1 .left) (omega (arith, c .before .before .before .if2 .taken, length-replicate {A = ℕ} 2048 0)))
 
 same-length-3 : tie.Need-same-length-3
 same-length-3 c = search needs
@@ -71,11 +69,12 @@ slice-aggregate-passed-page-2 c = search needs
 
 passed-page-requires-2 : tie.Need-passed-page-requires-2
 passed-page-requires-2 c κs =
-    let c8 = c .before .before .before .before .before .before .before .before in
-    let a = c8 .before .before .before .before .args in
+    let checked = c .before .before .before .before .before .before in
+    let g = checked .before .before in
+    let a = g .before .before .before .before .args in
     let k = plain-checked (a .cells .now) (a .tracks) (a .theme .now) (a .way) (a .bookmark) (a .columns .now) (a .shifts .now)
-    (c .before .before .before .before .before .before .check-plain .ensures) (c .before .before .before .before .enum-told .given .1) in
-    (k, omega (arith, cells-most (k .accepted), length-replicate {A = ℕ} mostCells 0))
+    (checked .check-plain .ensures) (c .before .before .before .before .enum-told .given .1) in
+    (k, leaves (k .accepted) (g .goes-along .ensures) (checked .before .if1 .left) (omega (arith, cells-most (k .accepted), length-replicate {A = ℕ} mostCells 0)))
 
 same-length-5 : tie.Need-same-length-5
 same-length-5 c = search needs
@@ -90,7 +89,7 @@ pub plain-page-spec : {M : Type 1} → statement M
 plain-page-spec =
     tie.close
     (tie.spec
-    any-empty-requires
+    goes-along-requires
     along-page-requires
     same-length
     same-length-2

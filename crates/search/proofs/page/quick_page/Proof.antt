@@ -1,17 +1,15 @@
 -- `search::page::quick_page` meets its contract: along all columns, turned away, or over the empty columns. Assumes nothing.
 use borrow.Author.Needs.{needs}
-use mathlib.Core.Path.{sym, _∙_}
 use Prim.Native.Nat.{ℕ}
 use native.Mathlib.Omega.{arith}
 use lib.ListN.{length-replicate}
-use borrow.Author.Tests.{not-true}
 use Rattle.score.specs.Limits.{mostCells}
-use Rattle.search.proofs.page.Choosing.{cells-most, full-quick-pages, quick-checked, quick-refused}
+use Rattle.search.proofs.page.Choosing.{cells-most, leaves, along-quick-pages, quick-checked, quick-refused}
 use Rattle.search.proofs.page.quick_page.Statement.{statement}
 use Rattle.search.proofs.page.quick_page.Tie as tie
 
-any-empty-requires : tie.Need-any-empty-requires
-any-empty-requires c κs = tt
+goes-along-requires : tie.Need-goes-along-requires
+goes-along-requires c κs = tt
 
 quick-along-page-requires : tie.Need-quick-along-page-requires
 quick-along-page-requires c κs = tt
@@ -27,12 +25,11 @@ same-length-3 c = search needs
 
 returns : tie.Need-returns
 returns c =
-    let c8 = c .before .before .before .before .before .before .before .before in
-    let e = c8 .before .before in
-    let a = e .before .before .before .before .before .before .args in
-    full-quick-pages (a .cells .now) (a .tracks) (a .theme .now) (a .way) (a .bookmark) (a .sets .now) (a .table .now) (a .columns .now)
-    (a .shifts .now) (sym (e .any-empty .ensures) ∙ not-true _ (c8 .before .if1 .taken))
-    (c .before .before .before .before .before .quick-along-page .ensures)
+    let p = c .before .before .before .before .before in
+    let g = p .before .before .before .before .before in
+    let a = g .before .before .before .before .before .before .args in
+    along-quick-pages (a .cells .now) (a .tracks) (a .theme .now) (a .way) (a .bookmark) (a .sets .now) (a .table .now) (a .columns .now)
+    (a .shifts .now) (g .goes-along .ensures) (p .before .before .before .before .if1 .taken) (p .quick-along-page .ensures)
 
 check-quick-requires : tie.Need-check-quick-requires
 check-quick-requires c κs = tt
@@ -55,11 +52,13 @@ slice-aggregate-passed-quick-page c = search needs
 
 passed-quick-page-requires : tie.Need-passed-quick-page-requires
 passed-quick-page-requires c κs =
-    let c8 = c .before .before .before .before .before .before .before .before in
-    let a = c8 .before .before .before .before .before .before .before .args in
-    let k = quick-checked (a .cells .now) (a .tracks) (a .theme .now) (a .way) (a .bookmark) (a .sets .now) (a .table .now) (a .columns .now) (a .shifts .now)
-    (c .before .before .before .before .before .before .before .check-quick .ensures) (c .before .before .before .before .before .enum-told .given .1) in
-    (k, omega (arith, c .before .before .before .before .if2 .taken, length-replicate {A = ℕ} 2048 0))
+    let told = c .before .before .before .before .before in
+    let checked = told .before .before in
+    let g = checked .before .before in
+    let a = g .before .before .before .before .before .before .args in
+    let k = quick-checked (a .cells .now) (a .tracks) (a .theme .now) (a .way) (a .bookmark) (a .sets .now) (a .table .now) (a .columns .now)
+    (a .shifts .now) (checked .check-quick .ensures) (told .enum-told .given .1) in
+    (k, leaves (k .plain .accepted) (g .goes-along .ensures) (checked .before .if1 .left) (omega (arith, c .before .before .before .before .if2 .taken, length-replicate {A = ℕ} 2048 0)))
 
 same-length-4 : tie.Need-same-length-4
 same-length-4 c = search needs
@@ -78,12 +77,13 @@ slice-aggregate-passed-quick-page-2 c = search needs
 
 passed-quick-page-requires-2 : tie.Need-passed-quick-page-requires-2
 passed-quick-page-requires-2 c κs =
-    let c8 = c .before .before .before .before .before .before .before .before in
-    let a = c8 .before .before .before .before .before .before .before .args in
+    let told = c .before .before .before .before .before in
+    let checked = told .before .before in
+    let g = checked .before .before in
+    let a = g .before .before .before .before .before .before .args in
     let k = quick-checked (a .cells .now) (a .tracks) (a .theme .now) (a .way) (a .bookmark) (a .sets .now) (a .table .now) (a .columns .now)
-    (a .shifts .now) (c .before .before .before .before .before .before .before .check-quick .ensures)
-    (c .before .before .before .before .before .enum-told .given .1) in
-    (k, omega (arith, cells-most (k .plain .accepted), length-replicate {A = ℕ} mostCells 0))
+    (a .shifts .now) (checked .check-quick .ensures) (told .enum-told .given .1) in
+    (k, leaves (k .plain .accepted) (g .goes-along .ensures) (checked .before .if1 .left) (omega (arith, cells-most (k .plain .accepted), length-replicate {A = ℕ} mostCells 0)))
 
 same-length-7 : tie.Need-same-length-7
 same-length-7 c = search needs
@@ -101,7 +101,7 @@ pub quick-page-spec : {M : Type 1} → statement M
 quick-page-spec =
     tie.close
     (tie.spec
-    any-empty-requires
+    goes-along-requires
     quick-along-page-requires
     same-length
     same-length-2
