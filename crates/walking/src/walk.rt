@@ -24,6 +24,9 @@ ghost use Rattle.walking.specs.Walk.{Ready, ListsEvery, Along, TriesList
 // How many columns are listed at a time at most.
 const LISTED: usize = 64;
 
+// For so many looks taken, one more candidate is listed at a time.
+const LOOKS_AHEAD: usize = 16;
+
 // Tries the listed columns one after another, until none is left or no room. The spot's code counts on its own column only.
 fn walk_along(
     cells: &[u8],
@@ -135,8 +138,19 @@ pub fn walk_every(
     }
 }
 
-// The same along candidates. The register begins anew at the bookmark's column. No more candidates are listed at a time than
-// there is room for pairs.
+// How many candidates are listed at a time: as many as there is room for pairs, so that a page which fills early does not seek
+// candidates that it never tries; and more of them the more looks there were, since a page that does not fill tries them all.
+fn wanted_of(room: usize, looks: u32) -> usize
+    requires { ⌜ 1 ≤ room ⌝ }
+    ensures { λ r. ⌜ (1 ≤ r) × (r ≤ listed) ⌝ }
+{
+    if room < LISTED {
+        return some_of(room + looks as usize / LOOKS_AHEAD);
+    }
+    LISTED
+}
+
+// The same along candidates. The register begins anew at the bookmark's column.
 pub fn walk_candidates(
     cells: &[u8],
     h: usize,
@@ -167,7 +181,7 @@ pub fn walk_candidates(
     let mut ring = [0u64; RING];
     let mut list = [0u16; LISTED];
     while (0 < left) & (spot.found < columns.len()) {
-        let wanted = some_of(columns.len() - spot.found);
+        let wanted = wanted_of(columns.len() - spot.found, looks);
         let l = list_candidates(
             register,
             sets,

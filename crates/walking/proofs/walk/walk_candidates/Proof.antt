@@ -46,7 +46,7 @@ begun c = c .before .before .before .before .before
 abbrev turning : tie.Then2 Inv-loop μ-loop → tie.At-loop Inv-loop μ-loop
 turning c = c .before .before
 
-abbrev at-loop : tie.After-some-of Inv-loop μ-loop → tie.At-loop Inv-loop μ-loop
+abbrev at-loop : tie.After-wanted-of Inv-loop μ-loop → tie.At-loop Inv-loop μ-loop
 at-loop c = turning (c .before .before)
 
 abbrev listing : tie.After-ring Inv-loop μ-loop → tie.After-list-candidates Inv-loop μ-loop
@@ -114,15 +114,15 @@ room : (c : tie.Then2 Inv-loop μ-loop) → turning c .loop .spot .found < lengt
 room c = ltb-true _ _ (both-right (ltb 0 (turning c .loop .left)) _ (c .if2 .taken))
 
 -- the columns that are left end where the theme has no more room
-ended : (c : tie.After-some-of Inv-loop μ-loop) → let l = at-loop c in let s = entered (begun l) in
+ended : (c : tie.After-wanted-of Inv-loop μ-loop) → let l = at-loop c in let s = entered (begun l) in
     l .loop .spot .column .0 + l .loop .left ≡ endOf (s .args .cells .now) (s .args .h) (s .args .theme .now)
 ended c = omega (arith, more (c .before .before), at-loop c .loop .inv .1)
 
-sub-some-of : tie.Need-sub-some-of Inv-loop μ-loop
-sub-some-of c = omega (arith, room (c .before))
+sub-wanted-of : tie.Need-sub-wanted-of Inv-loop μ-loop
+sub-wanted-of c = omega (arith, room (c .before))
 
-some-of-requires : tie.Need-some-of-requires Inv-loop μ-loop
-some-of-requires c κs = omega (arith, room (c .before))
+wanted-of-requires : tie.Need-wanted-of-requires Inv-loop μ-loop
+wanted-of-requires c κs = omega (arith, room (c .before))
 
 slice-aggregate-list-candidates : tie.Need-slice-aggregate-list-candidates Inv-loop μ-loop
 slice-aggregate-list-candidates c = search needs
@@ -132,7 +132,7 @@ list-candidates-requires c κs =
     let a = c .before in
     let l = at-loop a in
     let lent = asked-lent (entered (begun l) .pre) (l .loop .inv .0 .first) (omega (arith, more (a .before .before))) (ended a) in
-    (lent, (l .loop .inv .2, (a .some-of .ensures .0, omega (arith, a .some-of .ensures .2, l .loop .inv .4))))
+    (lent, (l .loop .inv .2, (a .wanted-of .ensures .0, omega (arith, a .wanted-of .ensures .1, l .loop .inv .4))))
 
 sub-left : tie.Need-sub-left Inv-loop μ-loop
 sub-left c = let l = c .before .before in omega (arith, l .list-candidates .ensures .decides .to-end)
@@ -223,8 +223,8 @@ walk-candidates-spec =
     sub-warmed-2
     warmed-requires
     loop-holds
-    sub-some-of
-    some-of-requires
+    sub-wanted-of
+    wanted-of-requires
     slice-aggregate-list-candidates
     list-candidates-requires
     sub-left
