@@ -7,6 +7,7 @@ use Rattle.asking.proofs.checks.check_theme
 use Rattle.asking.proofs.checks.check_request
 use Rattle.asking.proofs.checks.check_page
 use Rattle.asking.proofs.checks.check_plain
+use Rattle.asking.proofs.checks.check_with_sets
 use Rattle.asking.proofs.checks.check_quick
 
 pub check-theme-unique : Settles check_theme.Kinds.ps check_theme.Kinds.r check_theme.Reads.Post
@@ -20,6 +21,9 @@ check-page-unique κs args x y = (settled-unique (x .meets) (y .meets), refl)
 
 pub check-plain-unique : Settles check_plain.Kinds.ps check_plain.Kinds.r check_plain.Reads.Post
 check-plain-unique κs args x y = (settled-unique (x .meets) (y .meets), refl)
+
+pub check-with-sets-unique : Settles check_with_sets.Kinds.ps check_with_sets.Kinds.r check_with_sets.Reads.Post
+check-with-sets-unique κs args x y = (settled-unique (x .meets) (y .meets), refl)
 
 pub check-quick-unique : Settles check_quick.Kinds.ps check_quick.Kinds.r check_quick.Reads.Post
 check-quick-unique κs args x y = (settled-unique (x .meets) (y .meets), refl)

@@ -57,6 +57,10 @@ requestRows most cells h theme = row1 h ∷ row2 cells h ∷ row3 cells ∷ them
 abbrev pub setsRows : (cells : List ℕ) (h : ℕ) (sets : List ℕ) (table : ℕ) → List Row
 setsRows cells h sets table = row6 cells h sets ∷ row7 sets ∷ row8 table ∷ []
 
+-- a score and a theme, with lent sets and a table of this length: 1 to 8
+abbrev pub withSetsRows : (cells : List ℕ) (h : ℕ) (theme sets : List ℕ) (table : ℕ) → List Row
+withSetsRows cells h theme sets table = requestRows mostNotes cells h theme ++ setsRows cells h sets table
+
 -- two buffers of these lengths, and a bookmark: 9, 10
 abbrev pub pageRows : Range → (n : ℕ) → Bookmark → (r other : ℕ) → List Row
 pageRows range n b r other = row9 r other ∷ row10 range n b ∷ []

@@ -24,7 +24,7 @@ ghost use Rattle.score.specs.Score.{columnsIn};
 ghost use Rattle.score.specs.Refusals.{verdict};
 ghost use Rattle.ways.specs.Way.{rangeOf, rangeAs};
 ghost use Rattle.asking.specs.Limits.{mostNotes};
-ghost use Rattle.asking.specs.Refusals.{badNote, row10, themeRows, requestRows, setsRows, pageRows};
+ghost use Rattle.asking.specs.Refusals.{badNote, row10, themeRows, requestRows, withSetsRows, pageRows};
 
 // Refusals 1 to 5, for a score and a theme of `most` notes at most.
 pub fn check_request(cells: &[u8], tracks: usize, theme: &[u8], most: usize) -> Verdict
@@ -54,6 +54,28 @@ pub fn check_plain(
     check_page(way, columns_in(cells, tracks), bookmark, r, other)
 }
 
+// Refusals 1 to 8, for a score and a theme with lent sets and a table as long as `table`.
+pub fn check_with_sets(
+    cells: &[u8],
+    tracks: usize,
+    theme: &[u8],
+    sets: &[u16],
+    table: usize,
+) -> Verdict
+    ensures { λ v. ⌜ v ≡ verdict (withSetsRows (now (cells .entry)) tracks (now (theme .entry)) (now (sets .entry)) table) ⌝ }
+{
+    if let Verdict::Refused(e) = check_request(cells, tracks, theme, MOST_NOTES) {
+        return Verdict::Refused(e);
+    }
+    if let Verdict::Refused(e) = check_sets(cells, tracks, sets) {
+        return Verdict::Refused(e);
+    }
+    if table != TABLE_WORDS {
+        return refused(8, 0);
+    }
+    Verdict::Accepted
+}
+
 // Refusals 1 to 10, for a quick page with a table as long as `table`.
 pub fn check_quick(
     cells: &[u8],
@@ -66,16 +88,10 @@ pub fn check_quick(
     r: usize,
     other: usize,
 ) -> Verdict
-    ensures { λ v. ⌜ v ≡ verdict (requestRows mostNotes (now (cells .entry)) tracks (now (theme .entry)) ++ setsRows (now (cells .entry)) tracks (now (sets .entry)) table ++ pageRows (rangeOf way) (columnsIn (now (cells .entry)) tracks) bookmark r other) ⌝ }
+    ensures { λ v. ⌜ v ≡ verdict (withSetsRows (now (cells .entry)) tracks (now (theme .entry)) (now (sets .entry)) table ++ pageRows (rangeOf way) (columnsIn (now (cells .entry)) tracks) bookmark r other) ⌝ }
 {
-    if let Verdict::Refused(e) = check_request(cells, tracks, theme, MOST_NOTES) {
+    if let Verdict::Refused(e) = check_with_sets(cells, tracks, theme, sets, table) {
         return Verdict::Refused(e);
-    }
-    if let Verdict::Refused(e) = check_sets(cells, tracks, sets) {
-        return Verdict::Refused(e);
-    }
-    if table != TABLE_WORDS {
-        return refused(8, 0);
     }
     let n = columns_in(cells, tracks);
     check_page(AnyWay::Moved(way), n, bookmark, r, other)

@@ -11,4 +11,5 @@ pub use checks::check_plain;
 pub use checks::check_quick;
 pub use checks::check_request;
 pub use checks::check_theme;
+pub use checks::check_with_sets;
 pub use limits::MOST_NOTES;

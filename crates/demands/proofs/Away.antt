@@ -1,13 +1,15 @@
 -- Demand 1: each call, over its promise. The idea: an answer that meets the promise is the defined one, whose refusals are
 -- known. Assumes nothing.
 use mathlib.Core.Path.{_≡_, refl, sym, _∙_}
-use mathlib.Core.Logic.{_↔_}
+use mathlib.Core.Logic.{_↔_, _⊎_}
 use mathlib.Core.List.{List, [], _∷_, map}
 use Prim.Native.Nat.{ℕ}
+use Rattle.score.specs.declared.quantities.Column.{Column}
 use Rattle.score.specs.declared.refusals.Refusal.{Refusal}
 use Rattle.score.specs.declared.refusals.Verdict.the-variants.{Accepted as Passed, Refused as Away}
 use Rattle.score.specs.Refusals.{Row, verdict, GivenBy, placeBy}
 use Rattle.score.proofs.Judged.{Clear, judge-clear, verdict-clear}
+use Rattle.summing.specs.declared.summary.Summary.{Summary}
 use Rattle.preparing.specs.declared.sets.Preparation.{Preparation}
 use Rattle.preparing.specs.declared.sets.Preparation.the-variants.{Prepared, Refused as Unprepared}
 use Rattle.preparing.specs.Preparing.{prepareRows, Prepares}
@@ -23,6 +25,14 @@ use Rattle.paging.specs.Lent.{Lent}
 use Rattle.search.specs.Page.{rowsOfPlain, PlainPages, rowsOfQuick, QuickPages}
 use Rattle.search.proofs.PlainCall.{plain-turned, plain-refused, plain-kept}
 use Rattle.search.proofs.QuickCall.{quick-turned, quick-refused, quick-kept}
+use Rattle.occurring.specs.declared.question.Occurrence.{Occurrence}
+use Rattle.occurring.specs.declared.question.Occurrence.the-variants.{Somewhere, Nowhere, Refused as Unanswered}
+use Rattle.occurring.specs.Occurring.{occursRows, Occurs}
+use Rattle.occurring.proofs.Asked.{occurs-accepted, occurs-refused, occurs-kept}
+use Rattle.updating.specs.declared.changes.Change.{Change}
+use Rattle.updating.specs.declared.changes.Change.the-variants.{Updated, Refused as Unchanged}
+use Rattle.updating.specs.Updating.{updateRows, Updates}
+use Rattle.updating.proofs.Updated.{update-accepted, update-refused, update-kept}
 use Rattle.demands.specs.Demands.{TurnsAway}
 
 -- no row applies exactly where the verdict accepts
@@ -30,14 +40,15 @@ clear-verdict : (rows : List Row) → Clear rows ↔ (verdict rows ≡ Passed)
 clear-verdict rows = (λ c. judge-clear Away Passed rows c, λ e. verdict-clear rows e)
 
 pub prepares-away : (cells : List ℕ) (h : ℕ) (lent : List ℕ) {answer : Preparation} {after : List ℕ} → Prepares cells h lent answer after
-    → TurnsAway (1 ∷ 2 ∷ 3 ∷ 6 ∷ []) (prepareRows cells h lent) (λ r. answer ≡ Unprepared r) (answer ≡ Prepared) (after ≡ lent)
+    → TurnsAway (1 ∷ 2 ∷ 3 ∷ 6 ∷ []) (prepareRows cells h lent) (λ r. answer ≡ Unprepared r)
+    ((s : Summary) × (answer ≡ Prepared s)) (after ≡ lent)
 prepares-away cells h lent p =
     let v = clear-verdict (prepareRows cells h lent) in
     let a = prepare-accepted cells h lent in
     record {
       order = refl;
       exactly = λ k q. let e = prepare-refused cells h lent k q in (λ x. e .0 (sym (p .answers) ∙ x), λ x. p .answers ∙ e .1 x);
-      otherwise = (λ x. v .0 (a .0 (sym (p .answers) ∙ x)), λ x. p .answers ∙ a .1 (v .1 x));
+      otherwise = (λ x. v .0 (a .0 (x .0, sym (p .answers) ∙ x .1)), λ x. let t = a .1 (v .1 x) in (t .0, p .answers ∙ t .1));
       unwritten = λ r x. p .fills ∙ prepare-kept cells h lent r (sym (p .answers) ∙ x);
     }
 
@@ -71,4 +82,31 @@ quick-away cells h theme way b sets table buffers p =
       exactly = λ k q. let f = quick-refused cells h theme way b sets table buffers k q in (λ x. f .0 (sym e ∙ x), λ x. e ∙ f .1 x);
       otherwise = (λ x. v .0 (c .0 (a .0 (x .0, sym e ∙ x .1))), λ x. let t = a .1 (c .1 (v .1 x)) in (t .0, e ∙ t .1));
       unwritten = λ r x. let k = quick-kept cells h theme way b sets table buffers r (sym e ∙ x) in (p .pages .writes ∙ k .0, p .fills-table ∙ k .1);
+    }
+
+pub occurs-away : (cells : List ℕ) (h : ℕ) (theme : List ℕ) (way : Way) (sets : List ℕ) (summary : Summary) (table : List ℕ)
+    {answer : Occurrence} {table′ : List ℕ} → Occurs cells h theme way sets summary table answer table′
+    → TurnsAway (1 ∷ 2 ∷ 3 ∷ 4 ∷ 5 ∷ 6 ∷ 7 ∷ 8 ∷ 12 ∷ []) (occursRows cells h theme sets summary table)
+    (λ r. answer ≡ Unanswered r) ((answer ≡ Somewhere) ⊎ (answer ≡ Nowhere)) (table′ ≡ table)
+occurs-away cells h theme way sets summary table o =
+    let v = clear-verdict (occursRows cells h theme sets summary table) in
+    let a = occurs-accepted cells h theme way sets summary table o in
+    record {
+      order = refl;
+      exactly = occurs-refused cells h theme way sets summary table o;
+      otherwise = (λ x. v .0 (a .0 x), λ x. a .1 (v .1 x));
+      unwritten = occurs-kept cells h theme way sets summary table o;
+    }
+
+pub updates-away : (cells : List ℕ) (h : ℕ) (c : Column) (lent : List ℕ) {answer : Change} {after : List ℕ} → Updates cells h c lent answer after
+    → TurnsAway (1 ∷ 2 ∷ 3 ∷ 6 ∷ 7 ∷ 19 ∷ []) (updateRows cells h c lent) (λ r. answer ≡ Unchanged r)
+    ((s : Summary) × (answer ≡ Updated s)) (after ≡ lent)
+updates-away cells h c lent u =
+    let v = clear-verdict (updateRows cells h c lent) in
+    let a = update-accepted cells h c lent in
+    record {
+      order = refl;
+      exactly = λ k q. let e = update-refused cells h c lent k q in (λ x. e .0 (sym (u .answers) ∙ x), λ x. u .answers ∙ e .1 x);
+      otherwise = (λ x. v .0 (a .0 (x .0, sym (u .answers) ∙ x .1)), λ x. let t = a .1 (v .1 x) in (t .0, u .answers ∙ t .1));
+      unwritten = λ r x. u .writes ∙ update-kept cells h c lent r (sym (u .answers) ∙ x);
     }

@@ -1,9 +1,10 @@
--- The three demands hold. Assumes nothing.
+-- The three demands hold, and what is wanted of the question and of the update. Assumes nothing.
 use mathlib.Core.Path.{_≡_, refl, subst}
 use mathlib.Core.List.{List}
 use Prim.Native.Nat.{ℕ}
 use Rattle.score.specs.Score.{scoreOf}
 use Rattle.score.specs.Sets.{sets}
+use Rattle.score.specs.Refusals.{judge}
 use Rattle.score.proofs.Judged.{verdict-clear}
 use Rattle.preparing.specs.Preparing.{prepared}
 use Rattle.ways.specs.declared.way.Way.{Way}
@@ -18,11 +19,18 @@ use Rattle.paging.specs.declared.page.Page.the-variants.{Turned}
 use Rattle.paging.specs.Lent.{Lent}
 use Rattle.paging.proofs.Bookmarks.{first-range}
 use Rattle.search.specs.Page.{plainPage, quickPage, quickTable, QuickPages}
-use Rattle.demands.specs.Demands.{RightRequest, Demand1, Demand2, Demand3}
-use Rattle.demands.proofs.Away.{prepares-away, plain-away, quick-away}
-use Rattle.demands.proofs.True.{own-sets-left, plain-stands, written-free, quick-stands, prepared-intervals}
+use Rattle.filter.specs.Limits.{wordBits}
+use Rattle.filter.specs.Table.{themeTable}
+use Rattle.occurring.specs.declared.question.Occurrence.the-variants.{Refused as Unanswered}
+use Rattle.occurring.specs.Occurring.{quickList, byList, occursRows}
+use Rattle.updating.specs.Updating.{renewed}
+use Rattle.demands.specs.Demands.{RightRequest, Demand1, Demand2, Demand3, Question, Update}
+use Rattle.demands.proofs.Away.{prepares-away, plain-away, quick-away, occurs-away, updates-away}
+use Rattle.demands.proofs.True.{own-sets-left, plain-stands, written-free, quick-stands, prepared-intervals, prepared-summary, updated-summary}
 use Rattle.demands.proofs.Whole.{plainly, plain-all, quick-own, own-call}
 use Rattle.demands.proofs.Alike.{reading-same, one-page}
+use Rattle.demands.proofs.Questions.{asked-pages, asked-table, asked-lacking, asked-own}
+use Rattle.demands.proofs.Updates.{renewed-fresh, renewed-length, renewed-own, renewed-other}
 
 -- a right score and theme are accepted
 accepted : {cells : List ℕ} {h : ℕ} {theme : List ℕ} → RightRequest cells h theme → Accepted mostNotes cells h theme
@@ -40,13 +48,30 @@ demand1 =
       quick-answers = λ cells h theme way b sets table buffers.
           let f = quickPage cells h theme way b sets table buffers in
           (f .answer, (quickTable cells h theme way b sets table buffers, (f .buffers, record { pages = record { answers = refl; writes = refl }; fills-table = refl })));
+      question-answers = λ cells h theme way sets summary table.
+          let rows = occursRows cells h theme sets summary table in (
+            judge rows Unanswered (byList (quickList way (scoreOf cells h) theme sets)),
+            (judge rows (λ r. table) (themeTable wordBits theme), record { answers = refl; fills-table = refl }),
+          );
+      update-answers = λ cells h c lent.
+          let f = renewed cells h c lent in
+          (f .answer, (f .sets, record { answers = refl; writes = refl }));
       preparation = prepares-away;
       plain = plain-away;
       quick = quick-away;
+      question = occurs-away;
+      update = updates-away;
     }
 
 pub demand2 : Demand2
-demand2 = record { plain = plain-stands; quick = quick-stands; prepared = prepared-intervals }
+demand2 =
+    record {
+      plain = plain-stands;
+      quick = quick-stands;
+      prepared = prepared-intervals;
+      summary = prepared-summary;
+      summary-after = updated-summary;
+    }
 
 pub demand3 : Demand3
 demand3 =
@@ -60,4 +85,21 @@ demand3 =
       same = λ cells h theme way a r room lent s p q x y.
           reading-same cells h theme way (accepted a) r room p (own-call cells h theme (accepted a) r room way s q)
           (first-range (plainly cells h theme (accepted a) r room (Moved way) p .right .narrow) _) x y;
+    }
+
+pub question : Question
+question =
+    record {
+      table-filled = λ cells h theme way sets summary table o given. asked-table cells h theme way sets summary table o given;
+      by-pages = λ cells h theme way sets summary table table₂ buffers o given q.
+          asked-pages cells h theme way sets summary table o given table₂ buffers q;
+      own = λ cells h theme way a lent p table long o. asked-own cells h theme way (accepted a) lent p table long o;
+      lacking-none = λ cells h theme way sets summary table o given l. asked-lacking cells h theme way sets summary table o given l;
+    }
+
+pub update : Update
+update =
+    record {
+      fresh = λ before cells h c one lent p u. renewed-fresh cells h c u before one (own-sets-left p);
+      each = λ cells h c lent u. (renewed-length cells h c u, renewed-own cells h c u, renewed-other cells h c u);
     }

@@ -1,7 +1,10 @@
--- That the demands hold: `Away` (what is turned away), `True` (what is listed and prepared is true), `Whole` (pages joined are the whole list),
--- `Alike` (quick pages are the plain ones). What it comes to: `Demands`.
+-- That the demands hold: `Away` (what is turned away), `True` (what is listed and prepared is true), `Whole` (pages joined are
+-- the whole list), `Alike` (quick pages are the plain ones), `Questions` (the question), `Updates` (the update). What it comes to:
+-- `Demands`.
 mod Away
 mod True
 mod Whole
 mod Alike
+mod Questions
+mod Updates
 pub mod Demands

@@ -9,6 +9,7 @@ use native.Mathlib.Omega.{arith}
 use lib.ListN.{length}
 use Rattle.score.specs.Score.{scoreOf}
 use Rattle.score.specs.Sets.{sets}
+use Rattle.summing.specs.declared.summary.Summary.{Summary}
 use Rattle.preparing.specs.declared.sets.Preparation.the-variants.{Prepared}
 use Rattle.preparing.specs.Preparing.{Prepares}
 use Rattle.ways.specs.declared.way.Way.{Way}
@@ -100,6 +101,6 @@ module _ (cells : List ℕ) (h : ℕ) (theme : List ℕ) (a : Accepted mostNotes
         (le-trans (quick-looks-less cells h theme way wordBits (themeTable wordBits theme) (sets score)) (all-looks-le cells h theme (Moved way)))
 
     -- with the sets that a preparation left
-    pub own-call : {lent after : List ℕ} {call : Bookmark → Lent → Leaf} → Prepares cells h lent Prepared after → QuickCall cells h theme way after call
+    pub own-call : {lent after : List ℕ} {s : Summary} {call : Bookmark → Lent → Leaf} → Prepares cells h lent (Prepared s) after → QuickCall cells h theme way after call
         → QuickCall cells h theme way (sets score) call
     own-call {call = call} p q = subst (λ (s : List ℕ). QuickCall cells h theme way s call) (own-sets-left p) q

@@ -1,10 +1,11 @@
--- When a list is trusted: three demands, each a record over what the calls promise and over no method. `Demand1`: what is
--- turned away, and that nothing is then written. `Demand2`: what is listed and what is prepared is true. `Demand3`: pages
--- joined are the whole list, and quick pages hold the same. That all three hold is `proofs/Demands`. The calls are the three on
--- which the others rest; `docs/CONTRACTS.md` has them all. That every call ends is no field: the check proves of every function
--- that it is safe and ends, and no public call has a `requires`. Assumes nothing.
+-- When a list is trusted: three demands, each a record over what the calls promise and over no method. `Demand1`: what is turned
+-- away, and that nothing is then written. `Demand2`: what is listed and what is prepared is true. `Demand3`: pages joined are
+-- the whole list, and quick pages hold the same. Beside them what is wanted of two further calls: `Question`, whether a theme
+-- occurs at all, and `Update`, of the sets after one column was changed. That all of them hold is `proofs/Demands`. The calls
+-- are the five on which the others rest; `docs/CONTRACTS.md` has them all. That every call ends is no field: the check proves of
+-- every function that it is safe and ends, and no public call has a `requires`. Assumes nothing.
 use mathlib.Core.Path.{_≡_}
-use mathlib.Core.Bool.{false}
+use mathlib.Core.Bool.{true, false}
 use mathlib.Core.Logic.{_↔_, _⊎_}
 use mathlib.Core.List.{List, [], _∷_, _++_, map, List·Memᴰ as In}
 use Prim.Native.Nat.{ℕ, _+_, _-_, _/_, _≤_, _<_}
@@ -13,11 +14,13 @@ use Rattle.theory.specs.Lists.{sum, join}
 use Rattle.theory.specs.Bits.{bit}
 use Rattle.score.specs.Limits.{highestSet, tableWords}
 use Rattle.score.specs.declared.quantities.Interval.{Interval}
+use Rattle.score.specs.declared.quantities.Column.{Column}
 use Rattle.score.specs.declared.refusals.Refusal.{Refusal}
 use Rattle.score.specs.declared.refusals.Verdict.the-variants.{Accepted as Passed}
 use Rattle.score.specs.Score.{columnAt, column, scoreOf, heard, onward}
-use Rattle.score.specs.Sets.{Apart}
+use Rattle.score.specs.Sets.{Apart, sets as setsOf}
 use Rattle.score.specs.Refusals.{Row, verdict, GivenBy, placeBy}
+use Rattle.summing.specs.declared.summary.Summary.{Summary}
 use Rattle.preparing.specs.declared.sets.Preparation.{Preparation}
 use Rattle.preparing.specs.declared.sets.Preparation.the-variants.{Prepared, Refused as Unprepared}
 use Rattle.preparing.specs.Preparing.{prepareRows, Prepares}
@@ -30,6 +33,8 @@ use Rattle.ways.specs.Way.{rangeAs}
 use Rattle.ways.specs.Bookmarks.{firstBookmark}
 use Rattle.asking.specs.Limits.{mostNotes}
 use Rattle.asking.specs.Refusals.{requestRows}
+use Rattle.filter.specs.Limits.{wordBits}
+use Rattle.filter.specs.Table.{themeTable}
 use Rattle.paging.specs.declared.page.Turn.{Turn}
 use Rattle.paging.specs.declared.page.Page.{Page}
 use Rattle.paging.specs.declared.page.Page.the-variants.{Turned, Refused}
@@ -41,13 +46,20 @@ use Rattle.paging.specs.Listing.{Read, NoDearer}
 use Rattle.search.specs.Definition.{Stands, StandsAs}
 use Rattle.search.specs.Page.{rowsOfPlain, PlainPages, rowsOfQuick, QuickPages}
 use Rattle.search.specs.WholeList.{mostLooks}
+use Rattle.occurring.specs.declared.question.Occurrence.{Occurrence}
+use Rattle.occurring.specs.declared.question.Occurrence.the-variants.{Somewhere, Nowhere, Refused as Unanswered}
+use Rattle.occurring.specs.Occurring.{lacking, occursRows, Occurs}
+use Rattle.updating.specs.declared.changes.Change.{Change}
+use Rattle.updating.specs.declared.changes.Change.the-variants.{Updated, Refused as Unchanged}
+use Rattle.updating.specs.Updating.{heardBefore, updateRows, Updates, OneChanged}
 
 -- ---- demand 1: every call has an answer to all that it may be given. What is bad gets its refusal and its place, exactly on its row, and then
 -- no buffer is written that is lent for writing
 
 -- a call that is judged by these rows, which have these numbers in this order (rows 1 to 3, 6 and 7 are in
--- `score/specs/Refusals`, the others in `asking/specs/Refusals`). `Refuses r` says that its answer is refusal r, `Accepts` that
--- it is none, and `Untouched` that the buffers that it may write are what they were
+-- `score/specs/Refusals`, 4, 5 and 8 to 10 in `asking/specs/Refusals`, 12 in `occurring/specs/Occurring`, 19 in
+-- `updating/specs/Updating`). `Refuses r` says that its answer is refusal r, `Accepts` that it is none, and `Untouched` that the
+-- buffers that it may write are what they were
 pub record TurnsAway (numbers : List ℕ) (rows : List Row) (Refuses : Refusal → Type 0) (Accepts Untouched : Type 0) : Type 0 where
   pub order : map (λ (row : Row). row .given .number) rows ≡ numbers
   -- number k and place p are given exactly where row k is the first that applies, and p is the place that it names
@@ -63,9 +75,13 @@ pub record Demand1 : Type 0 where
       → (a : Page) × ((after : Lent) × PlainPages cells h theme way b buffers a after)
   pub quick-answers : (cells : List ℕ) (h : ℕ) (theme : List ℕ) (way : Way) (b : Bookmark) (sets table : List ℕ) (buffers : Lent)
       → (a : Page) × ((table′ : List ℕ) × ((after : Lent) × QuickPages cells h theme way b sets table buffers a table′ after))
+  pub question-answers : (cells : List ℕ) (h : ℕ) (theme : List ℕ) (way : Way) (sets : List ℕ) (summary : Summary) (table : List ℕ)
+      → (a : Occurrence) × ((table′ : List ℕ) × Occurs cells h theme way sets summary table a table′)
+  pub update-answers : (cells : List ℕ) (h : ℕ) (c : Column) (lent : List ℕ) → (a : Change) × ((after : List ℕ) × Updates cells h c lent a after)
   -- and it is a refusal exactly on a row
   pub preparation : (cells : List ℕ) (h : ℕ) (lent : List ℕ) {answer : Preparation} {after : List ℕ} → Prepares cells h lent answer after
-      → TurnsAway (1 ∷ 2 ∷ 3 ∷ 6 ∷ []) (prepareRows cells h lent) (λ r. answer ≡ Unprepared r) (answer ≡ Prepared) (after ≡ lent)
+      → TurnsAway (1 ∷ 2 ∷ 3 ∷ 6 ∷ []) (prepareRows cells h lent) (λ r. answer ≡ Unprepared r)
+      ((s : Summary) × (answer ≡ Prepared s)) (after ≡ lent)
   pub plain : (cells : List ℕ) (h : ℕ) (theme : List ℕ) (way : AnyWay) (b : Bookmark) (buffers : Lent) {answer : Page} {after : Lent}
       → PlainPages cells h theme way b buffers answer after
       → TurnsAway (1 ∷ 2 ∷ 3 ∷ 4 ∷ 5 ∷ 9 ∷ 10 ∷ []) (rowsOfPlain cells h theme way b buffers)
@@ -74,6 +90,13 @@ pub record Demand1 : Type 0 where
       {answer : Page} {table′ : List ℕ} {after : Lent} → QuickPages cells h theme way b sets table buffers answer table′ after
       → TurnsAway (1 ∷ 2 ∷ 3 ∷ 4 ∷ 5 ∷ 6 ∷ 7 ∷ 8 ∷ 9 ∷ 10 ∷ []) (rowsOfQuick cells h theme way b sets table buffers)
       (λ r. answer ≡ Refused r) ((t : Turn) × (answer ≡ Turned t)) ((after ≡ buffers) × (table′ ≡ table))
+  pub question : (cells : List ℕ) (h : ℕ) (theme : List ℕ) (way : Way) (sets : List ℕ) (summary : Summary) (table : List ℕ)
+      {answer : Occurrence} {table′ : List ℕ} → Occurs cells h theme way sets summary table answer table′
+      → TurnsAway (1 ∷ 2 ∷ 3 ∷ 4 ∷ 5 ∷ 6 ∷ 7 ∷ 8 ∷ 12 ∷ []) (occursRows cells h theme sets summary table)
+      (λ r. answer ≡ Unanswered r) ((answer ≡ Somewhere) ⊎ (answer ≡ Nowhere)) (table′ ≡ table)
+  pub update : (cells : List ℕ) (h : ℕ) (c : Column) (lent : List ℕ) {answer : Change} {after : List ℕ} → Updates cells h c lent answer after
+      → TurnsAway (1 ∷ 2 ∷ 3 ∷ 6 ∷ 7 ∷ 19 ∷ []) (updateRows cells h c lent) (λ r. answer ≡ Unchanged r)
+      ((s : Summary) × (answer ≡ Updated s)) (after ≡ lent)
 
 -- ---- demand 2: what is listed stands by the published definition, which passes over empty columns, whatever sets were lent; and what is
 -- prepared is, for each column and the next that has a pitch, exactly the intervals between them with octaves ignored
@@ -88,6 +111,13 @@ pub record IntervalsOf (score : List (List ℕ)) (sets : List ℕ) : Type 0 wher
       → getD sets (k - 1) 0 ≡ highestSet
   pub no-other : (k q : ℕ) → 12 ≤ q → bit (getD sets (k - 1) 0) q ≡ 0
 
+-- a summary of sets: its bit d, 0 to 11, is 0 exactly where some set has bit d at 0; all its other bits are 0; of no sets it is
+-- 4095
+pub record IsSummary (sets : List ℕ) (s : Summary) : Type 0 where
+  pub each : (d : ℕ) → d < 12 → (bit (s .0) d ≡ 0) ↔ ((k : ℕ) × (k < length sets) × (bit (getD sets k 0) d ≡ 0))
+  pub no-other : (q : ℕ) → 12 ≤ q → bit (s .0) q ≡ 0
+  pub of-none : sets ≡ [] → s .0 ≡ highestSet
+
 pub record Demand2 : Type 0 where
   -- of all three ways: exact, octave, and as the tune is written
   pub plain : (cells : List ℕ) (h : ℕ) (theme : List ℕ) (way : AnyWay) (b : Bookmark) (buffers : Lent) {t : Turn} {after : Lent}
@@ -97,7 +127,12 @@ pub record Demand2 : Type 0 where
   pub quick : (cells : List ℕ) (h : ℕ) (theme : List ℕ) (way : Way) (b : Bookmark) (sets table : List ℕ) (buffers : Lent)
       {t : Turn} {table′ : List ℕ} {after : Lent} → QuickPages cells h theme way b sets table buffers (Turned t) table′ after
       → {pair : Pair} → In pair (readPairs (t .written) after) → Stands way (scoreOf cells h) theme pair
-  pub prepared : (cells : List ℕ) (h : ℕ) (lent : List ℕ) {after : List ℕ} → Prepares cells h lent Prepared after → IntervalsOf (scoreOf cells h) after
+  pub prepared : (cells : List ℕ) (h : ℕ) (lent : List ℕ) {s : Summary} {after : List ℕ} → Prepares cells h lent (Prepared s) after
+      → IntervalsOf (scoreOf cells h) after
+  -- and so is the summary that is answered, of a preparation and of an update
+  pub summary : (cells : List ℕ) (h : ℕ) (lent : List ℕ) {s : Summary} {after : List ℕ} → Prepares cells h lent (Prepared s) after → IsSummary after s
+  pub summary-after : (cells : List ℕ) (h : ℕ) (c : Column) (lent : List ℕ) {s : Summary} {after : List ℕ} → Updates cells h c lent (Updated s) after
+      → IsSummary after s
 
 -- ---- demand 3: whoever reads plain pages from the first bookmark on, and asks again with each bookmark that comes back until a page is finished,
 -- has read every pair that stands, once and in order, in each of the three ways; quick pages by the score's own sets hold the
@@ -148,18 +183,59 @@ pub record Demand3 : Type 0 where
       → PlainPages cells h theme Written b buffers (Turned t) after → t .looks ≡ 0
   -- with the sets that a preparation left for that same score, the two ways that move the theme
   pub quick : (cells : List ℕ) (h : ℕ) (theme : List ℕ) (way : Way) → RightRequest cells h theme → (r : ℕ) → 1 ≤ r
-      → (lent : List ℕ) {sets : List ℕ} → Prepares cells h lent Prepared sets
+      → (lent : List ℕ) {s : Summary} {sets : List ℕ} → Prepares cells h lent (Prepared s) sets
       → {call : Bookmark → Lent → Leaf} → QuickCall cells h theme way sets call → ListsAll cells h theme (Moved way) r call
   -- and then every page holds what the plain one does, page after page from the first bookmark, or one page from any bookmark
   pub same-page : (cells : List ℕ) (h : ℕ) (theme : List ℕ) (way : Way) (b : Bookmark) (buffers buffers′ : Lent) (table : List ℕ)
       → length (buffers′ .columns) ≡ length (buffers .columns)
-      → (lent : List ℕ) {sets : List ℕ} → Prepares cells h lent Prepared sets
+      → (lent : List ℕ) {s : Summary} {sets : List ℕ} → Prepares cells h lent (Prepared s) sets
       → {t u : Turn} {after after′ : Lent} {table′ : List ℕ} → PlainPages cells h theme (Moved way) b buffers (Turned u) after
       → QuickPages cells h theme way b sets table buffers′ (Turned t) table′ after′
       → (readPairs (t .written) after′ ≡ readPairs (u .written) after) × NoDearer (Turned t) (Turned u)
   pub same : (cells : List ℕ) (h : ℕ) (theme : List ℕ) (way : Way) → RightRequest cells h theme → (r : ℕ) → 1 ≤ r
-      → (lent : List ℕ) {sets : List ℕ} → Prepares cells h lent Prepared sets
+      → (lent : List ℕ) {s : Summary} {sets : List ℕ} → Prepares cells h lent (Prepared s) sets
       → {plainly quickly : Bookmark → Lent → Leaf} → PlainCall cells h theme (Moved way) plainly → QuickCall cells h theme way sets quickly
       → {pages pages′ : List (List Pair)} {turns turns′ : List Turn}
       → Reading plainly r (firstBookmark (rangeAs (Moved way))) pages turns → Reading quickly r (firstBookmark (rangeAs (Moved way))) pages′ turns′
       → (pages′ ≡ pages) × NoneDearer turns′ turns
+
+-- ---- the question: a yes exactly where there is something to find
+
+pub record Question : Type 0 where
+  -- an accepted question leaves the theme's table, on a no too
+  pub table-filled : (cells : List ℕ) (h : ℕ) (theme : List ℕ) (way : Way) (sets : List ℕ) (summary : Summary) (table : List ℕ)
+      {answer : Occurrence} {table′ : List ℕ} → Occurs cells h theme way sets summary table answer table′
+      → (answer ≡ Somewhere) ⊎ (answer ≡ Nowhere) → table′ ≡ themeTable wordBits theme
+  -- whatever sets are lent: a yes exactly where the first quick page by them, of any room, has a pair, and a no exactly where it
+  -- has none
+  pub by-pages : (cells : List ℕ) (h : ℕ) (theme : List ℕ) (way : Way) (sets : List ℕ) (summary : Summary) (table table₂ : List ℕ) (buffers : Lent)
+      {answer : Occurrence} {table′ table₂′ : List ℕ} {t : Turn} {after : Lent} → Occurs cells h theme way sets summary table answer table′
+      → (answer ≡ Somewhere) ⊎ (answer ≡ Nowhere)
+      → QuickPages cells h theme way (firstBookmark (rangeAs (Moved way))) sets table₂ buffers (Turned t) table₂′ after
+      → ((answer ≡ Somewhere) ↔ (1 ≤ t .written)) × ((answer ≡ Nowhere) ↔ (t .written ≡ 0))
+  -- with the sets and the summary that a preparation of that same score left: a yes exactly where the theme stands at all
+  pub own : (cells : List ℕ) (h : ℕ) (theme : List ℕ) (way : Way) → RightRequest cells h theme
+      → (lent : List ℕ) {s : Summary} {sets : List ℕ} → Prepares cells h lent (Prepared s) sets
+      → (table : List ℕ) → length table ≡ tableWords → {answer : Occurrence} {table′ : List ℕ} → Occurs cells h theme way sets s table answer table′
+      → ((answer ≡ Somewhere) ↔ ((pair : Pair) × Stands way (scoreOf cells h) theme pair))
+      × ((answer ≡ Nowhere) ↔ ((pair : Pair) → Stands way (scoreOf cells h) theme pair → ⊥))
+  -- a theme with an interval that the summary lacks stands at no candidate: the answer without a walk is the one with it
+  pub lacking-none : (cells : List ℕ) (h : ℕ) (theme : List ℕ) (way : Way) (sets : List ℕ) (summary : Summary) (table : List ℕ)
+      {answer : Occurrence} {table′ : List ℕ} → Occurs cells h theme way sets summary table answer table′
+      → (answer ≡ Somewhere) ⊎ (answer ≡ Nowhere) → lacking theme (summary .0) ≡ true → answer ≡ Nowhere
+
+-- ---- the update: sets that were right before the change are right after it
+
+pub record Update : Type 0 where
+  -- where the lent sets are those that a preparation left for a score which differs in the changed column only, what the update
+  -- leaves and answers is what a fresh preparation does
+  pub fresh : (before cells : List ℕ) (h : ℕ) (c : Column) → OneChanged c (scoreOf before h) (scoreOf cells h)
+      → (lent : List ℕ) {s₀ : Summary} {sets : List ℕ} → Prepares before h lent (Prepared s₀) sets
+      → {s : Summary} {after : List ℕ} → Updates cells h c sets (Updated s) after → Prepares cells h sets (Prepared s) after
+  -- and whatever is lent: set k, from 1, is the score's own where it rests on the changed column, and otherwise what it was
+  pub each : (cells : List ℕ) (h : ℕ) (c : Column) (lent : List ℕ) {s : Summary} {after : List ℕ} → Updates cells h c lent (Updated s) after
+      → (length after ≡ length lent)
+      × ((k : ℕ) → 1 ≤ k → k ≤ length lent → (k ≡ c .0) ⊎ (k ≡ heardBefore (scoreOf cells h) c)
+      → getD after (k - 1) 0 ≡ getD (setsOf (scoreOf cells h)) (k - 1) 0)
+      × ((k : ℕ) → 1 ≤ k → k ≤ length lent → (k ≡ c .0 → ⊥) → (k ≡ heardBefore (scoreOf cells h) c → ⊥)
+      → getD after (k - 1) 0 ≡ getD lent (k - 1) 0)

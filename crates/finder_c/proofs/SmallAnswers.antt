@@ -1,6 +1,7 @@
 -- Every answer of the finder is small: a refused place is below 65,536, and the pairs of a page are a number of 32 bits. The
 -- idea: a row names a place only after the rows that bound the length of what it goes through; a start of a theme that is
--- moved costs a look at least, and as the tune is written a column has one pair at most. Assumes nothing.
+-- moved costs a look at least, and as the tune is written a column has one pair at most. First the answers of one number,
+-- then the pages. Assumes nothing.
 use mathlib.Core.Path.{_≡_, refl}
 use mathlib.Core.Bool.{Bool, true, false, cond}
 use mathlib.Core.List.{List, [], _∷_}
@@ -16,22 +17,29 @@ use Rattle.score.specs.Limits.{mostTracks, mostColumns, mostCells}
 use Rattle.score.specs.declared.refusals.Refusal.{Refusal}
 use Rattle.score.specs.Score.{columnsIn, scoreOf, heardOf}
 use Rattle.score.specs.Refusals.{Row, judge, row1, row2, row3, row6, row7, badCell, badSet}
+use Rattle.score.specs.declared.quantities.Column.{Column}
 use Rattle.score.specs.Sets.{sets as setsOf}
-use Rattle.preparing.specs.declared.sets.Preparation.the-variants.{Prepared, Refused as Away}
-use Rattle.preparing.specs.Preparing.{Filled, prepared}
 use Rattle.score.proofs.Columns.{columns-whole, score-length}
 use Rattle.score.proofs.Judged.{Clear}
+use Rattle.summing.specs.declared.summary.Summary.{Summary}
+use Rattle.summing.specs.Summary.{summaryOf}
+use Rattle.preparing.specs.declared.sets.Preparation.the-variants.{Prepared, Refused as Unprepared}
+use Rattle.preparing.specs.Preparing.{Filled, prepareRows, prepared}
+use Rattle.updating.specs.declared.changes.Change.the-variants.{Updated, Refused as Unchanged}
+use Rattle.updating.specs.Updating.{Renewed, row19, updateRows, updatedSets, renewed}
 use Rattle.ways.specs.declared.way.Way.{Way}
 use Rattle.ways.specs.declared.way.AnyWay.{AnyWay}
 use Rattle.ways.specs.declared.way.AnyWay.the-variants.{Moved, Written}
 use Rattle.ways.specs.declared.bookmark.Bookmark.{Bookmark}
+use Rattle.ways.specs.Way.{Range, rangeOf, rangeAs}
+use Rattle.ways.specs.declared.bookmark.Pair.{Pair}
 use Rattle.asking.specs.Limits.{mostNotes}
 use Rattle.asking.specs.Asking.{Accepted}
-use Rattle.walking.specs.Starts.{Place, looks}
-use Rattle.ways.specs.Way.{Range, rangeOf, rangeAs}
 use Rattle.asking.specs.Refusals.{row4, row5, row8, badNote, pageRows}
+use Rattle.asking.proofs.Rows.{row1-clear, row2-clear, row4-clear, row6-clear, plain-clear, quick-clear}
 use Rattle.filter.specs.Limits.{wordBits}
 use Rattle.filter.specs.Table.{themeTable}
+use Rattle.walking.specs.Starts.{Place, looks}
 use Rattle.paging.specs.Lent.{Lent}
 use Rattle.paging.specs.Order.{atOrAfter}
 use Rattle.paging.specs.Search.{Search, left, found, spent}
@@ -40,8 +48,11 @@ use Rattle.search.specs.Pairs.{plainSearch, quickSearch, searchAs}
 use Rattle.search.specs.Page.{rowsOfPlain, rowsOfQuick, plainPage, quickPage}
 use Rattle.search.proofs.Numbers.{heard-few}
 use Rattle.search.proofs.WholeLists.{most-fits, plain-page-le, quick-page-le}
-use Rattle.asking.proofs.Rows.{row1-clear, row2-clear, row4-clear, row6-clear, plain-clear, quick-clear}
-use Rattle.finder_c.specs.Small.{SmallPlace, SmallPreparation, SmallPage}
+use Rattle.occurring.specs.declared.question.Occurrence.{Occurrence}
+use Rattle.occurring.specs.declared.question.Occurrence.the-variants.{Refused as Unanswered}
+use Rattle.occurring.specs.Occurring.{row12, occursRows, quickList, byList}
+use Rattle.finder_c.specs.Singles.{ofPreparation, ofOccurrence, ofChange}
+use Rattle.finder_c.specs.Small.{SmallPlace, SmallSingle, SmallPage}
 
 -- ---- rows
 
@@ -91,6 +102,39 @@ sets-small cells h sets rows b more = (
   λ a. (λ e. record { place = omega (arith, some-first badSet sets e, row6-clear cells h sets .0 a, row2-clear cells h .0 b .1) }, λ d. more),
 )
 
+-- ---- answers of one number
+
+-- a yes and a no are no refusals
+list-small : (list : List Pair) → SmallSingle (ofOccurrence (byList list))
+list-small [] = tt {0}
+list-small (pair ∷ list) = tt {0}
+
+module _ (cells : List ℕ) (h : ℕ) (sets : List ℕ) where
+  pub prepared-small : SmallSingle (ofPreparation (prepared cells h sets .answer))
+  prepared-small =
+      let all = setsOf (scoreOf cells h) in
+      judge-small (λ (f : Filled). SmallSingle (ofPreparation (f .answer))) (λ r. record { answer = Unprepared r; sets = sets })
+      (record { answer = Prepared (summaryOf all); sets = all }) (λ r s. s) (prepareRows cells h sets)
+      (score-small cells h (row6 cells h sets ∷ []) (λ b. (λ e. nowhere, λ d. tt {0}))) (λ c. tt {0})
+
+  pub renewed-small : (c : Column) → SmallSingle (ofChange (renewed cells h c sets .answer))
+  renewed-small c =
+      let after = updatedSets (scoreOf cells h) c sets in
+      let last = row19 (columnsIn cells h) c ∷ [] in
+      judge-small (λ (f : Renewed). SmallSingle (ofChange (f .answer))) (λ r. record { answer = Unchanged r; sets = sets })
+      (record { answer = Updated (summaryOf after); sets = after }) (λ r s. s) (updateRows cells h c sets)
+      (score-small cells h (row6 cells h sets ∷ row7 sets ∷ last) (λ b. sets-small cells h sets last b (λ e. nowhere, λ d. tt {0}))) (λ c. tt {0})
+
+  pub occurrence-small : (theme : List ℕ) (way : Way) (summary : Summary) (table : List ℕ)
+      → SmallSingle (ofOccurrence (judge (occursRows cells h theme sets summary table) Unanswered (byList (quickList way (scoreOf cells h) theme sets))))
+  occurrence-small theme way summary table =
+      let list = quickList way (scoreOf cells h) theme sets in
+      let last = row8 (length table) ∷ row12 sets summary ∷ [] in
+      let rows = row6 cells h sets ∷ row7 sets ∷ last in
+      judge-small (λ (o : Occurrence). SmallSingle (ofOccurrence o)) Unanswered (byList list) (λ r s. s) (occursRows cells h theme sets summary table)
+      (score-small cells h (row4 mostNotes theme ∷ row5 theme ∷ rows)
+      (λ b. theme-small theme rows (sets-small cells h sets last b (λ e. nowhere, λ d. (λ e. nowhere, λ d. tt {0}))))) (λ c. list-small list)
+
 -- ---- a page: each pair costs a look at least
 
 page-pays : {A : Type 0} (hit : A → Bool) (looks : A → ℕ) → ((x : A) → 1 ≤ looks x) → (r : ℕ) (xs : List A)
@@ -110,13 +154,7 @@ looks-some way score [] m s = absurd (omega arith)
 looks-some way score (p ∷ []) m s = absurd (omega arith)
 looks-some way score (p ∷ q ∷ theme) m s = omega arith
 
--- ---- the calls
-
-pub prepared-small : (cells : List ℕ) (h : ℕ) (sets : List ℕ) → SmallPreparation (prepared cells h sets .answer)
-prepared-small cells h sets =
-    judge-small (λ (f : Filled). SmallPreparation (f .answer)) (λ r. record { answer = Away r; sets = sets })
-    (record { answer = Prepared; sets = setsOf (scoreOf cells h) }) (λ r s. s) (row1 h ∷ row2 cells h ∷ row3 cells ∷ row6 cells h sets ∷ [])
-    (score-small cells h (row6 cells h sets ∷ []) (λ b. (λ e. nowhere, λ d. tt {0}))) (λ c. tt {0})
+-- ---- the page calls
 
 -- the rows of the room and of the bookmark name no place
 page-small : (range : Range) (n : ℕ) (b : Bookmark) (r other : ℕ) → SmallRows (pageRows range n b r other)
@@ -169,7 +207,8 @@ module _ (cells : List ℕ) (h : ℕ) (theme : List ℕ) (b : Bookmark) (buffers
       judge-small (λ (l : Leaf). SmallPage (l .answer)) (away buffers) (leaf S b buffers) (λ r s. s) (rowsOfQuick cells h theme way b sets table buffers)
       (score-small cells h (row4 mostNotes theme ∷ row5 theme ∷ rows)
       (λ e. theme-small theme rows
-      (sets-small cells h sets (row8 (length table) ∷ page) e (λ t. nowhere, λ t. page-small (rangeOf way) (columnsIn cells h) b r (length (buffers .shifts))))))
+      (sets-small cells h sets (row8 (length table) ∷ page) e
+      (λ t. nowhere, λ t. page-small (rangeOf way) (columnsIn cells h) b r (length (buffers .shifts))))))
       (λ c. let a = quick-clear cells h theme way b sets table (buffers .columns) (buffers .shifts) .1 c .plain .accepted in
       record {
         written = few-looks S (looks-some way (heardOf (scoreOf cells h)) theme (a .notes-some))

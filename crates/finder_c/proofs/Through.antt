@@ -1,90 +1,151 @@
--- From the calls of `preparing` and `search` to the exported ones: what was answered, told in numbers, is what the contract
--- says; a call that is none changes nothing. Assumes nothing.
+-- From the calls that answer to the exported ones: what was answered, told in numbers, is what the contract says; where there is no
+-- call nothing changes. `leaves-through` and `leaves-none` say that of all calls, `single-through` of those that say one number.
+-- Assumes nothing.
 use mathlib.Core.Path.{_≡_, sym, ap, _∙_, subst, subst₂}
-use mathlib.Core.Bool.{Bool, true, false, cond, not, _||_, true≢false}
+use mathlib.Core.Bool.{Bool, true, false, _||_, true≢false}
 use mathlib.Core.List.{List}
 use Prim.Native.Nat.{ℕ}
 use lib.Dec.{eqb, ltb}
 use lib.IntN.{ℤ, pos}
 use lib.ListN.{length}
 use borrow.Author.Tests.{eqb-true, not-false}
+use Rattle.score.specs.Score.{columnAt}
 use Rattle.preparing.specs.declared.sets.Preparation.{Preparation}
 use Rattle.preparing.specs.Preparing.{Prepares}
+use Rattle.updating.specs.declared.changes.Change.{Change}
+use Rattle.updating.specs.Updating.{Updates}
 use Rattle.ways.specs.declared.way.Way.{Way}
 use Rattle.ways.specs.declared.way.AnyWay.{AnyWay}
 use Rattle.paging.specs.declared.page.Page.{Page}
 use Rattle.paging.specs.Lent.{Lent}
 use Rattle.paging.specs.Page.{Leaf, Pages}
 use Rattle.search.specs.Page.{PlainPages, QuickPages}
-use Rattle.finder_c.specs.Limits.{octave, written, answerNumbers, notCalled}
-use Rattle.finder_c.specs.Numbers.{wayOf, anyWayOf, noCall, preparationNumber, pageNumber, pageNumbers}
-use Rattle.finder_c.specs.Small.{SmallPreparation, SmallPage}
-use Rattle.finder_c.specs.Calls.{CPrepares, CPages, CPlainPages, CQuickPages, CLeaf, bookmark, leafNumbers, noLeaf}
-use Rattle.finder_c.proofs.SmallAnswers.{prepared-small, plain-small, quick-small}
+use Rattle.occurring.specs.declared.question.Occurrence.{Occurrence}
+use Rattle.occurring.specs.Occurring.{Occurs}
+use Rattle.finder_c.specs.declared.single.Single.{Single}
+use Rattle.finder_c.specs.Limits.{octave, written, answerNumbers, oneNumber, notCalled}
+use Rattle.finder_c.specs.Singles.{ofPreparation, ofOccurrence, ofChange}
+use Rattle.finder_c.specs.Numbers.{wayOf, anyWayOf, noAnswer, noCall, singleNumber, singleNumbers, pageNumber, pageNumbers}
+use Rattle.finder_c.specs.Small.{SmallSingle, SmallPage}
+use Rattle.finder_c.specs.Calls.{CLeft, CLeaves, singleLeft, CPrepares, CUpdates, COccurs, summaryAt}
+use Rattle.finder_c.specs.Calls.{CPlainPages, CQuickPages, bookmark, leafLeft}
+use Rattle.finder_c.proofs.SmallAnswers.{prepared-small, renewed-small, occurrence-small, plain-small, quick-small}
 
--- ---- an answer given is small
+-- ---- whether it is a call
 
-pub prepares-small : {cells : List ℕ} {h : ℕ} {sets : List ℕ} {p : Preparation} {sets′ : List ℕ} → Prepares cells h sets p sets′ → SmallPreparation p
-prepares-small {cells} {h} {sets} r = subst SmallPreparation (sym (r .answers)) (prepared-small cells h sets)
+pub answer-long : (numbers len : ℕ) → noAnswer numbers len ≡ false → len ≡ numbers
+answer-long numbers len e = eqb-true len numbers (not-false (eqb len numbers) e)
+
+pub call-long : (highest way numbers len : ℕ) → noCall highest way numbers len ≡ false → len ≡ numbers
+call-long highest way numbers len e = answer-long numbers len (step (ltb highest way) e)
+  where
+    step : (b : Bool) → (b || noAnswer numbers len) ≡ false → noAnswer numbers len ≡ false
+    step true e = absurd (true≢false e)
+    step false e = e
+
+-- ---- all calls
+
+module _ {Buffers : Type 0} {none : Bool} {buffers : Buffers} {answer : List ℤ} {left : CLeft Buffers} where
+  leaves-none : none ≡ true → CLeaves none buffers answer left (pos notCalled) buffers answer
+  leaves-none e = record { results = rw e; writes = rw e; writes-answer = rw e }
+
+  leaves-through : {r : ℤ} {after : Buffers} {answer′ : List ℤ} → none ≡ false → r ≡ left .result → after ≡ left .buffers → answer′ ≡ left .answer
+      → CLeaves none buffers answer left r after answer′
+  leaves-through e n w ns = record { results = rw e n; writes = rw e w; writes-answer = rw e ns }
+
+-- ---- calls that say one number
+
+-- what was said, told in numbers
+single-through : {s said : Single} {lent after left : List ℕ} {answer answer′ : List ℤ} {r : ℤ} {none : Bool} → none ≡ false → s ≡ said → after ≡ left
+    → r ≡ singleNumber s → answer′ ≡ singleNumbers s answer → CLeaves none lent answer (singleLeft said left answer) r after answer′
+single-through {answer = answer} k e w n ns =
+    leaves-through k (n ∙ ap singleNumber e) w (ns ∙ ap (λ (s : Single). singleNumbers s answer) e)
+
+module _ {cells : List ℕ} {h : ℕ} {sets : List ℕ} where
+  -- finder_prepare
+  module _ {p : Preparation} {s : Single} {sets′ : List ℕ} (a : Prepares cells h sets p sets′) (e : s ≡ ofPreparation p) where
+    pub prepares-small : SmallSingle s
+    prepares-small = subst SmallSingle (sym (e ∙ ap ofPreparation (a .answers))) (prepared-small cells h sets)
+
+    pub prepares-through : {answer answer′ : List ℤ} {r : ℤ} → noAnswer oneNumber (length answer) ≡ false
+        → r ≡ singleNumber s → answer′ ≡ singleNumbers s answer → CPrepares cells h sets answer r sets′ answer′
+    prepares-through k n ns = record { leaves = single-through k (e ∙ ap ofPreparation (a .answers)) (a .fills) n ns }
+
+  pub prepares-none : {answer : List ℤ} → noAnswer oneNumber (length answer) ≡ true → CPrepares cells h sets answer (pos notCalled) sets answer
+  prepares-none k = record { leaves = leaves-none k }
+
+  -- finder_update
+  module _ {column : ℕ} {c : Change} {s : Single} {sets′ : List ℕ} (a : Updates cells h (columnAt column) sets c sets′) (e : s ≡ ofChange c) where
+    pub updates-small : SmallSingle s
+    updates-small = subst SmallSingle (sym (e ∙ ap ofChange (a .answers))) (renewed-small cells h sets (columnAt column))
+
+    pub updates-through : {answer answer′ : List ℤ} {r : ℤ} → noAnswer oneNumber (length answer) ≡ false
+        → r ≡ singleNumber s → answer′ ≡ singleNumbers s answer → CUpdates cells h column sets answer r sets′ answer′
+    updates-through k n ns = record { leaves = single-through k (e ∙ ap ofChange (a .answers)) (a .writes) n ns }
+
+  pub updates-none : {column : ℕ} {answer : List ℤ} → noAnswer oneNumber (length answer) ≡ true
+      → CUpdates cells h column sets answer (pos notCalled) sets answer
+  updates-none k = record { leaves = leaves-none k }
+
+  -- finder_occurs
+  module _ {theme : List ℕ} {w : Way} (summary : ℕ) {table : List ℕ} {o : Occurrence} {s : Single} {table′ : List ℕ}
+      (a : Occurs cells h theme w sets (summaryAt summary) table o table′) (e : s ≡ ofOccurrence o) where
+    pub occurs-small : SmallSingle s
+    occurs-small =
+        subst SmallSingle (sym (e ∙ ap ofOccurrence (a .answers))) (occurrence-small cells h sets theme w (summaryAt summary) table)
+
+    pub occurs-through : {way : ℕ} {answer answer′ : List ℤ} {r : ℤ} → noCall octave way oneNumber (length answer) ≡ false → w ≡ wayOf way
+        → r ≡ singleNumber s → answer′ ≡ singleNumbers s answer → COccurs cells h theme way sets summary table answer r table′ answer′
+    occurs-through k v n ns =
+        let b = subst (λ (w : Way). Occurs cells h theme w sets (summaryAt summary) table o table′) v a in
+        record { leaves = single-through k (e ∙ ap ofOccurrence (b .answers)) (b .fills-table) n ns }
+
+  pub occurs-none : {theme : List ℕ} {way summary : ℕ} {table : List ℕ} {answer : List ℤ} → noCall octave way oneNumber (length answer) ≡ true
+      → COccurs cells h theme way sets summary table answer (pos notCalled) table answer
+  occurs-none k = record { leaves = leaves-none k }
+
+-- ---- page calls
 
 pub plain-pages-small : {cells : List ℕ} {h : ℕ} {theme : List ℕ} {way : AnyWay} {column : ℕ} {shift : ℤ} {buffers after : Lent} {p : Page}
     → PlainPages cells h theme way (bookmark column shift) buffers p after → SmallPage p
 plain-pages-small {cells} {h} {theme} {way} {column} {shift} {buffers} r =
     subst SmallPage (sym (r .pages .answers)) (plain-small cells h theme (bookmark column shift) buffers way)
 
-pub quick-pages-small : {cells : List ℕ} {h : ℕ} {theme : List ℕ} {way : Way} {column : ℕ} {shift : ℤ} {sets table table′ : List ℕ} {buffers after : Lent} {p : Page}
+pub quick-pages-small : {cells : List ℕ} {h : ℕ} {theme : List ℕ} {way : Way} {column : ℕ} {shift : ℤ} {sets table table′ : List ℕ}
+    {buffers after : Lent} {p : Page}
     → QuickPages cells h theme way (bookmark column shift) sets table buffers p table′ after → SmallPage p
 quick-pages-small {cells} {h} {theme} {way} {column} {shift} {sets} {table} {buffers = buffers} r =
     subst SmallPage (sym (r .pages .answers)) (quick-small cells h theme (bookmark column shift) buffers way sets table)
 
--- ---- whether it is a call
-
-pub call-long : (highest way len : ℕ) → noCall highest way len ≡ false → len ≡ answerNumbers
-call-long highest way len e = eqb-true len answerNumbers (not-false (eqb len answerNumbers) (step (ltb highest way) e))
-  where
-    step : (b : Bool) → (b || not (eqb len answerNumbers)) ≡ false → not (eqb len answerNumbers) ≡ false
-    step true e = absurd (true≢false e)
-    step false e = e
-
--- ---- put together
-
-pub prepares-through : {cells : List ℕ} {h : ℕ} {sets : List ℕ} {p : Preparation} {sets′ : List ℕ} {r : ℤ} → Prepares cells h sets p sets′ → r ≡ preparationNumber p
-    → CPrepares cells h sets r sets′
-prepares-through a e = record { results = e ∙ ap preparationNumber (a .answers); fills = a .fills }
-
--- a page in numbers, where it is a call
-pages-through : {page : Leaf} {p : Page} {after : Lent} (buffers : Lent) (answer : List ℤ) {answer′ : List ℤ} (highest way : ℕ) {r : ℤ} → noCall highest way (length answer) ≡ false
-    → Pages page p after → r ≡ pageNumber p → answer′ ≡ pageNumbers p answer
-    → CPages (cond (noCall highest way (length answer)) (noLeaf buffers answer) (leafNumbers page answer)) r after answer′
-pages-through {page} buffers answer highest way e a n ns =
-    let c : cond (noCall highest way (length answer)) (noLeaf buffers answer) (leafNumbers page answer) ≡ leafNumbers page answer = rw e in
-    record {
-      results = n ∙ ap pageNumber (a .answers) ∙ sym (ap (λ (l : CLeaf). l .result) c);
-      writes = a .writes ∙ sym (ap (λ (l : CLeaf). l .buffers) c);
-      writes-answer = ns ∙ ap (λ (q : Page). pageNumbers q answer) (a .answers) ∙ sym (ap (λ (l : CLeaf). l .answer) c);
-    }
+-- a page in numbers
+page-through : {page : Leaf} {p : Page} {buffers after : Lent} {answer answer′ : List ℤ} {r : ℤ} {none : Bool} → none ≡ false → Pages page p after
+    → r ≡ pageNumber p → answer′ ≡ pageNumbers p answer → CLeaves none buffers answer (leafLeft page answer) r after answer′
+page-through {answer = answer} k a n ns =
+    leaves-through k (n ∙ ap pageNumber (a .answers)) (a .writes) (ns ∙ ap (λ (q : Page). pageNumbers q answer) (a .answers))
 
 module _ {cells : List ℕ} {h : ℕ} {theme : List ℕ} {way column : ℕ} {shift : ℤ} where
-  pub plain-none : {buffers : Lent} {answer : List ℤ} → noCall written way (length answer) ≡ true
+  pub plain-none : {buffers : Lent} {answer : List ℤ} → noCall written way answerNumbers (length answer) ≡ true
       → CPlainPages cells h theme way column shift buffers answer (pos notCalled) buffers answer
-  plain-none e = record { pages = record { results = rw e; writes = rw e; writes-answer = rw e } }
+  plain-none e = record { leaves = leaves-none e }
 
-  pub quick-none : {sets table : List ℕ} {buffers : Lent} {answer : List ℤ} → noCall octave way (length answer) ≡ true
+  pub quick-none : {sets table : List ℕ} {buffers : Lent} {answer : List ℤ} → noCall octave way answerNumbers (length answer) ≡ true
       → CQuickPages cells h theme way column shift sets table buffers answer (pos notCalled) table buffers answer
-  quick-none e = record { pages = record { results = rw e; writes = rw e; writes-answer = rw e }; fills-table = rw e }
+  quick-none e = record { leaves = leaves-none e; fills-table = rw e }
 
   pub plain-through : {buffers after : Lent} {answer answer′ : List ℤ} {w : AnyWay} {z : ℤ} {p : Page} {r : ℤ}
-      → noCall written way (length answer) ≡ false → w ≡ anyWayOf way → z ≡ shift → PlainPages cells h theme w (bookmark column z) buffers p after
+      → noCall written way answerNumbers (length answer) ≡ false → w ≡ anyWayOf way → z ≡ shift
+      → PlainPages cells h theme w (bookmark column z) buffers p after
       → r ≡ pageNumber p → answer′ ≡ pageNumbers p answer
       → CPlainPages cells h theme way column shift buffers answer r after answer′
   plain-through {buffers} {after} {answer} {p = p} e v k a n ns =
       let b = subst₂ (λ (w : AnyWay) (z : ℤ). PlainPages cells h theme w (bookmark column z) buffers p after) v k a in
-      record { pages = pages-through buffers answer written way e (b .pages) n ns }
+      record { leaves = page-through e (b .pages) n ns }
 
   pub quick-through : {sets table table′ : List ℕ} {buffers after : Lent} {answer answer′ : List ℤ} {w : Way} {z : ℤ} {p : Page} {r : ℤ}
-      → noCall octave way (length answer) ≡ false → w ≡ wayOf way → z ≡ shift → QuickPages cells h theme w (bookmark column z) sets table buffers p table′ after
+      → noCall octave way answerNumbers (length answer) ≡ false → w ≡ wayOf way → z ≡ shift
+      → QuickPages cells h theme w (bookmark column z) sets table buffers p table′ after
       → r ≡ pageNumber p → answer′ ≡ pageNumbers p answer
       → CQuickPages cells h theme way column shift sets table buffers answer r table′ after answer′
   quick-through {sets} {table} {table′} {buffers} {after} {answer} {p = p} e v k a n ns =
       let b = subst₂ (λ (w : Way) (z : ℤ). QuickPages cells h theme w (bookmark column z) sets table buffers p table′ after) v k a in
-      record { pages = pages-through buffers answer octave way e (b .pages) n ns; fills-table = rw e (b .fills-table) }
+      record { leaves = page-through e (b .pages) n ns; fills-table = rw e (b .fills-table) }

@@ -1,6 +1,7 @@
 -- Each exported call's contract settles it: one theorem a call, over what the `ensures` in the source says. Above them the same
 -- of each record by which a call promises: all is said by equations. Assumes nothing.
 use mathlib.Core.Path.{_≡_, refl, sym, _∙_}
+use mathlib.Core.Bool.{Bool}
 use mathlib.Core.List.{List}
 use Prim.Native.Nat.{ℕ}
 use lib.IntN.{ℤ}
@@ -8,37 +9,59 @@ use Rattle.theory.specs.Settled.{Settles}
 use Rattle.theory.proofs.Unique.{_beside_}
 use Rattle.paging.specs.Lent.{Lent}
 use Rattle.paging.proofs.Buffers.{same-columns, same-shifts}
-use Rattle.finder_c.specs.Calls.{CPrepares, CLeaf, CPages, CPlainPages, CQuickPages}
+use Rattle.finder_c.specs.Calls.{CLeft, CLeaves, CPrepares, CUpdates, COccurs, CPlainPages, CQuickPages}
 use Rattle.finder_c.proofs.calls.finder_prepare
+use Rattle.finder_c.proofs.calls.finder_update
+use Rattle.finder_c.proofs.calls.finder_occurs
 use Rattle.finder_c.proofs.calls.finder_plain_page
 use Rattle.finder_c.proofs.calls.finder_quick_page
 
-pub c-prepares-unique : {cells : List ℕ} {h : ℕ} {sets : List ℕ} {r r′ : ℤ} {s s′ : List ℕ}
-    → CPrepares cells h sets r s → CPrepares cells h sets r′ s′ → (r ≡ r′) × (s ≡ s′)
-c-prepares-unique p q = (p .results ∙ sym (q .results), p .fills ∙ sym (q .fills))
+c-leaves-unique : {Buffers : Type 0} {none : Bool} {buffers : Buffers} {answer : List ℤ} {left : CLeft Buffers} {r r′ : ℤ} {b b′ : Buffers} {a a′ : List ℤ}
+    → CLeaves none buffers answer left r b a → CLeaves none buffers answer left r′ b′ a′ → (r ≡ r′) × (b ≡ b′) × (a ≡ a′)
+c-leaves-unique p q = (p .results ∙ sym (q .results), p .writes ∙ sym (q .writes), p .writes-answer ∙ sym (q .writes-answer))
 
-c-pages-unique : {leaf : CLeaf} {r r′ : ℤ} {l l′ : Lent} {a a′ : List ℤ}
-    → CPages leaf r l a → CPages leaf r′ l′ a′ → (r ≡ r′) × (l ≡ l′) × (a ≡ a′)
-c-pages-unique p q = (p .results ∙ sym (q .results), p .writes ∙ sym (q .writes), p .writes-answer ∙ sym (q .writes-answer))
+module _ {cells : List ℕ} {h : ℕ} {sets : List ℕ} {answer : List ℤ} where
+  pub c-prepares-unique : {r r′ : ℤ} {s s′ : List ℕ} {a a′ : List ℤ}
+      → CPrepares cells h sets answer r s a → CPrepares cells h sets answer r′ s′ a′ → (r ≡ r′) × (s ≡ s′) × (a ≡ a′)
+  c-prepares-unique p q = c-leaves-unique (p .leaves) (q .leaves)
+
+  pub c-updates-unique : {column : ℕ} {r r′ : ℤ} {s s′ : List ℕ} {a a′ : List ℤ}
+      → CUpdates cells h column sets answer r s a → CUpdates cells h column sets answer r′ s′ a′ → (r ≡ r′) × (s ≡ s′) × (a ≡ a′)
+  c-updates-unique p q = c-leaves-unique (p .leaves) (q .leaves)
+
+  pub c-occurs-unique : {theme : List ℕ} {way summary : ℕ} {table : List ℕ} {r r′ : ℤ} {t t′ : List ℕ} {a a′ : List ℤ}
+      → COccurs cells h theme way sets summary table answer r t a
+      → COccurs cells h theme way sets summary table answer r′ t′ a′ → (r ≡ r′) × (t ≡ t′) × (a ≡ a′)
+  c-occurs-unique p q = c-leaves-unique (p .leaves) (q .leaves)
 
 module _ {cells : List ℕ} {h : ℕ} {theme : List ℕ} {way column : ℕ} {shift : ℤ} {buffers : Lent} {answer : List ℤ} where
   pub c-plain-unique : {r r′ : ℤ} {l l′ : Lent} {a a′ : List ℤ}
       → CPlainPages cells h theme way column shift buffers answer r l a
       → CPlainPages cells h theme way column shift buffers answer r′ l′ a′ → (r ≡ r′) × (l ≡ l′) × (a ≡ a′)
-  c-plain-unique p q = c-pages-unique (p .pages) (q .pages)
+  c-plain-unique p q = c-leaves-unique (p .leaves) (q .leaves)
 
   pub c-quick-unique : {sets table t t′ : List ℕ} {r r′ : ℤ} {l l′ : Lent} {a a′ : List ℤ}
       → CQuickPages cells h theme way column shift sets table buffers answer r t l a
       → CQuickPages cells h theme way column shift sets table buffers answer r′ t′ l′ a′
       → ((r ≡ r′) × (l ≡ l′) × (a ≡ a′)) × (t ≡ t′)
-  c-quick-unique p q = (c-pages-unique (p .pages) (q .pages), p .fills-table ∙ sym (q .fills-table))
+  c-quick-unique p q = (c-leaves-unique (p .leaves) (q .leaves), p .fills-table ∙ sym (q .fills-table))
 
 -- ---- the calls
 
 pub finder-prepare-unique : Settles finder_prepare.Kinds.ps finder_prepare.Kinds.r finder_prepare.Reads.Post
 finder-prepare-unique κs args x y =
-    let (result, sets) = c-prepares-unique (x .meets) (y .meets) in
-    (result, refl beside refl beside sets beside refl)
+    let (result, sets, answer) = c-prepares-unique (x .meets) (y .meets) in
+    (result, refl beside refl beside sets beside answer beside refl)
+
+pub finder-update-unique : Settles finder_update.Kinds.ps finder_update.Kinds.r finder_update.Reads.Post
+finder-update-unique κs args x y =
+    let (result, sets, answer) = c-updates-unique (x .meets) (y .meets) in
+    (result, refl beside refl beside refl beside sets beside answer beside refl)
+
+pub finder-occurs-unique : Settles finder_occurs.Kinds.ps finder_occurs.Kinds.r finder_occurs.Reads.Post
+finder-occurs-unique κs args x y =
+    let (result, table, answer) = c-occurs-unique (x .meets) (y .meets) in
+    (result, refl beside refl beside refl beside refl beside refl beside refl beside table beside answer beside refl)
 
 pub finder-plain-page-unique : Settles finder_plain_page.Kinds.ps finder_plain_page.Kinds.r finder_plain_page.Reads.Post
 finder-plain-page-unique κs args x y =

@@ -2,11 +2,11 @@
 -- Asked by inner functions only; that every answer of the finder is so is a law of this crate. Assumes nothing.
 use Prim.Native.Nat.{_^_, _<_}
 use Rattle.score.specs.declared.refusals.Refusal.{Refusal}
-use Rattle.preparing.specs.declared.sets.Preparation.{Preparation}
-use Rattle.preparing.specs.declared.sets.Preparation.the-variants as preparation
 use Rattle.paging.specs.declared.page.Turn.{Turn}
 use Rattle.paging.specs.declared.page.Page.{Page}
 use Rattle.paging.specs.declared.page.Page.the-variants.{Turned, Refused}
+use Rattle.finder_c.specs.declared.single.Single.{Single}
+use Rattle.finder_c.specs.declared.single.Single.the-variants as single
 
 pub record SmallPlace (r : Refusal) : Type 0 where
   pub place : r .place < 65536
@@ -14,9 +14,9 @@ pub record SmallPlace (r : Refusal) : Type 0 where
 pub record SmallTurn (t : Turn) : Type 0 where
   pub written : t .written < 2 ^ 32
 
-abbrev pub SmallPreparation : Preparation → Type 0
-SmallPreparation preparation.Prepared = Unit {0}
-SmallPreparation (preparation.Refused r) = SmallPlace r
+abbrev pub SmallSingle : Single → Type 0
+SmallSingle (single.Said n) = Unit {0}
+SmallSingle (single.Refused r) = SmallPlace r
 
 abbrev pub SmallPage : Page → Type 0
 SmallPage (Turned t) = SmallTurn t

@@ -1,9 +1,8 @@
 // An answer in numbers: 0 where the call was accepted, and otherwise the refusal.
 
-use crate::limits::ANSWER_NUMBERS;
 use crate::limits::PLACE_WEIGHT;
 use crate::limits::WRITTEN;
-use preparing::Preparation;
+use crate::single::Single;
 use score::Refusal;
 use search::AnyWay;
 use search::Page;
@@ -12,9 +11,10 @@ use search::Way;
 ghost use mathlib.Core.Path.{_≡_};
 ghost use mathlib.Core.List.{[], _∷_};
 ghost use lib.ListN.{length};
-ghost use Rattle.finder_c.specs.Limits.{answerNumbers};
-ghost use Rattle.finder_c.specs.Numbers.{wayOf, anyWayOf, noCall, refusalNumber, preparationNumber, pageNumber, turnNumbers, pageNumbers};
-ghost use Rattle.finder_c.specs.Small.{SmallPlace, SmallPreparation, SmallPage, SmallTurn};
+ghost use Rattle.finder_c.specs.Limits.{answerNumbers, oneNumber};
+ghost use Rattle.finder_c.specs.Numbers.{wayOf, anyWayOf, noAnswer, noCall, refusalNumber};
+ghost use Rattle.finder_c.specs.Numbers.{singleNumber, singleNumbers, pageNumber, turnNumbers, pageNumbers};
+ghost use Rattle.finder_c.specs.Small.{SmallPlace, SmallSingle, SmallPage, SmallTurn};
 
 // The way of a number that is one: 0 exact, 1 octave.
 pub fn way_of(way: u8) -> Way
@@ -33,11 +33,18 @@ pub fn any_way_of(way: u8) -> AnyWay
     AnyWay::Written
 }
 
-// Whether the number is above the highest way of a call, or the answer has not five places.
-pub fn no_call(highest: u8, way: u8, len: usize) -> bool
-    ensures { λ r. ⌜ r ≡ noCall highest way len ⌝ }
+// Whether the answer has not as many places as a call writes numbers.
+pub fn no_answer(numbers: usize, len: usize) -> bool
+    ensures { λ r. ⌜ r ≡ noAnswer numbers len ⌝ }
 {
-    (highest < way) | (len != ANSWER_NUMBERS)
+    len != numbers
+}
+
+// The same of a call of a way: also whether the number is above the highest way of the call.
+pub fn no_call(highest: u8, way: u8, numbers: usize, len: usize) -> bool
+    ensures { λ r. ⌜ r ≡ noCall highest way numbers len ⌝ }
+{
+    (highest < way) | no_answer(numbers, len)
 }
 
 // A refusal's number + 256 * its place.
@@ -48,15 +55,20 @@ fn refusal_number(e: Refusal) -> i64
     (e.number as usize + PLACE_WEIGHT * e.place) as i64
 }
 
-// The result of a preparation.
-pub fn told_preparation(p: Preparation) -> i64
-    requires { ⌜ SmallPreparation p ⌝ }
-    ensures { λ r. ⌜ r ≡ preparationNumber p ⌝ }
+// The result of a call that says one number, with that number written; a refused call writes nothing.
+pub fn told_single(s: Single, answer: &mut [i64]) -> i64
+    requires { ⌜ SmallSingle s ⌝ }
+    requires { ⌜ length (now answer) ≡ oneNumber ⌝ }
+    ensures { λ r. ⌜ r ≡ singleNumber s ⌝ }
+    ensures { λ _. ⌜ now (answer .exit) ≡ singleNumbers s (now (answer .entry)) ⌝ }
 {
-    if let Preparation::Refused(e) = p {
-        return refusal_number(e);
+    match s {
+        Single::Refused(e) => refusal_number(e),
+        Single::Said(n) => {
+            answer[0] = n as i64;
+            0
+        }
     }
-    0
 }
 
 // Writes the five places of an answer.

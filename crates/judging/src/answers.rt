@@ -86,7 +86,7 @@ pub fn ask_prepare(cells: &[u8], sets: &mut [u16], a: Ask) -> Got {
         return unasked();
     }
     match prepare(&cells[..many], a.h, &mut sets[..last]) {
-        Preparation::Prepared => refused(0, 0),
+        Preparation::Prepared(_) => refused(0, 0),
         Preparation::Refused(r) => refused(r.number, r.place),
     }
 }

@@ -32,6 +32,9 @@ pub enum Fault {
     Table,
     Pages,
     Beside,
+    Answer,
+    Summary,
+    Fresh,
 }
 
 pub fn differs(fault: Fault) -> bool {
@@ -155,8 +158,8 @@ pub fn page_fault(
     Fault::Nothing
 }
 
-// The theme's table after a quick page: all of it, or some entries; as it was after a refusal, and always behind its end.
-fn table_fault(theme: &[u8], table: &[u32], a: Ask, deep: bool, got: Got) -> Fault {
+// The theme's table after a call that fills it: all of it, or some entries; as it was after a refusal, and always behind its end.
+pub fn table_fault(theme: &[u8], table: &[u32], a: Ask, deep: bool, got: Got) -> Fault {
     if !words_kept(table, a.table, more(a.table, 1)) {
         return Fault::Untouched;
     }

@@ -9,6 +9,7 @@ pub mod numbers;
 pub mod taking;
 
 pub use empties::any_empty;
+pub use empties::is_empty;
 pub use numbers::kept_sets;
 pub use numbers::rank;
 pub use numbers::rename;

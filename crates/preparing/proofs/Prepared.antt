@@ -1,6 +1,6 @@
 -- What a preparation promises, read off its definition: it is accepted exactly where no row of its call applies, refused with
 -- a number and a place exactly where that row is the first that does, and then nothing is written; otherwise every set is
--- the one of its column and the next with a pitch. Assumes nothing.
+-- the one of its column and the next with a pitch, and the answer is their summary. Assumes nothing.
 use mathlib.Core.Path.{_≡_, refl, sym, ap, _∙_}
 use mathlib.Core.Bool.{Bool, true, false, true≢false}
 use mathlib.Core.Logic.{_↔_, _⊎_, ⊎-elim}
@@ -17,16 +17,18 @@ use Rattle.score.specs.Limits.{highestSet}
 use Rattle.score.specs.Score.{columnAt, column, scoreOf, heard, columnsFrom, onward}
 use Rattle.score.specs.Sets.{Apart, intervalSet, nextHeard, sets}
 use Rattle.score.specs.Refusals.{GivenBy, placeBy}
+use Rattle.summing.specs.declared.summary.Summary.{Summary}
+use Rattle.summing.specs.Summary.{summaryOf}
 use Rattle.preparing.specs.Preparing.{Filled, prepareRows, prepared}
 use Rattle.score.proofs.IntervalSets.{sets-at, set-bit, set-empty, set-alone}
 use Rattle.score.proofs.Judged.{Clear, judge-either, judge-clear, judge-clear-of, answer-refused}
 
 -- an accepted answer is no refusal
 abbrev isPrepared : Preparation → Bool
-isPrepared Prepared = true
+isPrepared (Prepared s) = true
 isPrepared (Refused r) = false
 
-prepared-refused : {r : Refusal} → Prepared ≡ Refused r → ⊥
+prepared-refused : {s : Summary} {r : Refusal} → Prepared s ≡ Refused r → ⊥
 prepared-refused e = true≢false (ap isPrepared e)
 
 module _ (cells : List ℕ) (h : ℕ) (lent : List ℕ) where
@@ -34,12 +36,13 @@ module _ (cells : List ℕ) (h : ℕ) (lent : List ℕ) where
   refuse r = record { answer = Refused r; sets = lent }
 
   abbrev full : Filled
-  full = record { answer = Prepared; sets = sets (scoreOf cells h) }
+  full = record { answer = Prepared (summaryOf (sets (scoreOf cells h))); sets = sets (scoreOf cells h) }
 
-  pub prepare-accepted : (prepared cells h lent .answer ≡ Prepared) ↔ Clear (prepareRows cells h lent)
+  pub prepare-accepted : ((s : Summary) × (prepared cells h lent .answer ≡ Prepared s)) ↔ Clear (prepareRows cells h lent)
   prepare-accepted = (
-    λ e. judge-clear-of refuse full (λ (x : Filled). x .answer ≡ Prepared) (λ r k. prepared-refused (sym k)) (prepareRows cells h lent) e,
-    λ c. ap (λ (x : Filled). x .answer) (judge-clear refuse full (prepareRows cells h lent) c),
+    λ e.
+        judge-clear-of refuse full (λ (x : Filled). x .answer ≡ Prepared (e .0)) (λ r k. prepared-refused (sym k)) (prepareRows cells h lent) (e .1),
+    λ c. (summaryOf (sets (scoreOf cells h)), ap (λ (x : Filled). x .answer) (judge-clear refuse full (prepareRows cells h lent) c)),
   )
 
   pub prepare-refused : (k p : ℕ) → (prepared cells h lent .answer ≡ Refused (record { number = k; place = p }))
@@ -52,13 +55,19 @@ module _ (cells : List ℕ) (h : ℕ) (lent : List ℕ) where
   prepare-kept r =
       judge-either refuse full (λ (x : Filled). x .answer ≡ Refused r → x .sets ≡ lent) (λ s e. refl) (λ e. absurd (prepared-refused e)) (prepareRows cells h lent)
 
-  pub prepare-fills : prepared cells h lent .answer ≡ Prepared → prepared cells h lent .sets ≡ sets (scoreOf cells h)
-  prepare-fills =
-      judge-either refuse full (λ (x : Filled). x .answer ≡ Prepared → x .sets ≡ sets (scoreOf cells h)) (λ s e. absurd (prepared-refused (sym e))) (λ e. refl)
-      (prepareRows cells h lent)
+  pub prepare-fills : {s : Summary} → prepared cells h lent .answer ≡ Prepared s → prepared cells h lent .sets ≡ sets (scoreOf cells h)
+  prepare-fills {s} =
+      judge-either refuse full (λ (x : Filled). x .answer ≡ Prepared s → x .sets ≡ sets (scoreOf cells h)) (λ r e. absurd (prepared-refused (sym e)))
+      (λ e. refl) (prepareRows cells h lent)
+
+  -- and answers their summary
+  pub prepare-sums : {s : Summary} → prepared cells h lent .answer ≡ Prepared s → s ≡ summaryOf (sets (scoreOf cells h))
+  prepare-sums {s} =
+      judge-either refuse full (λ (x : Filled). x .answer ≡ Prepared s → s ≡ summaryOf (sets (scoreOf cells h)))
+      (λ r e. absurd (prepared-refused (sym e))) (λ e. cc) (prepareRows cells h lent)
 
   -- entry k, from 1
-  entry : prepared cells h lent .answer ≡ Prepared → (k : ℕ) → 1 ≤ k → k < length (scoreOf cells h)
+  entry : {s : Summary} → prepared cells h lent .answer ≡ Prepared s → (k : ℕ) → 1 ≤ k → k < length (scoreOf cells h)
       → getD (prepared cells h lent .sets) (k - 1) 0
       ≡ intervalSet (column (scoreOf cells h) (columnAt k)) (nextHeard (columnsFrom (scoreOf cells h) (columnAt (k + 1))))
   entry e k low high =
@@ -68,14 +77,14 @@ module _ (cells : List ℕ) (h : ℕ) (lent : List ℕ) where
       rw (prepare-fills e, at, b, c)
 
   -- entry k, from 1, belongs to column k and the next with a pitch: its bit d is 0 exactly when they have pitches d apart
-  pub prepare-bit : prepared cells h lent .answer ≡ Prepared → (k : ℕ) → 1 ≤ k → k < length (scoreOf cells h) → (d : Interval) → d .0 < 12
+  pub prepare-bit : {s : Summary} → prepared cells h lent .answer ≡ Prepared s → (k : ℕ) → 1 ≤ k → k < length (scoreOf cells h) → (d : Interval) → d .0 < 12
       → (bit (getD (prepared cells h lent .sets) (k - 1) 0) (d .0) ≡ 0)
       ↔ Apart (column (scoreOf cells h) (columnAt k)) (nextHeard (columnsFrom (scoreOf cells h) (columnAt (k + 1)))) d
   prepare-bit e k low high d small =
       rw (entry e k low high) (set-bit (column (scoreOf cells h) (columnAt k)) (nextHeard (columnsFrom (scoreOf cells h) (columnAt (k + 1)))) d small)
 
   -- it is 4095 where column k is empty, and where no column with a pitch follows
-  pub prepare-empty : prepared cells h lent .answer ≡ Prepared → (k : ℕ) → 1 ≤ k → k < length (scoreOf cells h)
+  pub prepare-empty : {s : Summary} → prepared cells h lent .answer ≡ Prepared s → (k : ℕ) → 1 ≤ k → k < length (scoreOf cells h)
       → (heard (column (scoreOf cells h) (columnAt k)) ≡ false) ⊎ (onward (scoreOf cells h) (columnAt (k + 1)) ≡ [])
       → getD (prepared cells h lent .sets) (k - 1) 0 ≡ highestSet
   prepare-empty e k low high why =

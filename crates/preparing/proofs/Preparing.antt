@@ -15,6 +15,8 @@ use Rattle.score.specs.Limits.{mostColumns}
 use Rattle.score.specs.Score.{cut, columnsIn, scoreOf}
 use Rattle.score.specs.Sets.{sets}
 use Rattle.score.specs.Refusals.{Row, verdict, row1, row2, row3, row6}
+use Rattle.summing.specs.declared.summary.Summary.{Summary}
+use Rattle.summing.specs.Summary.{summaryOf}
 use Rattle.preparing.specs.Preparing.{Filled, prepared, Prepares}
 use Rattle.score.proofs.Columns.{columns-whole}
 use Rattle.score.proofs.Judging.{judge-refused, judge-accepted, judge-here, judge-next}
@@ -28,7 +30,7 @@ module _ (cells : List ℕ) (h : ℕ) (lent : List ℕ) where
   refuse r = record { answer = Refused r; sets = lent }
 
   abbrev full : Filled
-  full = record { answer = Prepared; sets = sets (scoreOf cells h) }
+  full = record { answer = Prepared (summaryOf (sets (scoreOf cells h))); sets = sets (scoreOf cells h) }
 
   settled : {x : Filled} {answer : Preparation} {after : List ℕ} → prepared cells h lent ≡ x → answer ≡ x .answer → after ≡ x .sets
       → Prepares cells h lent answer after
@@ -53,10 +55,12 @@ module _ (cells : List ℕ) (h : ℕ) (lent : List ℕ) where
       pub prepares-few : length lent ≤ mostColumns
       prepares-few = omega (arith, columns, score-sound cells h e .few-columns)
 
-      pub prepares-filled : {after : List ℕ} → after ≡ sets (cut (length lent + 1) h cells) → Prepares cells h lent Prepared after
-      prepares-filled s =
-          settled (judge-accepted refuse full rows (row6 cells h lent ∷ []) e ∙ judge-next refuse full (row6 cells h lent) [] k) refl
-          (s ∙ ap (λ (n : ℕ). sets (cut n h cells)) columns)
+      pub prepares-filled : {after : List ℕ} {summary : Summary} → after ≡ sets (cut (length lent + 1) h cells) → summary ≡ summaryOf after
+          → Prepares cells h lent (Prepared summary) after
+      prepares-filled s m =
+          let own = s ∙ ap (λ (n : ℕ). sets (cut n h cells)) columns in
+          settled (judge-accepted refuse full rows (row6 cells h lent ∷ []) e ∙ judge-next refuse full (row6 cells h lent) [] k)
+          (ap Prepared (m ∙ ap summaryOf own)) own
 
   -- one answer, and one content of the sets
   pub prepares-unique : {a b : Preparation} {s t : List ℕ} → Prepares cells h lent a s → Prepares cells h lent b t → (a ≡ b) × (s ≡ t)

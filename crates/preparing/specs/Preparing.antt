@@ -1,5 +1,5 @@
 -- Preparation: the whole answer, and what the lent sets hold afterwards. Refusals 1, 2, 3, 6, in this order; an accepted
--- preparation fills all n - 1 sets, a refused one writes nothing. Assumes nothing.
+-- preparation fills all n - 1 sets and gives their summary, a refused one writes nothing. Assumes nothing.
 use mathlib.Core.Path.{_≡_}
 use mathlib.Core.List.{List, [], _∷_}
 use Prim.Native.Nat.{ℕ}
@@ -8,6 +8,7 @@ use Rattle.preparing.specs.declared.sets.Preparation.the-variants.{Prepa
 use Rattle.score.specs.Score.{scoreOf}
 use Rattle.score.specs.Sets.{sets}
 use Rattle.score.specs.Refusals.{Row, judge, row1, row2, row3, row6}
+use Rattle.summing.specs.Summary.{summaryOf}
 
 -- the answer, and the lent sets after the call
 pub record Filled : Type 0 where
@@ -22,7 +23,7 @@ abbrev pub prepared : (cells : List ℕ) (h : ℕ) (lent : List ℕ) → Filled
 prepared cells h lent =
     judge (prepareRows cells h lent)
     (λ r. record { answer = Refused r; sets = lent })
-    (record { answer = Prepared; sets = sets (scoreOf cells h) })
+    (record { answer = Prepared (summaryOf (sets (scoreOf cells h))); sets = sets (scoreOf cells h) })
 
 -- what the call promises: this answer, and these sets
 pub record Prepares (cells : List ℕ) (h : ℕ) (lent : List ℕ) (answer : Preparation) (after : List ℕ) : Type 0 where

@@ -4,6 +4,7 @@
 // and the next with a pitch. Where no column is empty that is the next column, and the class sets alone will do; elsewhere
 // they are first carried over the empty columns.
 
+use crate::classes::classes_of;
 use crate::classes::gather;
 use crate::heard::any_empty;
 use crate::heard::carry;
@@ -13,23 +14,26 @@ use score::Refusal;
 use score::Verdict;
 use score::checks::bad_length;
 use score::checks::check_score;
+use summing::Summary;
+use summing::summary_of;
 ghost use mathlib.Core.Path.{_≡_};
 ghost use Prim.Native.Nat.{_+_, _*_, _≤_};
 ghost use lib.ListN.{length};
 ghost use Rattle.score.specs.Limits.{mostColumns};
 ghost use Rattle.score.specs.Score.{cut};
-ghost use Rattle.score.specs.Sets.{sets as setsOf};
+ghost use Rattle.score.specs.Sets.{intervalSet, sets as setsOf};
+ghost use Rattle.summing.specs.Summary.{summaryOf};
 ghost use Rattle.preparing.specs.Classes.{SetOf, Turned};
 ghost use Rattle.preparing.specs.Preparing.{Prepares};
 
-// The answer of a preparation.
+// The answer of a preparation: the summary of the sets, or a refusal.
 pub enum Preparation {
-    Prepared,
+    Prepared(Summary),
     Refused(Refusal),
 }
 
 // Fills the lent sets, all n - 1 of them: each of its column and the next with a pitch, 4095 where the column is empty or none
-// follows. Or refuses, 1, 2, 3 or 6, and writes nothing.
+// follows. Gives their summary. Or refuses, 1, 2, 3 or 6, and writes nothing.
 pub fn prepare(cells: &[u8], tracks: usize, sets: &mut [u16]) -> Preparation
     ensures { λ r. ⌜ Prepares (now (cells .entry)) tracks (now (sets .entry)) r (now (sets .exit)) ⌝ }
 {
@@ -42,8 +46,25 @@ pub fn prepare(cells: &[u8], tracks: usize, sets: &mut [u16]) -> Preparation
             place: 0,
         });
     }
+    Preparation::Prepared(filled(cells, tracks, sets))
+}
+
+// All sets filled, and then their summary.
+fn filled(cells: &[u8], tracks: usize, sets: &mut [u16]) -> Summary
+    requires { ⌜ (length (now sets) + 1) * tracks ≤ length (now cells) ⌝ }
+    requires { ⌜ length (now sets) ≤ mostColumns ⌝ }
+    ensures { λ r. ⌜ r ≡ summaryOf (now (sets .exit)) ⌝ }
+    ensures { λ _. ⌜ now (sets .exit) ≡ setsOf (cut (length (now (sets .entry)) + 1) tracks (now (cells .entry))) ⌝ }
+{
     fill(cells, tracks, sets);
-    Preparation::Prepared
+    summary_of(sets)
+}
+
+// The set of two columns, whatever cells they have: a 0 for each interval from a pitch of the earlier to one of the later.
+pub fn set_between(earlier: &[u8], later: &[u8]) -> u16
+    ensures { λ r. ⌜ r ≡ intervalSet (now (earlier .entry)) (now (later .entry)) ⌝ }
+{
+    set_of(classes_of(earlier), classes_of(later))
 }
 
 // Each set, of the class sets of its column and the next with a pitch. The first column is next to none, so it may be empty

@@ -6,4 +6,4 @@
 
 pub mod heads;
 pub mod lines;
-mod pieces;
+pub mod pieces;

@@ -99,6 +99,9 @@ pub fn fault_name(fault: Fault) {
         Fault::Table => say(b" table"),
         Fault::Pages => say(b" pages"),
         Fault::Beside => say(b" quick-beside-plain"),
+        Fault::Answer => say(b" answer"),
+        Fault::Summary => say(b" summary"),
+        Fault::Fresh => say(b" beside-a-fresh-preparation"),
     }
 }
 

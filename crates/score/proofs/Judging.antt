@@ -1,6 +1,6 @@
--- Judging by rows: rows in two parts, what a verdict says of any answer that is made by the same rows, and the rows that
--- apply where there are no tracks. The idea: the first row that applies decides. Assumes nothing.
-use mathlib.Core.Path.{_≡_, refl, ap, subst}
+-- Judging by rows: rows in two parts, what a verdict says of any answer that is made by the same rows, a check in two parts, and the
+-- rows that apply where there are no tracks. The idea: the first row that applies decides. Assumes nothing.
+use mathlib.Core.Path.{_≡_, refl, sym, ap, subst, _∙_}
 use mathlib.Core.Bool.{Bool, true, false, cond, not, _||_}
 use mathlib.Core.List.{List, [], _∷_, _++_, append-nil}
 use Prim.Native.Nat.{ℕ, _%_}
@@ -9,6 +9,7 @@ use native.Mathlib.Omega.{arith}
 use lib.Dec.{eqb}
 use lib.ListN.{length}
 use Rattle.score.specs.declared.refusals.Refusal.{Refusal}
+use Rattle.score.specs.declared.refusals.Verdict.{Verdict}
 use Rattle.score.specs.declared.refusals.Verdict.the-variants.{Accepted, Refused}
 use Rattle.score.specs.Refusals.{Row, judge, verdict, row2}
 
@@ -48,6 +49,15 @@ module _ {A : Type 0} (f : Refusal → A) (a : A) where
           → cond b (f (x .given)) (judge (rows ++ more) f a) ≡ judge more f a
       step true k ih = absurd (let z : _≡_ {A = ℕ} 0 1 = cc in omega arith)
       step false k ih = ih k
+
+-- a check that goes through rows and then through more: where the first turn away it does, and where they accept it says what the
+-- others say
+module _ (rows more : List Row) {v : Verdict} (checked : v ≡ verdict rows) where
+  pub turned-away : {e : Refusal} → v ≡ Refused e → Refused e ≡ verdict (rows ++ more)
+  turned-away k = sym (judge-refused Refused Accepted rows more (sym checked ∙ k))
+
+  pub gone-on : v ≡ Accepted → {w : Verdict} → w ≡ verdict more → w ≡ verdict (rows ++ more)
+  gone-on k e = e ∙ sym (judge-accepted Refused Accepted rows more (sym checked ∙ k))
 
 -- no tracks make no columns
 pub no-tracks : (cells : List ℕ) → row2 cells 0 .applies ≡ true

@@ -16,7 +16,8 @@ pub struct Away {
     pub place: usize,
 }
 
-fn row(number: u8) -> Away {
+// A row that names no place, or none.
+pub fn row(number: u8) -> Away {
     Away { number, place: 0 }
 }
 
@@ -44,7 +45,7 @@ fn first_set(s: &[u16], many: usize) -> usize {
 }
 
 // Rows 1 to 3.
-fn of_score(cells: &[u8], many: usize, h: usize) -> Away {
+pub fn of_score(cells: &[u8], many: usize, h: usize) -> Away {
     if h == 0 {
         return row(1);
     }
@@ -71,7 +72,7 @@ fn of_score(cells: &[u8], many: usize, h: usize) -> Away {
 }
 
 // Rows 4 and 5.
-fn of_theme(theme: &[u8], m: usize) -> Away {
+pub fn of_theme(theme: &[u8], m: usize) -> Away {
     if m < 2 {
         return row(4);
     }
@@ -89,15 +90,15 @@ fn of_theme(theme: &[u8], m: usize) -> Away {
 }
 
 // Row 6.
-fn of_length(n: usize, many: usize) -> Away {
+pub fn of_length(n: usize, many: usize) -> Away {
     if many == less_one(n) {
         return row(0);
     }
     row(6)
 }
 
-// Rows 7 and 8.
-fn of_sets(sets: &[u16], many: usize, table: usize) -> Away {
+// Row 7.
+pub fn of_sets(sets: &[u16], many: usize) -> Away {
     let bad = first_set(sets, many);
     if bad < many {
         return Away {
@@ -105,7 +106,12 @@ fn of_sets(sets: &[u16], many: usize, table: usize) -> Away {
             place: bad,
         };
     }
-    if table == 4096 {
+    row(0)
+}
+
+// Row 8.
+pub fn of_table(words: usize) -> Away {
+    if words == 4096 {
         return row(0);
     }
     row(8)
@@ -151,9 +157,13 @@ pub fn refusal(cells: &[u8], theme: &[u8], sets: &[u16], a: Ask, call: Call) -> 
         if length.number != 0 {
             return length;
         }
-        let lent = of_sets(sets, a.sets, a.table);
-        if lent.number != 0 {
-            return lent;
+        let each = of_sets(sets, a.sets);
+        if each.number != 0 {
+            return each;
+        }
+        let table = of_table(a.table);
+        if table.number != 0 {
+            return table;
         }
     }
     of_page(a, n)

@@ -47,7 +47,7 @@ fn holds(cells: &[u8], h: usize, j: usize, p: u8, c: i16, way: Way) -> bool {
 }
 
 // Whether column j holds a pitch.
-fn heard(cells: &[u8], h: usize, j: usize) -> bool {
+pub fn heard(cells: &[u8], h: usize, j: usize) -> bool {
     for track in 0..h {
         if byte(cells, place(j, h, track)) < 128 {
             return true;
@@ -129,7 +129,7 @@ fn in_column(cells: &[u8], theme: &[u8], a: Ask, j: usize, from: i16) -> Found {
 }
 
 // The interval from x up to y with octaves ignored: the d of 0 to 11 with y - x - d divisible by 12.
-fn interval(x: u8, y: u8) -> u8 {
+pub fn interval(x: u8, y: u8) -> u8 {
     for d in 0..12 {
         if twelves(apart(y, x, whole(d))) {
             return d;
@@ -139,7 +139,7 @@ fn interval(x: u8, y: u8) -> u8 {
 }
 
 // Whether bit d of a number is 1.
-fn bit(x: usize, d: u8) -> bool {
+pub fn bit(x: usize, d: u8) -> bool {
     if d < 32 { (x >> d) % 2 == 1 } else { true }
 }
 
@@ -247,7 +247,7 @@ fn spans(cells: &[u8], h: usize, k: usize, l: usize, d: u8) -> bool {
 
 // Whether a number is the set of column k, of n columns: bit d is 0 exactly where d is an interval from column k to the next
 // one with a pitch, and bits 12 to 15 are 0. Where none follows, there is no interval.
-fn set_right(cells: &[u8], h: usize, n: usize, k: usize, number: usize) -> bool {
+pub fn set_right(cells: &[u8], h: usize, n: usize, k: usize, number: usize) -> bool {
     let l = next_heard(cells, h, n, k);
     if n < l {
         return number == 4095;

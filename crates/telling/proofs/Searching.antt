@@ -20,6 +20,7 @@ use Rattle.preparing.specs.declared.sets.Preparation.the-variants as Preparatio
 use Rattle.score.specs.Score.{columnsIn, scoreOf, heardOf, numberOf}
 use Rattle.score.proofs.Heard.{number-is}
 use Rattle.score.specs.Sets.{sets as setsOf}
+use Rattle.summing.specs.Summary.{summaryOf}
 use Rattle.preparing.specs.Preparing.{Filled, prepareRows, Prepares}
 use Rattle.score.proofs.Judged.{judge-clear}
 use Rattle.asking.specs.Limits.{mostNotes}
@@ -85,7 +86,8 @@ prepared-own cells h theme {lent} a l p =
     let c = accepted-clear mostNotes cells h theme .0 a in
     p .fills
     ∙ ap (λ (f : Filled). f .sets)
-    (judge-clear (λ r. record { answer = Preparations.Refused r; sets = lent }) (record { answer = Preparations.Prepared; sets = setsOf (scoreOf cells h) })
+    (judge-clear (λ r. record { answer = Preparations.Refused r; sets = lent })
+    (record { answer = Preparations.Prepared (summaryOf (setsOf (scoreOf cells h))); sets = setsOf (scoreOf cells h) })
     (prepareRows cells h lent) (c .0, (c .1 .0, (c .1 .1 .0, (row6-clear cells h lent .1 l, tt)))))
 
 -- ---- lines of a list in two parts

@@ -1,15 +1,15 @@
--- Two tests of a list, made in either order or that agree; a test, the first entries and the last, along a map; and a
--- bookmark, as a test of the keys, where they rise. Assumes nothing.
+-- Two tests of a list, made in either order or that agree; the first entry that passes; a test, the first entries and the last,
+-- along a map; and a bookmark, as a test of the keys, where they rise. Assumes nothing.
 use mathlib.Core.Path.{_≡_, refl, sym, ap}
 use mathlib.Core.Bool.{Bool, true, false, cond}
-use mathlib.Core.List.{List, [], _∷_, map, List·Memᴰ as In, List·Memᴰ·head as here, List·Memᴰ·tail as later}
+use mathlib.Core.List.{List, [], _∷_, _++_, map, List·Memᴰ as In, List·Memᴰ·head as here, List·Memᴰ·tail as later}
 use Prim.Native.Nat.{ℕ, zero, suc, _≤_, _<_}
 use native.Mathlib.Nat.{not-suc-le-zero}
 use native.Mathlib.Omega.{arith}
 use lib.Dec.{leb, ltb}
-use lib.ListN.{length, take}
+use lib.ListN.{length, getD, take}
 use borrow.Author.Tests.{ltb-true, ltb-false, le-leb, lt-leb}
-use Rattle.theory.specs.Lists.{last}
+use Rattle.theory.specs.Lists.{first, last}
 use Rattle.theory.specs.Pages.{hits, Rising, from}
 use Rattle.theory.proofs.Bookmarks.{rising-down, from-all}
 use Rattle.theory.proofs.Members.{rising-hits}
@@ -70,6 +70,21 @@ pub hits-same : {A : Type 0} (a b : A → Bool) (xs : List A) → ((x : A) → I
 hits-same a b [] f = refl
 hits-same {A} a b (x ∷ xs) f =
     rw (f x (here refl)) (ap (λ (l : List A). cond (b x) (x ∷ l) l) (hits-same a b xs (λ y m. f y (later m))))
+
+-- the first of the entries that pass is the first that does
+pub hits-first : {A : Type 0} (test : A → Bool) (xs : List A) (d : A) → getD (hits test xs) 0 d ≡ getD xs (first test xs) d
+hits-first test [] d = refl
+hits-first test (x ∷ xs) d = step (test x) (hits-first test xs d)
+  where
+    step : (t : Bool) → getD (hits test xs) 0 d ≡ getD xs (first test xs) d
+        → getD (cond t (x ∷ hits test xs) (hits test xs)) 0 d ≡ getD (x ∷ xs) (cond t 0 (suc (first test xs))) d
+    step true ih = refl
+    step false ih = ih
+
+-- the last of a list with one entry more
+pub last-more : {A : Type 0} (d : A) (xs : List A) (x : A) → last d (xs ++ (x ∷ [])) ≡ x
+last-more d [] x = refl
+last-more d (y ∷ xs) x = last-more y xs x
 
 -- ---- along a map: the first entries, and the last
 

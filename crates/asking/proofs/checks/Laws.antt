@@ -12,16 +12,8 @@ use Rattle.score.specs.declared.refusals.Refusal.{Refusal}
 use Rattle.score.specs.declared.refusals.Verdict.{Verdict}
 use Rattle.score.specs.declared.refusals.Verdict.the-variants.{Accepted, Refused}
 use Rattle.score.specs.Refusals.{Row, verdict, row1, row2, row3, row6, row7}
-use Rattle.score.proofs.Judging.{judge-refused, judge-accepted}
+use Rattle.score.proofs.Judging.{turned-away, gone-on}
 use Rattle.asking.specs.Refusals.{row8, setsRows}
-
--- rows that a check went through, and those after them
-module _ (rows more : List Row) {v : Verdict} (checked : v ≡ verdict rows) where
-  pub turned-away : {e : Refusal} → v ≡ Refused e → Refused e ≡ verdict (rows ++ more)
-  turned-away k = sym (judge-refused Refused Accepted rows more (sym checked ∙ k))
-
-  pub gone-on : v ≡ Accepted → {w : Verdict} → w ≡ verdict more → w ≡ verdict (rows ++ more)
-  gone-on k e = e ∙ sym (judge-accepted Refused Accepted rows more (sym checked ∙ k))
 
 -- the rows of `check_score` and of `check_sets`
 abbrev pub scoreRows : (cells : List ℕ) (h : ℕ) → List Row

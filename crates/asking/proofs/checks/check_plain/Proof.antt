@@ -5,7 +5,7 @@ use Rattle.score.specs.Score.{columnsIn}
 use Rattle.ways.specs.Way.{rangeAs}
 use Rattle.asking.specs.Limits.{mostNotes}
 use Rattle.asking.specs.Refusals.{requestRows, pageRows}
-use Rattle.asking.proofs.checks.Laws.{turned-away, gone-on}
+use Rattle.score.proofs.Judging.{turned-away, gone-on}
 use Rattle.asking.proofs.checks.check_plain.Statement.{statement}
 use Rattle.asking.proofs.checks.check_plain.Tie as tie
 

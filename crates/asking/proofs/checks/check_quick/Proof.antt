@@ -1,64 +1,28 @@
--- `asking::checks::check_quick` meets its contract: the rows of the score and the theme, the sets', the table's, the page's.
--- Assumes nothing.
+-- `asking::checks::check_quick` meets its contract: the rows of the score, the theme, the sets and the table, and then the
+-- page's. Assumes nothing.
 use borrow.Author.Needs.{needs}
-use mathlib.Core.List.{_++_}
 use Rattle.score.specs.Score.{columnsIn}
 use Rattle.ways.specs.Way.{rangeOf}
-use Rattle.asking.specs.Limits.{mostNotes}
-use Rattle.asking.specs.Refusals.{requestRows, setsRows, pageRows}
-use Rattle.asking.proofs.checks.Laws.{turned-away, sets-away, sets-on, table-away, table-on}
+use Rattle.asking.specs.Refusals.{withSetsRows, pageRows}
+use Rattle.score.proofs.Judging.{turned-away, gone-on}
 use Rattle.asking.proofs.checks.check_quick.Statement.{statement}
 use Rattle.asking.proofs.checks.check_quick.Tie as tie
 
-check-request-requires : tie.Need-check-request-requires
-check-request-requires c κs = search needs
+check-with-sets-requires : tie.Need-check-with-sets-requires
+check-with-sets-requires c κs = search needs
 
 enum-known-e : tie.Need-enum-known-e
 enum-known-e c = search needs
 
 returns : tie.Need-returns
 returns c =
-    let m = c .before .before .before in
-    let a = m .before .before .before .before .args in
-    let request = requestRows mostNotes (a .cells .now) (a .tracks) (a .theme .now) in
-    let page = pageRows (rangeOf (a .way)) (columnsIn (a .cells .now) (a .tracks)) (a .bookmark) (a .r) (a .other) in
-    turned-away request (setsRows (a .cells .now) (a .tracks) (a .sets .now) (a .table) ++ page)
-    (m .check-request .ensures) (c .before .e .given .1)
+    let k = c .before .before .before in
+    let a = k .before .before .before .before .args in
+    turned-away (withSetsRows (a .cells .now) (a .tracks) (a .theme .now) (a .sets .now) (a .table))
+    (pageRows (rangeOf (a .way)) (columnsIn (a .cells .now) (a .tracks)) (a .bookmark) (a .r) (a .other)) (k .check-with-sets .ensures) (c .before .e .given .1)
 
 enum-told : tie.Need-enum-told
 enum-told c = search needs
-
-check-sets-requires : tie.Need-check-sets-requires
-check-sets-requires c κs = search needs
-
-enum-known-e-2 : tie.Need-enum-known-e-2
-enum-known-e-2 c = search needs
-
-returns-2 : tie.Need-returns-2
-returns-2 c =
-    let k = c .before .before .before in
-    let m = k .before .before .before in
-    let a = m .before .before .before .before .args in
-    let request = requestRows mostNotes (a .cells .now) (a .tracks) (a .theme .now) in
-    let page = pageRows (rangeOf (a .way)) (columnsIn (a .cells .now) (a .tracks)) (a .bookmark) (a .r) (a .other) in
-    sets-away request (a .cells .now) (a .tracks) (a .sets .now) (a .table) page (m .check-request .ensures) (k .before .enum-told .given .1)
-    (k .check-sets .ensures) (c .before .e2 .given .1)
-
-enum-told-2 : tie.Need-enum-told-2
-enum-told-2 c = search needs
-
-refused-requires : tie.Need-refused-requires
-refused-requires c κs = search needs
-
-returns-3 : tie.Need-returns-3
-returns-3 c =
-    let k = c .before .before .before .before in
-    let m = k .before .before .before in
-    let a = m .before .before .before .before .args in
-    let request = requestRows mostNotes (a .cells .now) (a .tracks) (a .theme .now) in
-    let page = pageRows (rangeOf (a .way)) (columnsIn (a .cells .now) (a .tracks)) (a .bookmark) (a .r) (a .other) in
-    sets-on request (a .cells .now) (a .tracks) (a .sets .now) (a .table) page (m .check-request .ensures) (k .before .enum-told .given .1)
-    (k .check-sets .ensures) (c .before .before .enum-told2 .given .1) (table-away (a .table) page (c .before .if1 .taken) (c .refused .ensures))
 
 columns-in-requires : tie.Need-columns-in-requires
 columns-in-requires c κs = search needs
@@ -66,31 +30,22 @@ columns-in-requires c κs = search needs
 check-page-requires : tie.Need-check-page-requires
 check-page-requires c κs = search needs
 
-returns-4 : tie.Need-returns-4
-returns-4 c =
-    let k = c .before .before .before .before .before in
-    let m = k .before .before .before in
-    let a = m .before .before .before .before .args in
-    let request = requestRows mostNotes (a .cells .now) (a .tracks) (a .theme .now) in
-    let page = pageRows (rangeOf (a .way)) (columnsIn (a .cells .now) (a .tracks)) (a .bookmark) (a .r) (a .other) in
-    sets-on request (a .cells .now) (a .tracks) (a .sets .now) (a .table) page (m .check-request .ensures) (k .before .enum-told .given .1)
-    (k .check-sets .ensures) (c .before .before .before .enum-told2 .given .1)
-    (table-on (a .table) page (c .before .before .if1 .left) (rw (c .before .columns-in .ensures) at (c .check-page .ensures)))
+returns-2 : tie.Need-returns-2
+returns-2 c =
+    let k = c .before .before .before .before in
+    let a = k .before .before .before .before .args in
+    gone-on (withSetsRows (a .cells .now) (a .tracks) (a .theme .now) (a .sets .now) (a .table))
+    (pageRows (rangeOf (a .way)) (columnsIn (a .cells .now) (a .tracks)) (a .bookmark) (a .r) (a .other)) (k .check-with-sets .ensures)
+    (c .before .before .enum-told .given .1) (rw (c .before .columns-in .ensures) at (c .check-page .ensures))
 
 pub check-quick-spec : {M : Type 1} → statement M
 check-quick-spec =
     tie.close
     (tie.spec
-    check-request-requires
+    check-with-sets-requires
     enum-known-e
     returns
     enum-told
-    check-sets-requires
-    enum-known-e-2
-    returns-2
-    enum-told-2
-    refused-requires
-    returns-3
     columns-in-requires
     check-page-requires
-    returns-4)
+    returns-2)

@@ -1,7 +1,8 @@
 -- `asking::checks::check_request` meets its contract: the score's rows, and then the theme's. Assumes nothing.
 use borrow.Author.Needs.{needs}
 use Rattle.asking.specs.Refusals.{themeRows}
-use Rattle.asking.proofs.checks.Laws.{scoreRows, turned-away, gone-on}
+use Rattle.score.proofs.Judging.{turned-away, gone-on}
+use Rattle.asking.proofs.checks.Laws.{scoreRows}
 use Rattle.asking.proofs.checks.check_request.Statement.{statement}
 use Rattle.asking.proofs.checks.check_request.Tie as tie
 

@@ -5,7 +5,7 @@ use mathlib.Core.Path.{sym, _∙_}
 use lib.ListN.{length}
 use mir.Syntax.{w16, w64}
 use mir.Facts.{toZ-ofZ}
-use Rattle.finder_c.specs.Limits.{written}
+use Rattle.finder_c.specs.Limits.{written, answerNumbers}
 use Rattle.finder_c.proofs.Through.{call-long, plain-pages-small, plain-none, plain-through}
 use Rattle.finder_c.proofs.calls.finder_plain_page.Statement.{statement}
 use Rattle.finder_c.proofs.calls.finder_plain_page.Tie as tie
@@ -27,7 +27,8 @@ told-page-requires c κs =
     let page = c .before .before .before .before in
     let called = page .before .before .before .before in
     let start = called .before .before .before .before .before in
-    (plain-pages-small (page .plain-page .ensures), call-long written (start .args .way) (length (start .args .answer .now)) (sym (called .before .no-call .ensures) ∙ called .if1 .left))
+    let long = call-long written (start .args .way) answerNumbers (length (start .args .answer .now)) in
+    (plain-pages-small (page .plain-page .ensures), long (sym (called .before .no-call .ensures) ∙ called .if1 .left))
 
 same-length : tie.Need-same-length
 same-length c = search needs
@@ -45,7 +46,8 @@ returns-2 c =
     let ways = page .before .before .before in
     let called = ways .before in
     let start = called .before .before .before .before .before in
-    plain-through (sym (called .before .no-call .ensures) ∙ called .if1 .left) (ways .any-way-of .ensures) (toZ-ofZ {w = w16} (start .fits .shift)) (page .plain-page .ensures)
+    plain-through (sym (called .before .no-call .ensures) ∙ called .if1 .left) (ways .any-way-of .ensures)
+    (toZ-ofZ {w = w16} (start .fits .shift)) (page .plain-page .ensures)
     (toZ-ofZ {w = w64} (record { sfits = told .told-page .ok }) ∙ told .told-page .ensures .0) (told .told-page .ensures .1)
 
 pub finder-plain-page-spec : {M : Type 1} → statement M

@@ -1,24 +1,61 @@
--- `finder_c::calls::finder_prepare` meets its contract: what was answered is small, and is told. Assumes nothing.
+-- `finder_c::calls::finder_prepare` meets its contract: what is no call changes nothing; of a call the answer is small, and is told.
+-- Assumes nothing.
 use borrow.Author.Needs.{needs}
-use mathlib.Core.Path.{_∙_}
+use mathlib.Core.Path.{sym, _∙_}
+use lib.ListN.{length}
 use mir.Syntax.{w64}
 use mir.Facts.{toZ-ofZ}
-use Rattle.finder_c.proofs.Through.{prepares-small, prepares-through}
+use Rattle.finder_c.specs.Limits.{oneNumber}
+use Rattle.finder_c.proofs.Through.{answer-long, prepares-small, prepares-none, prepares-through}
 use Rattle.finder_c.proofs.calls.finder_prepare.Statement.{statement}
 use Rattle.finder_c.proofs.calls.finder_prepare.Tie as tie
+
+no-answer-requires : tie.Need-no-answer-requires
+no-answer-requires c κs = search needs
+
+returns : tie.Need-returns
+returns c = prepares-none (sym (c .before .no-answer .ensures) ∙ c .if1 .taken)
 
 prepare-requires : tie.Need-prepare-requires
 prepare-requires c κs = search needs
 
-told-preparation-requires : tie.Need-told-preparation-requires
-told-preparation-requires c κs = prepares-small (c .before .before .prepare .ensures)
+of-preparation-requires : tie.Need-of-preparation-requires
+of-preparation-requires c κs = search needs
+
+told-single-requires : tie.Need-told-single-requires
+told-single-requires c κs =
+    let said = c .before in
+    let answered = said .before .before .before in
+    let called = answered .before .before in
+    let start = called .before .before .before .before in (
+      prepares-small (answered .prepare .ensures) (said .of-preparation .ensures),
+      answer-long oneNumber (length (start .args .answer .now)) (sym (called .before .no-answer .ensures) ∙ called .if1 .left),
+    )
 
 same-length : tie.Need-same-length
 same-length c = search needs
 
-returns : tie.Need-returns
-returns c = prepares-through (c .before .before .before .prepare .ensures) (toZ-ofZ {w = w64} (record { sfits = c .told-preparation .ok }) ∙ c .told-preparation .ensures)
+same-length-2 : tie.Need-same-length-2
+same-length-2 c = search needs
+
+returns-2 : tie.Need-returns-2
+returns-2 c =
+    let told = c .before in
+    let said = told .before .before in
+    let answered = said .before .before .before in
+    let called = answered .before .before in
+    prepares-through (answered .prepare .ensures) (said .of-preparation .ensures) (sym (called .before .no-answer .ensures) ∙ called .if1 .left)
+    (toZ-ofZ {w = w64} (record { sfits = told .told-single .ok }) ∙ told .told-single .ensures .0) (told .told-single .ensures .1)
 
 pub finder-prepare-spec : {M : Type 1} → statement M
 finder-prepare-spec =
-    tie.close (tie.spec prepare-requires told-preparation-requires same-length returns)
+    tie.close
+    (tie.spec
+    no-answer-requires
+    returns
+    prepare-requires
+    of-preparation-requires
+    told-single-requires
+    same-length
+    same-length-2
+    returns-2)

@@ -5,7 +5,7 @@ use mathlib.Core.Path.{sym, _∙_}
 use lib.ListN.{length}
 use mir.Syntax.{w16, w64}
 use mir.Facts.{toZ-ofZ}
-use Rattle.finder_c.specs.Limits.{octave}
+use Rattle.finder_c.specs.Limits.{octave, answerNumbers}
 use Rattle.finder_c.proofs.Through.{call-long, quick-pages-small, quick-none, quick-through}
 use Rattle.finder_c.proofs.calls.finder_quick_page.Statement.{statement}
 use Rattle.finder_c.proofs.calls.finder_quick_page.Tie as tie
@@ -27,7 +27,8 @@ told-page-requires c κs =
     let page = c .before .before .before .before .before .before in
     let called = page .before .before .before .before .before in
     let start = called .before .before .before .before .before .before .before in
-    (quick-pages-small (page .quick-page .ensures), call-long octave (start .args .way) (length (start .args .answer .now)) (sym (called .before .no-call .ensures) ∙ called .if1 .left))
+    let long = call-long octave (start .args .way) answerNumbers (length (start .args .answer .now)) in
+    (quick-pages-small (page .quick-page .ensures), long (sym (called .before .no-call .ensures) ∙ called .if1 .left))
 
 same-length : tie.Need-same-length
 same-length c = search needs
@@ -48,7 +49,8 @@ returns-2 c =
     let ways = page .before .before .before .before in
     let called = ways .before in
     let start = called .before .before .before .before .before .before .before in
-    quick-through (sym (called .before .no-call .ensures) ∙ called .if1 .left) (ways .way-of .ensures) (toZ-ofZ {w = w16} (start .fits .shift)) (page .quick-page .ensures)
+    quick-through (sym (called .before .no-call .ensures) ∙ called .if1 .left) (ways .way-of .ensures)
+    (toZ-ofZ {w = w16} (start .fits .shift)) (page .quick-page .ensures)
     (toZ-ofZ {w = w64} (record { sfits = told .told-page .ok }) ∙ told .told-page .ensures .0) (told .told-page .ensures .1)
 
 pub finder-quick-page-spec : {M : Type 1} → statement M

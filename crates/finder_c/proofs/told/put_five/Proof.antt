@@ -3,7 +3,7 @@ use borrow.Author.Needs.{needs}
 use native.Mathlib.Omega.{arith}
 use lib.ListN.{length-set}
 use mir.Facts.{toZ-ofZ}
-use Rattle.finder_c.proofs.Five.{five}
+use Rattle.finder_c.proofs.Places.{five}
 use Rattle.finder_c.proofs.told.put_five.Statement.{statement}
 use Rattle.finder_c.proofs.told.put_five.Tie as tie
 
@@ -26,7 +26,10 @@ same-length : tie.Need-same-length
 same-length c = search needs
 
 returns : tie.Need-returns
-returns c = rw (toZ-ofZ (c .fits .a), toZ-ofZ (c .fits .b), toZ-ofZ (c .fits .c), toZ-ofZ (c .fits .d), toZ-ofZ (c .fits .e)) (five (c .args .answer .now) (c .pre) (c .args .a) (c .args .b) (c .args .c) (c .args .d) (c .args .e))
+returns c =
+    let f = c .fits in
+    let a = c .args in
+    rw (toZ-ofZ (f .a), toZ-ofZ (f .b), toZ-ofZ (f .c), toZ-ofZ (f .d), toZ-ofZ (f .e)) (five (a .answer .now) (c .pre) (a .a) (a .b) (a .c) (a .d) (a .e))
 
 pub put-five-spec : {M : Type 1} → statement M
 put-five-spec =

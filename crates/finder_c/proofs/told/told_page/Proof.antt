@@ -19,20 +19,28 @@ enum-known-p-2 : tie.Need-enum-known-p-2
 enum-known-p-2 c = search needs
 
 write-turn-requires : tie.Need-write-turn-requires
-write-turn-requires c κs = (subst SmallPage (c .before .before .p2 .given .1) (c .before .before .before .before .pre .0), c .before .before .before .before .pre .1)
+write-turn-requires c κs =
+    let start = c .before .before .before .before in
+    (subst SmallPage (c .before .before .p2 .given .1) (start .pre .0), start .pre .1)
 
 returns : tie.Need-returns
 returns c =
-    let e = c .before .before .p .given .1 in
-    (toZ-ofZ {w = w64} (record { sfits = c .refusal-number .ok }) ∙ c .refusal-number .ensures ∙ sym (ap pageNumber e), sym (ap (λ (p : Page). pageNumbers p (c .before .before .before .before .args .answer .now)) e))
+    let known = c .before .before in
+    let answer = known .before .before .args .answer .now in (
+      toZ-ofZ {w = w64} (record { sfits = c .refusal-number .ok }) ∙ c .refusal-number .ensures ∙ sym (ap pageNumber (known .p .given .1)),
+      sym (ap (λ (p : Page). pageNumbers p answer) (known .p .given .1)),
+    )
 
 same-length : tie.Need-same-length
 same-length c = search needs
 
 returns-2 : tie.Need-returns-2
 returns-2 c =
-    let e = c .before .before .before .before .p2 .given .1 in
-    (sym (ap pageNumber e), c .before .write-turn .ensures ∙ sym (ap (λ (p : Page). pageNumbers p (c .before .before .before .before .before .before .args .answer .now)) e))
+    let known = c .before .before .before .before in
+    let answer = known .before .before .args .answer .now in (
+      sym (ap pageNumber (known .p2 .given .1)),
+      c .before .write-turn .ensures ∙ sym (ap (λ (p : Page). pageNumbers p answer) (known .p2 .given .1)),
+    )
 
 pub told-page-spec : {M : Type 1} → statement M
 told-page-spec =

@@ -5,7 +5,7 @@ use mir.Val.{toZ}
 use mir.Facts.{toZ-pos, toZ-ofZ}
 use mathlib.Core.Path.{ap, _∙_}
 use mathlib.Core.Logic.{⊎-elim}
-use Rattle.finder_c.proofs.Five.{five-same}
+use Rattle.finder_c.proofs.Places.{five-same}
 use Rattle.finder_c.proofs.told.write_turn.Statement.{statement}
 use Rattle.finder_c.proofs.told.write_turn.Tie as tie
 
@@ -28,9 +28,12 @@ same-length : tie.Need-same-length
 same-length c = search needs
 
 returns : tie.Need-returns
-returns c = c .before .put-five .ensures ∙ five-same (toZ-pos w64 (search needs)) (toZ-pos w64 (search needs))
-    (toZ-ofZ {w = w64} (record { sfits = c .before .before .before .wide .ok }) ∙ c .before .before .before .wide .ensures ∙ search needs)
-    (⊎-elim (λ w. ap (toZ w64) (w .1) ∙ rw (w .0 .taken)) (λ w. ap (toZ w64) (w .1) ∙ rw (w .0 .left)) (c .before .before .before .before .before .before .before .if1 .came)) (toZ-pos w64 (search needs))
+returns c =
+    let widened = c .before .before .before in
+    let finished = widened .before .before .before .before in
+    c .before .put-five .ensures ∙ five-same (toZ-pos w64 (search needs)) (toZ-pos w64 (search needs))
+    (toZ-ofZ {w = w64} (record { sfits = widened .wide .ok }) ∙ widened .wide .ensures ∙ search needs)
+    (⊎-elim (λ w. ap (toZ w64) (w .1) ∙ rw (w .0 .taken)) (λ w. ap (toZ w64) (w .1) ∙ rw (w .0 .left)) (finished .if1 .came)) (toZ-pos w64 (search needs))
 
 pub write-turn-spec : {M : Type 1} → statement M
 write-turn-spec =

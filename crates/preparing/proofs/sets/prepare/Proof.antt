@@ -25,8 +25,8 @@ returns-2 c =
     let score = sym (c .before .before .before .before .check-score .ensures) ∙ c .before .before .enum-told .given .1 in
     prepares-long _ _ _ score (sym (c .before .bad-length .ensures) ∙ c .if1 .taken)
 
-fill-requires : tie.Need-fill-requires
-fill-requires c κs =
+filled-requires : tie.Need-filled-requires
+filled-requires c κs =
     let score = sym (c .before .before .before .before .before .check-score .ensures) ∙ c .before .before .before .enum-told .given .1 in
     let x = c .before .before .before .before .before .before .before .before .args in
     let long = sym (c .before .before .bad-length .ensures) ∙ c .before .if1 .left in
@@ -37,9 +37,11 @@ same-length c = search needs
 
 returns-3 : tie.Need-returns-3
 returns-3 c =
-    let at-fill = c .before .before .before .before in
+    let done = c .before .before in
+    let at-fill = done .before .before in
     let score = sym (at-fill .before .before .before .before .check-score .ensures) ∙ at-fill .before .before .enum-told .given .1 in
-    prepares-filled _ _ _ score (sym (at-fill .before .bad-length .ensures) ∙ at-fill .if1 .left) (c .before .before .fill .ensures)
+    prepares-filled _ _ _ score (sym (at-fill .before .bad-length .ensures) ∙ at-fill .if1 .left)
+    (done .filled .ensures .1) (done .filled .ensures .0)
 
 pub prepare-spec : {M : Type 1} → statement M
 prepare-spec =
@@ -51,6 +53,6 @@ prepare-spec =
     enum-told
     bad-length-requires
     returns-2
-    fill-requires
+    filled-requires
     same-length
     returns-3)

@@ -1,0 +1,2 @@
+-- Does a theme occur at all?
+pub mod Occurring

@@ -1,0 +1,2 @@
+-- The summary of interval sets.
+pub mod Summary
