@@ -14,13 +14,18 @@
  *   way 0, exact:   shifts -127 to 127.
  *   way 1, octave:  shifts 0 to 11, octaves ignored.
  *   way 2, written: shift 0 alone, the tune in its own key. The pairs are those of exact with shift 0. The plain page
- *                   takes it; the quick page does not.
+ *                   takes it; the quick page and the question do not.
  * Pairs are listed by rising column, then by rising shift.
+ *
+ * A score's interval sets, which finder_prepare fills, serve the quick page and the question. Their summary is one number
+ * of 12 bits: bit d, d = 0 to 11, is 0 exactly where some set has bit d at 0; with no sets it is 4095. So it is the `&` of
+ * 4095 and all sets. finder_prepare and finder_update give it, and the question, finder_occurs, is handed it beside the
+ * sets. In these three calls `answer` has 1 place, for the one number that each says.
  *
  * A page call writes the first pairs at or after its bookmark (column, shift), as many as the buffers have places. The
  * first bookmark is (1, -127), for octave and written (1, 0). After a full page whose last pair is (j, c) the next bookmark
  * is (j, c + 1); after a finished list it is (n + 1, -127), for octave and written (n + 1, 0). Where the bookmark's column
- * has no pitch, its shift, any of the range, changes nothing. `answer` has 5 places:
+ * has no pitch, its shift, any of the range, changes nothing. In a page call `answer` has 5 places:
  *   answer[0]  pairs written, from the front of `columns` and `shifts`; places behind them keep their contents
  *   answer[1]  next bookmark: column
  *   answer[2]  next bookmark: shift
@@ -41,12 +46,15 @@
  *    9  `columns` has no place, or `shifts` has not as many
  *   10  the bookmark's column is not 1 to n + 1, or its shift is below the lowest or more than one above the highest:
  *       not -127 to 128 for exact, 0 to 12 for octave, 0 to 1 for written
- *  255  way is above 2, or above 1 in the quick page, or answer isn't 5 long
+ *   12  `summary` is not the summary of `sets`
+ *   19  the changed column is not 1 to n
+ *  255  before any refusal: way is above 2 in the plain page, or above 1 in the quick page or the question; or answer
+ *       isn't 5 long in a page call, or 1 long in the other calls. Nothing is written then either.
  *
  * What the caller owes: each pointer has its length's elements behind it (of an empty buffer it is not read), they are
- * aligned for their type, no buffer that is written (sets in finder_prepare; table, columns, shifts, answer) overlaps
- * another buffer of the call, and no other thread writes any of them meanwhile. All else is answered or refused. Lengths
- * count elements, not bytes.
+ * aligned for their type, no buffer that is written (sets in finder_prepare and finder_update; table, columns, shifts,
+ * answer) overlaps another buffer of the call, and no other thread writes any of them meanwhile. All else is answered or
+ * refused. Lengths count elements, not bytes.
  */
 #ifndef FINDER_H
 #define FINDER_H
@@ -62,9 +70,10 @@ enum {
     FINDER_EXACT = 0,         /* ways */
     FINDER_OCTAVE = 1,
     FINDER_WRITTEN = 2,       /* in the plain page only */
-    FINDER_NO_CALL = 255,     /* the result where the call itself is none */
+    FINDER_NO_CALL = 255,     /* unknown way, or `answer` of the wrong length */
     FINDER_TABLE_LEN = 4096,  /* places of a theme table */
-    FINDER_ANSWER_LEN = 5
+    FINDER_ANSWER_LEN = 5,    /* places of `answer` in a page call */
+    FINDER_ONE_LEN = 1        /* places of `answer` in the other calls: one number */
 };
 
 /* The refusal in a result other than 0 and 255. */
@@ -73,8 +82,28 @@ enum {
 
 /* Fills all n - 1 interval sets of the score. Bit d of set k, d = 0 to 11, is 0 where a pitch of the next column with a
  * pitch after column k lies d semitones above one of column k, octaves ignored; all else is 1 up to bit 11, and 0 above. So
- * the set is 4095 where column k has no pitch, or none follows. Refuses 1, 2, 3, 6. */
-int64_t finder_prepare(const uint8_t *cells, size_t cells_len, size_t tracks, uint16_t *sets, size_t sets_len);
+ * the set is 4095 where column k has no pitch, or none follows. answer[0] is their summary. Refuses 1, 2, 3, 6. */
+int64_t finder_prepare(const uint8_t *cells, size_t cells_len, size_t tracks, uint16_t *sets, size_t sets_len,
+                       int64_t *answer, size_t answer_len);
+
+/* Brings the sets up to date after one column was changed. `cells` is the score after the change, `column` the changed
+ * column, and the sets are those that were right before. Rewrites the set of that column (column n has none) and the set
+ * of the nearest earlier column with a pitch, if there is one; all other sets stay, wrong ones too. answer[0] is the
+ * summary of the sets as they then are. From sets that were right before, both are what finder_prepare gives. For several
+ * changed columns, make one change and one call after another; a score with more or fewer columns is prepared anew.
+ * Refuses 1, 2, 3, 6, 7, 19. */
+int64_t finder_update(const uint8_t *cells, size_t cells_len, size_t tracks, uint16_t column,
+                      uint16_t *sets, size_t sets_len, int64_t *answer, size_t answer_len);
+
+/* The question whether a theme occurs at all, exact or octave: answer[0] is 1 where the list of the quick page with these
+ * sets has a pair, otherwise 0. With the score's own sets that is the full list. Where the theme has an interval that the
+ * summary lacks, the answer is 0 without a search. The theme's table is left in `table`, whatever it held, where the answer
+ * is 0 too. With sets that are no longer the score's own, the answer may be 0 where the theme stands: update them first. A
+ * theme of one note, as someone begins to type, is refused 4: there is nothing to find yet. Refuses 1 to 8, 12. */
+int64_t finder_occurs(const uint8_t *cells, size_t cells_len, size_t tracks,
+                      const uint8_t *theme, size_t theme_len, uint8_t way,
+                      const uint16_t *sets, size_t sets_len, uint16_t summary, uint32_t *table, size_t table_len,
+                      int64_t *answer, size_t answer_len);
 
 /* A page of the plain search, of any way. Refuses 1 to 5, 9, 10. */
 int64_t finder_plain_page(const uint8_t *cells, size_t cells_len, size_t tracks,

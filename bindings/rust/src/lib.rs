@@ -39,8 +39,28 @@
 //! # Ok::<(), finder::Refusal>(())
 //! ```
 //!
-//! [`prepare`], [`plain_page`] and [`quick_page`] are the calls themselves, for buffers of one's own. What is proved is
-//! the library behind them; this crate only passes slices on, and is tested and not proved.
+//! A search box asks at each keystroke whether the theme occurs at all. [`Prepared`] keeps what the question needs, and is
+//! brought up to date where one column of the score is changed:
+//!
+//! ```
+//! use finder::{Prepared, Way};
+//!
+//! let mut score = [60, 67, 62, 69, 64, 255, 65, 72, 255, 67];
+//! let mut prepared = Prepared::new(&score, 2)?;
+//! assert!(prepared.occurs(&score, 2, &[67, 62], Way::Exact)?);
+//! assert!(!prepared.occurs(&score, 2, &[69, 63], Way::Exact)?);
+//!
+//! // column 3 has another pitch now
+//! score[4] = 63;
+//! prepared.update(&score, 2, 3)?;
+//! assert_eq!(prepared, Prepared::new(&score, 2)?);
+//! assert!(prepared.occurs(&score, 2, &[69, 63], Way::Exact)?);
+//! # Ok::<(), finder::Refusal>(())
+//! ```
+//!
+//! [`prepare`], [`update`], [`occurs`], [`plain_page`] and [`quick_page`] are the calls themselves, for buffers of one's
+//! own. What is proved is the library behind them; this crate passes slices on, but for [`Summary::of`], which it computes. It
+//! is tested and not proved.
 #![warn(missing_docs)]
 
 use std::fmt;
@@ -52,7 +72,7 @@ pub const TABLE_LEN: usize = 4096;
 /// The most columns that a score may have.
 pub const MOST_COLUMNS: usize = 2048;
 
-/// When a column holds a note moved by a shift. Both searches take these two ways.
+/// When a column holds a note moved by a shift. Both searches and the question take these two ways.
 #[derive(Clone, Copy, PartialEq, Eq, Hash, Debug)]
 pub enum Way {
     /// The note moved by the shift, -127 to 127, is in the column.
@@ -80,7 +100,7 @@ impl Way {
 }
 
 /// Any of the three ways. The plain search takes them all. There is no quick search for the tune as it is written, and so
-/// [`pairs`] and [`quick_page`] cannot be handed it:
+/// [`pairs`], [`quick_page`] and [`occurs`] cannot be handed it:
 ///
 /// ```compile_fail
 /// finder::pairs(&[60, 62], 1, &[60, 62], finder::AnyWay::Written);
@@ -148,10 +168,44 @@ pub struct Page {
     pub looks: u32,
 }
 
+/// Which intervals some interval sets have, as one number of 12 bits: bit d, for d from 0 to 11, is 0 exactly where some set
+/// has bit d at 0. With no sets it is 4095. A theme with an interval that the summary lacks does not occur.
+///
+/// [`prepare`] and [`update`] give the summary of the sets that they leave. It is a type of its own, so that no set is taken
+/// for it:
+///
+/// ```compile_fail
+/// # let (score, sets, mut table) = ([60, 62], [4091], [0; finder::TABLE_LEN]);
+/// finder::occurs(&score, 1, &[60, 62], finder::Way::Exact, &sets, sets[0], &mut table);
+/// ```
+#[derive(Clone, Copy, PartialEq, Eq, Hash, Debug)]
+pub struct Summary(pub u16);
+
+impl Summary {
+    /// The summary of sets of one's own, which [`occurs`] wants beside them:
+    ///
+    /// ```
+    /// use finder::{occurs, Summary, Way, TABLE_LEN};
+    ///
+    /// // 3451 has the intervals 2, 7 and 9, and 3837 has 1 and 8
+    /// assert_eq!(Summary::of(&[3451, 3837]), Summary(3193));
+    /// assert_eq!(Summary::of(&[]), Summary(4095));
+    ///
+    /// // by these sets only column 1 comes into question
+    /// let (score, sets) = ([60, 62, 65], [4091, 4095]);
+    /// let ask = |theme: &[u8]| occurs(&score, 1, theme, Way::Exact, &sets, Summary::of(&sets), &mut [0; TABLE_LEN]);
+    /// assert_eq!(ask(&[60, 62]), Ok(true));
+    /// assert_eq!(ask(&[62, 65]), Ok(false));
+    /// ```
+    pub fn of(sets: &[u16]) -> Summary {
+        Summary(sets.iter().fold(4095, |all, set| all & set))
+    }
+}
+
 /// Why a call was turned away. Nothing lent was written.
 #[derive(Clone, Copy, PartialEq, Eq, Hash, Debug)]
 pub struct Refusal {
-    /// 1 to 10: the lowest that applies.
+    /// 1 to 10, 12 or 19: the lowest that applies.
     pub number: u8,
     /// The first bad cell, note or set, from 0; 0 where no place is named.
     pub place: usize,
@@ -180,6 +234,8 @@ impl fmt::Display for Refusal {
             8 => write!(f, "8: a theme table must have 4096 places"),
             9 => write!(f, "9: the two buffers must be equally long and not empty"),
             10 => write!(f, "10: the bookmark is out of range"),
+            12 => write!(f, "12: the summary is not that of the sets"),
+            19 => write!(f, "19: the score has no such column"),
             n => write!(f, "{n}: refused at {place}"),
         }
     }
@@ -188,7 +244,17 @@ impl fmt::Display for Refusal {
 impl std::error::Error for Refusal {}
 
 extern "C" {
-    fn finder_prepare(cells: *const u8, cells_len: usize, tracks: usize, sets: *mut u16, sets_len: usize) -> i64;
+    fn finder_prepare(
+        cells: *const u8, cells_len: usize, tracks: usize, sets: *mut u16, sets_len: usize, answer: *mut i64, answer_len: usize,
+    ) -> i64;
+    fn finder_update(
+        cells: *const u8, cells_len: usize, tracks: usize, column: u16, sets: *mut u16, sets_len: usize,
+        answer: *mut i64, answer_len: usize,
+    ) -> i64;
+    fn finder_occurs(
+        cells: *const u8, cells_len: usize, tracks: usize, theme: *const u8, theme_len: usize, way: u8,
+        sets: *const u16, sets_len: usize, summary: u16, table: *mut u32, table_len: usize, answer: *mut i64, answer_len: usize,
+    ) -> i64;
     fn finder_plain_page(
         cells: *const u8, cells_len: usize, tracks: usize, theme: *const u8, theme_len: usize, way: u8, column: u16, shift: i16,
         columns: *mut u16, columns_len: usize, shifts: *mut i16, shifts_len: usize, answer: *mut i64, answer_len: usize,
@@ -200,13 +266,98 @@ extern "C" {
     ) -> i64;
 }
 
-/// Fills all interval sets of the score, one less than it has columns.
+/// Fills all interval sets of the score, one less than it has columns, and gives their summary.
 ///
 /// Bit d of a column's set is 0 where a pitch of the next column with a pitch lies d semitones above one of its own, octaves
 /// ignored. The set is 4095 where the column has no pitch, and where no column with one follows. Refuses 1, 2, 3 and 6.
-pub fn prepare(cells: &[u8], tracks: usize, sets: &mut [u16]) -> Result<(), Refusal> {
-    // Safety: each pointer and length is of a slice, and the one that is written is lent to this call alone.
-    Refusal::read(unsafe { finder_prepare(cells.as_ptr(), cells.len(), tracks, sets.as_mut_ptr(), sets.len()) })
+///
+/// ```
+/// use finder::{prepare, Summary};
+///
+/// let mut sets = [0; 4];
+/// let summary = prepare(&[60, 67, 62, 69, 64, 255, 65, 72, 255, 67], 2, &mut sets)?;
+/// // the intervals 2, 7 and 9; 2 and 7; 1 and 8; 2 and 7
+/// assert_eq!(sets, [3451, 3963, 3837, 3963]);
+/// assert_eq!(summary, Summary(3193));
+/// # Ok::<(), finder::Refusal>(())
+/// ```
+pub fn prepare(cells: &[u8], tracks: usize, sets: &mut [u16]) -> Result<Summary, Refusal> {
+    let mut answer = [0; 1];
+    // Safety: each pointer and length is of a slice, and those that are written are lent to this call alone.
+    Refusal::read(unsafe {
+        finder_prepare(
+            cells.as_ptr(), cells.len(), tracks, sets.as_mut_ptr(), sets.len(), answer.as_mut_ptr(), answer.len(),
+        )
+    })?;
+    Ok(Summary(answer[0] as u16))
+}
+
+/// Brings the sets up to date after one column, counted from 1, was changed, and gives their summary.
+///
+/// The cells are the score after the change, and the sets those that were right before. The set of that column (the last
+/// column has none) and the set of the nearest earlier column with a pitch, if there is one, are made anew; all other sets
+/// stay, wrong ones too, and the summary is of the sets as they then are. From sets that were right before, both are what
+/// [`prepare`] gives. Refuses 1, 2, 3, 6, 7 and 19.
+///
+/// ```
+/// use finder::{prepare, update, Summary};
+///
+/// let mut sets = [0; 2];
+/// prepare(&[60, 62, 65], 1, &mut sets)?;
+/// assert_eq!(sets, [4091, 4087]);
+/// // the pitch of column 2 is taken out: column 1 goes on to column 3, five semitones higher
+/// assert_eq!(update(&[60, 255, 65], 1, 2, &mut sets)?, Summary(4063));
+/// assert_eq!(sets, [4063, 4095]);
+/// # Ok::<(), finder::Refusal>(())
+/// ```
+pub fn update(cells: &[u8], tracks: usize, column: u16, sets: &mut [u16]) -> Result<Summary, Refusal> {
+    let mut answer = [0; 1];
+    // Safety: each pointer and length is of a slice, and those that are written are lent to this call alone.
+    Refusal::read(unsafe {
+        finder_update(
+            cells.as_ptr(), cells.len(), tracks, column, sets.as_mut_ptr(), sets.len(), answer.as_mut_ptr(), answer.len(),
+        )
+    })?;
+    Ok(Summary(answer[0] as u16))
+}
+
+/// Whether the theme occurs at all, exact or octave: whether the list of [`quick_page`] with these sets has a pair. With the
+/// score's own sets that is the full list.
+///
+/// The summary is that of the sets; [`Prepared`] keeps both together, and [`Summary::of`] is for sets of one's own. Where the
+/// theme has an interval that the summary lacks, the answer is no without a search. The theme's table is left in `table`, also
+/// where the answer is no. With sets that are no longer the score's own, the answer may be no where the theme stands: update them
+/// first. A theme of one note, as someone begins to type, is refused 4: there is nothing to find yet. Refuses 1 to 8, and 12.
+///
+/// ```
+/// use finder::{occurs, prepare, Refusal, Summary, Way, TABLE_LEN};
+///
+/// let (score, mut sets, mut table) = ([60, 62, 65], [0; 2], vec![0; TABLE_LEN]);
+/// let summary = prepare(&score, 1, &mut sets)?;
+/// assert!(occurs(&score, 1, &[50, 52], Way::Exact, &sets, summary, &mut table)?);
+/// assert!(!occurs(&score, 1, &[50, 54], Way::Exact, &sets, summary, &mut table)?);
+/// let wrong = occurs(&score, 1, &[50, 52], Way::Exact, &sets, Summary(4095), &mut table);
+/// assert_eq!(wrong, Err(Refusal { number: 12, place: 0 }));
+/// # Ok::<(), Refusal>(())
+/// ```
+pub fn occurs(
+    cells: &[u8],
+    tracks: usize,
+    theme: &[u8],
+    way: Way,
+    sets: &[u16],
+    summary: Summary,
+    table: &mut [u32],
+) -> Result<bool, Refusal> {
+    let mut answer = [0; 1];
+    // Safety: each pointer and length is of a slice, and those that are written are lent to this call alone.
+    Refusal::read(unsafe {
+        finder_occurs(
+            cells.as_ptr(), cells.len(), tracks, theme.as_ptr(), theme.len(), way.number(), sets.as_ptr(), sets.len(), summary.0,
+            table.as_mut_ptr(), table.len(), answer.as_mut_ptr(), answer.len(),
+        )
+    })?;
+    Ok(answer[0] != 0)
 }
 
 /// Writes the first pairs at or after the bookmark, as many as there is room for; every column with a pitch is looked at.
@@ -271,6 +422,49 @@ fn page(answer: [i64; 5]) -> Page {
     }
 }
 
+/// A score's interval sets and their summary, kept together, so that no question is asked with another summary.
+///
+/// The score itself stays with the caller and is lent again to each call. Whoever changes a column of it calls
+/// [`Prepared::update`] before the next question, and once for each column that is changed.
+#[derive(Clone, PartialEq, Eq, Hash, Debug)]
+pub struct Prepared {
+    sets: Vec<u16>,
+    summary: Summary,
+}
+
+impl Prepared {
+    /// Prepares a score. Refuses 1, 2 and 3.
+    pub fn new(cells: &[u8], tracks: usize) -> Result<Prepared, Refusal> {
+        // A score of more columns is refused before its sets are looked at.
+        let columns = cells.len().checked_div(tracks).unwrap_or(0).min(MOST_COLUMNS);
+        let mut sets = vec![0; columns.saturating_sub(1)];
+        let summary = prepare(cells, tracks, &mut sets)?;
+        Ok(Prepared { sets, summary })
+    }
+
+    /// The interval sets, for [`quick_page`] too.
+    pub fn sets(&self) -> &[u16] {
+        &self.sets
+    }
+
+    /// Their summary.
+    pub fn summary(&self) -> Summary {
+        self.summary
+    }
+
+    /// Whether the theme occurs in the score, as by [`occurs`]. Refuses 1 to 5, and 6 for a score of another length.
+    pub fn occurs(&self, cells: &[u8], tracks: usize, theme: &[u8], way: Way) -> Result<bool, Refusal> {
+        occurs(cells, tracks, theme, way, &self.sets, self.summary, &mut [0; TABLE_LEN])
+    }
+
+    /// Takes the score after one of its columns, counted from 1, was changed, and brings sets and summary up to date, as
+    /// [`update`]. Where it is refused nothing changes. Refuses 1, 2, 3, 6 for a score of another length, and 19.
+    pub fn update(&mut self, cells: &[u8], tracks: usize, column: u16) -> Result<(), Refusal> {
+        self.summary = update(cells, tracks, column, &mut self.sets)?;
+        Ok(())
+    }
+}
+
 /// How many pairs an iterator asks for at a time.
 const ROOM: usize = 64;
 
@@ -326,13 +520,14 @@ struct Quick<'a> {
     tracks: usize,
     theme: &'a [u8],
     way: Way,
-    sets: Vec<u16>,
+    prepared: Prepared,
     table: Vec<u32>,
 }
 
 impl Search for Quick<'_> {
     fn page(&mut self, at: Bookmark, columns: &mut [u16], shifts: &mut [i16]) -> Result<Page, Refusal> {
-        quick_page(self.cells, self.tracks, self.theme, self.way, at, &self.sets, &mut self.table, columns, shifts)
+        let sets = self.prepared.sets();
+        quick_page(self.cells, self.tracks, self.theme, self.way, at, sets, &mut self.table, columns, shifts)
     }
 }
 
@@ -358,11 +553,7 @@ pub struct Pairs<'a>(Reading<Quick<'a>>);
 ///
 /// Refuses 1 to 5.
 pub fn pairs<'a>(cells: &'a [u8], tracks: usize, theme: &'a [u8], way: Way) -> Result<Pairs<'a>, Refusal> {
-    // A score of more columns is refused before its sets are looked at.
-    let columns = cells.len().checked_div(tracks).unwrap_or(0).min(MOST_COLUMNS);
-    let mut sets = vec![0; columns.saturating_sub(1)];
-    prepare(cells, tracks, &mut sets)?;
-    let quick = Quick { cells, tracks, theme, way, sets, table: vec![0; TABLE_LEN] };
+    let quick = Quick { cells, tracks, theme, way, prepared: Prepared::new(cells, tracks)?, table: vec![0; TABLE_LEN] };
     Ok(Pairs(Reading::new(quick, way.first())?))
 }
 
@@ -374,7 +565,7 @@ impl Pairs<'_> {
 
     /// The score's interval sets.
     pub fn sets(&self) -> &[u16] {
-        &self.0.search.sets
+        self.0.search.prepared.sets()
     }
 }
 

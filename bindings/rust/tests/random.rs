@@ -1,181 +1,32 @@
 //! Many random calls, long and short, valid and damaged, by the library and by a third finder: the same answers, and the
 //! same contents of every lent buffer.
 
+mod calls;
 mod third;
 
-use finder::{pairs, plain_page, plain_pairs, prepare, quick_page, AnyWay, Bookmark, Way};
-use third::{Call, Lent};
-
-/// Xorshift, 64 bits: the same numbers in every run.
-struct Random(u64);
-
-impl Random {
-    fn next(&mut self) -> u64 {
-        self.0 ^= self.0 << 13;
-        self.0 ^= self.0 >> 7;
-        self.0 ^= self.0 << 17;
-        self.0
-    }
-
-    /// A number from `low` to `high`.
-    fn from(&mut self, low: usize, high: usize) -> usize {
-        low + (self.next() >> 33) as usize % (high - low + 1)
-    }
-
-    fn one_in(&mut self, n: usize) -> bool {
-        self.from(1, n) == 1
-    }
-
-    fn bytes(&mut self, len: usize, pitches: usize, rests: usize) -> Vec<u8> {
-        let low = self.from(0, 128 - pitches);
-        (0..len).map(|_| if rests > 0 && self.one_in(rests) { 255 } else { self.from(low, low + pitches - 1) as u8 }).collect()
-    }
-
-    /// Takes all pitches out of some columns: none, those at the front, in the middle or at the end, one in six of them or
-    /// one in two.
-    fn silence(&mut self, cells: &mut [u8], tracks: usize, n: usize) {
-        let many = self.from(1, n);
-        let run = match self.from(0, 7) {
-            0 => 0..many,
-            1 => n - many..n,
-            2 => {
-                let first = self.from(0, n - many);
-                first..first + many
-            }
-            _ => 0..0,
-        };
-        let chance = [0, 0, 6, 2][self.from(0, 3)];
-        for (k, column) in cells.chunks_exact_mut(tracks).enumerate() {
-            if run.contains(&k) || chance > 0 && self.one_in(chance) {
-                column.fill(255);
-            }
-        }
-    }
-
-    /// A call with nothing wrong: few or many pitches, with or without empty columns, a theme picked from the score or of its
-    /// own, sets of this score, of another or of none, any bookmark.
-    fn call(&mut self, most_tracks: usize, most_columns: usize, most_notes: usize) -> Call {
-        let tracks = self.from(1, most_tracks);
-        let n = self.from(1, most_columns);
-        let m = self.from(2, most_notes);
-        let pitches = [2, 5, 13, 30, 128][self.from(0, 4)];
-        let rests = [0, 2, 9][self.from(0, 2)];
-        let mut cells = self.bytes(n * tracks, pitches, rests);
-        self.silence(&mut cells, tracks, n);
-        let heard = heard(&cells, tracks);
-        let way = [Way::Exact.into(), Way::Octave.into(), AnyWay::Written][self.from(0, 2)];
-        let theme =
-            if m <= heard.len() && self.one_in(2) { self.picked(&cells, tracks, m, way) } else { self.bytes(m, pitches, 0) };
-        let bookmark = if self.one_in(2) {
-            way.first()
-        } else {
-            let shift = match way {
-                AnyWay::Moved(Way::Exact) => self.from(0, 255) as i16 - 127,
-                AnyWay::Moved(Way::Octave) => self.from(0, 12) as i16,
-                AnyWay::Written => self.from(0, 1) as i16,
-            };
-            let mut column = self.from(1, n + 1);
-            if self.one_in(3) {
-                // the first column without a pitch from there on, if there is one
-                column = (column..=n).find(|k| !heard.contains(k)).unwrap_or(column);
-            }
-            Bookmark { column: column as u16, shift }
-        };
-        let room = if self.one_in(8) { n * 255 } else { self.from(1, 12) };
-        let lent = Lent {
-            sets: (1..n).map(|_| self.set()).collect(),
-            table: vec![self.next() as u32; 4096],
-            columns: vec![self.next() as u16; room],
-            shifts: vec![self.next() as i16; room],
-        };
-        let mut call = Call { cells, tracks, theme, way, bookmark, lent };
-        let own = call.prepare().1;
-        match self.from(1, 8) {
-            1 => {}
-            2 => call.lent.sets.fill(0),
-            // those of the columns without a pitch hold anything
-            3 | 4 => (1..n).filter(|k| heard.contains(k)).for_each(|k| call.lent.sets[k - 1] = own[k - 1]),
-            _ => call.lent.sets = own,
-        }
-        call
-    }
-
-    fn set(&mut self) -> u16 {
-        (self.from(0, 4095) & self.from(0, 4095)) as u16
-    }
-
-    /// A theme that stands in the score, moved, save mostly where it is sought as written: a note from each of so many
-    /// columns with a pitch; a rest that is picked gives any pitch.
-    fn picked(&mut self, cells: &[u8], tracks: usize, m: usize, way: AnyWay) -> Vec<u8> {
-        let heard = heard(cells, tracks);
-        let j = self.from(0, heard.len() - m);
-        let mut note = |k: &usize| {
-            let column = &cells[(k - 1) * tracks..k * tracks];
-            let tried = [column[self.from(0, tracks - 1)], column[self.from(0, tracks - 1)]];
-            tried[0].min(tried[1]) & 127
-        };
-        let notes: Vec<u8> = heard[j..j + m].iter().map(&mut note).collect();
-        if way == AnyWay::Written && !self.one_in(4) {
-            return notes;
-        }
-        let (low, high) = (*notes.iter().min().unwrap(), *notes.iter().max().unwrap());
-        let to = self.from(0, 127 - usize::from(high - low)) as u8;
-        notes.into_iter().map(|p| p - low + to).collect()
-    }
-
-    /// Something wrong, or near to it.
-    fn damage(&mut self, call: &mut Call) {
-        let lent = &mut call.lent;
-        match self.from(1, 12) {
-            1 => call.tracks = [0, 15, 16, 17, usize::MAX][self.from(0, 4)],
-            2 => call.cells.push(60),
-            3 => call.cells.clear(),
-            4 => {
-                let at = self.from(0, call.cells.len().max(1) - 1);
-                let cell = [127, 128, 200, 254, 255][self.from(0, 4)];
-                call.cells.get_mut(at).map(|c| *c = cell);
-            }
-            5 => call.theme = vec![60; [0, 1, 2, 32, 33, 40][self.from(0, 5)]],
-            6 => {
-                let at = self.from(0, call.theme.len().max(1) - 1);
-                let note = [127, 128, 255][self.from(0, 2)];
-                call.theme.get_mut(at).map(|p| *p = note);
-            }
-            7 => lent.sets.push(0),
-            8 => {
-                let at = self.from(0, lent.sets.len().max(1) - 1);
-                let set = [4095, 4096, 65535][self.from(0, 2)];
-                lent.sets.get_mut(at).map(|s| *s = set);
-            }
-            9 => lent.table = vec![1; [0, 4095, 4097][self.from(0, 2)]],
-            10 => lent.columns = vec![1; [0, 1, 13][self.from(0, 2)]],
-            11 => lent.shifts = vec![1; [0, 1, 13][self.from(0, 2)]],
-            _ => {
-                let n = call.cells.len().checked_div(call.tracks).unwrap_or(0);
-                call.bookmark.column = [0, 1, (n + 1) as u16, (n + 2) as u16, 65535][self.from(0, 4)];
-                call.bookmark.shift = [-32768, -128, -127, -1, 0, 1, 2, 11, 12, 13, 127, 128, 129, 32767][self.from(0, 13)];
-            }
-        }
-    }
-}
-
-/// The columns with a pitch, counted from 1.
-fn heard(cells: &[u8], tracks: usize) -> Vec<usize> {
-    let columns = cells.chunks_exact(tracks).enumerate();
-    columns.filter(|(_, column)| column.iter().any(|c| *c < 128)).map(|(k, _)| k + 1).collect()
-}
+use calls::{heard, Random};
+use finder::{occurs, pairs, plain_page, plain_pairs, prepare, quick_page, update, AnyWay, Prepared, Refusal, Summary};
+use third::{summary_of, Call, Lent};
 
 /// Each call that takes the way, against the third finder. How many pairs the last page has; none where it is refused.
 fn same(call: &Call) -> Option<usize> {
-    let Call { cells, tracks, theme, way, bookmark, lent } = call;
+    let Call { cells, tracks, theme, way, bookmark, summary, changed, lent } = call;
     let mut sets = lent.sets.clone();
     let answer = prepare(cells, *tracks, &mut sets);
     assert_eq!((answer, sets), call.prepare(), "prepare {call:?}");
+
+    let mut sets = lent.sets.clone();
+    let answer = update(cells, *tracks, *changed, &mut sets);
+    assert_eq!((answer, sets), call.update(), "update {call:?}");
 
     let mut after = lent.clone();
     let answer = plain_page(cells, *tracks, theme, *way, *bookmark, &mut after.columns, &mut after.shifts);
     assert_eq!((answer, after), call.page(false), "plain {call:?}");
     let AnyWay::Moved(way) = *way else { return answer.ok().map(|page| page.written) };
+
+    let mut after = lent.clone();
+    let answer = occurs(cells, *tracks, theme, way, &after.sets, *summary, &mut after.table);
+    assert_eq!((answer, after), call.occurs(), "question {call:?}");
 
     let mut after = lent.clone();
     let Lent { sets, table, columns, shifts } = &mut after;
@@ -204,6 +55,10 @@ fn same_list(call: &Call) -> Vec<(u16, i16)> {
         let given: Vec<_> = all.by_ref().map(|p| (p.column, p.shift)).collect();
         assert_eq!(given, list);
         assert_eq!(all.looks(), u64::from(whole.page(true).0.unwrap().looks));
+        // the question by the score's own sets is about this list
+        let prepared = Prepared::new(cells, *tracks).unwrap();
+        assert_eq!((Ok(prepared.summary()), prepared.sets().to_vec()), whole.prepare());
+        assert_eq!(prepared.occurs(cells, *tracks, theme, way), Ok(!list.is_empty()));
     }
 
     let room = call.lent.columns.len().min(3);
@@ -234,16 +89,26 @@ struct Met {
     bookmarks: usize,
     /// sets that make a candidate of a column from which too few are left
     too_few: usize,
+    /// questions that are answered yes; no, as the summary lacks an interval; no, though there are candidates; and no, though
+    /// the full list has a pair
+    yes: usize,
+    lacking: usize,
+    candidates: usize,
+    by_other_sets: usize,
 }
 
 impl Met {
     fn all(&mut self, call: &Call) {
         let pairs = same(call).unwrap();
-        let over = same_list(call).iter().any(|(j, _)| {
+        let list = same_list(call);
+        let over = list.iter().any(|(j, _)| {
             let places = call.onward(usize::from(*j));
             places[places.len() - 1] - places[0] >= places.len()
         });
         let own_key = call.way == AnyWay::Written;
+        if !own_key {
+            self.question(call, &list);
+        }
         let (with_pairs, with_over) =
             if own_key { (&mut self.written, &mut self.written_over) } else { (&mut self.moved, &mut self.moved_over) };
         *with_pairs += usize::from(pairs > 0);
@@ -258,6 +123,18 @@ impl Met {
                 && last.iter().enumerate().all(|(i, k)| call.lent.sets[k - 1] >> call.interval(i) & 1 == 0)
         });
     }
+
+    /// The same of the question, beside the full list.
+    fn question(&mut self, call: &Call, list: &[(u16, i16)]) {
+        let yes = call.occurs().0.unwrap();
+        let lacking = (0..call.theme.len() - 1).any(|i| call.summary.0 >> call.interval(i) & 1 == 1);
+        let candidate = (1..=call.lent.sets.len()).any(|j| call.sought(j, true).is_some());
+        assert!(!yes || !lacking && !list.is_empty(), "{call:?}");
+        self.yes += usize::from(yes);
+        self.lacking += usize::from(lacking);
+        self.candidates += usize::from(!yes && candidate);
+        self.by_other_sets += usize::from(!yes && !list.is_empty());
+    }
 }
 
 #[test]
@@ -267,9 +144,10 @@ fn short_scores() {
     for _ in 0..40000 {
         met.all(&random.call(4, 12, 6));
     }
-    let Met { moved, written, moved_over, written_over, bookmarks, too_few } = met;
+    let Met { moved, written, moved_over, written_over, bookmarks, too_few, yes, lacking, candidates, by_other_sets } = met;
     assert!(moved > 4000 && written > 1000, "{met:?}");
     assert!(moved_over > 1000 && written_over > 300 && bookmarks > 300 && too_few > 300, "{met:?}");
+    assert!(yes > 5000 && lacking > 5000 && candidates > 1000 && by_other_sets > 200, "{met:?}");
 }
 
 #[test]
@@ -304,16 +182,100 @@ fn longest_scores() {
     }
 }
 
+/// How many changed columns had what they are made for.
+#[derive(Default, Debug)]
+struct Changed {
+    /// columns that have no pitch after the change, and columns that had none before it
+    emptied: usize,
+    filled: usize,
+    /// those with an earlier column that has a pitch, with empty columns between the two
+    over: usize,
+    /// the last column
+    last: usize,
+    /// another summary than before
+    summaries: usize,
+}
+
+#[test]
+fn changed_columns() {
+    let mut random = Random(0x0c0a_57ed_c01d_0003);
+    let mut met = Changed::default();
+    for _ in 0..40000 {
+        let mut call = random.call(4, 12, 6);
+        // sets that were right before, or any
+        let right = !random.one_in(4);
+        if right {
+            (call.summary, call.lent.sets) = (call.prepare().0.unwrap(), call.prepare().1);
+        }
+        let before = call.clone();
+        random.change(&mut call);
+        let (answer, sets) = call.update();
+        if right {
+            assert_eq!((answer, &sets), (call.prepare().0, &call.prepare().1), "{call:?}");
+        }
+        assert_eq!((answer, sets), updated(&call), "{call:?}");
+
+        let (was, is) = (heard(&before.cells, call.tracks), heard(&call.cells, call.tracks));
+        let k = usize::from(call.changed);
+        met.emptied += usize::from(was.contains(&k) && !is.contains(&k));
+        met.filled += usize::from(!was.contains(&k) && is.contains(&k));
+        met.over += usize::from(is.iter().any(|l| l + 1 < k) && k > 1 && !is.contains(&(k - 1)));
+        met.last += usize::from(k == call.cells.len() / call.tracks);
+        met.summaries += usize::from(right && answer != Ok(before.summary));
+    }
+    let Changed { emptied, filled, over, last, summaries } = met;
+    assert!(emptied > 2000 && filled > 2000 && over > 1000 && last > 5000 && summaries > 5000, "{met:?}");
+}
+
+/// The update by the library: the answer, and the sets after it.
+fn updated(call: &Call) -> (Result<Summary, Refusal>, Vec<u16>) {
+    let mut sets = call.lent.sets.clone();
+    (update(&call.cells, call.tracks, call.changed, &mut sets), sets)
+}
+
+#[test]
+fn change_after_change() {
+    let mut random = Random(0xc4a1_9e00_0b5e_0004);
+    for round in 0..60 {
+        let mut call = if round < 4 { random.call(16, 2048, 32) } else { random.call(16, 150, 32) };
+        let mut prepared = Prepared::new(&call.cells, call.tracks).unwrap();
+        for _ in 0..50 {
+            random.change(&mut call);
+            call.lent.sets = prepared.sets().to_vec();
+            prepared.update(&call.cells, call.tracks, call.changed).unwrap();
+            assert_eq!((Ok(prepared.summary()), prepared.sets().to_vec()), call.update(), "{call:?}");
+            assert_eq!(prepared, Prepared::new(&call.cells, call.tracks).unwrap(), "{call:?}");
+        }
+        let mut fresh = call;
+        fresh.lent.sets = prepared.sets().to_vec();
+        assert_eq!((Ok(prepared.summary()), fresh.lent.sets.clone()), fresh.prepare());
+        if let AnyWay::Moved(way) = fresh.way {
+            fresh.summary = prepared.summary();
+            assert_eq!(prepared.occurs(&fresh.cells, fresh.tracks, &fresh.theme, way), fresh.occurs().0);
+        }
+    }
+}
+
 #[test]
 fn damaged_calls() {
     let mut random = Random(0x0dd0_1ead_5eed_0002);
-    let mut refused = 0;
+    let (mut refused, mut numbers) = (0, [0; 20]);
     for _ in 0..60000 {
         let mut call = random.call(4, 12, 6);
         for _ in 0..random.from(1, 3) {
             random.damage(&mut call);
         }
+        if random.one_in(3) {
+            call.summary = summary_of(&call.lent.sets);
+        }
         refused += usize::from(same(&call).is_none());
+        for refusal in [call.check_update().err(), call.check_question().err()].into_iter().flatten() {
+            numbers[usize::from(refusal.number)] += 1;
+        }
     }
     assert!((20000..59000).contains(&refused), "{refused} refused");
+    // each number of the update and of the question
+    for number in [1, 2, 3, 4, 5, 6, 7, 8, 12, 19] {
+        assert!(numbers[number] > 500, "{numbers:?}");
+    }
 }

@@ -276,6 +276,8 @@ fn iterator_goes_on_over_pages() {
 
 #[test]
 fn refusals_say_why() {
-    let said = Refusal { number: 3, place: 12 }.to_string();
-    assert_eq!(said, "3: cell 12 is neither a pitch nor a rest");
+    let said = |number, place| Refusal { number, place }.to_string();
+    assert_eq!(said(3, 12), "3: cell 12 is neither a pitch nor a rest");
+    assert_eq!(said(12, 0), "12: the summary is not that of the sets");
+    assert_eq!(said(19, 0), "19: the score has no such column");
 }

@@ -1,7 +1,9 @@
 //! A third finder, in plain Rust, straight from the definition: no codes, no register, no table but the one that is asked
 //! for. It shares nothing with the library, and is as slow as the definition reads.
 
-use finder::{AnyWay, Bookmark, Page, Refusal, Way};
+mod checks;
+
+use finder::{AnyWay, Bookmark, Page, Refusal, Summary, Way};
 
 /// A call's lent buffers, before and after.
 #[derive(Clone, PartialEq, Eq, Debug)]
@@ -19,11 +21,23 @@ pub struct Call {
     pub theme: Vec<u8>,
     pub way: AnyWay,
     pub bookmark: Bookmark,
+    /// said to be that of the lent sets
+    pub summary: Summary,
+    /// the column that was changed
+    pub changed: u16,
     pub lent: Lent,
 }
 
-fn refuse<T>(number: u8, place: usize) -> Result<T, Refusal> {
-    Err(Refusal { number, place })
+/// The summary of some sets: bit d is 0 exactly where some set has bit d at 0.
+pub fn summary_of(sets: &[u16]) -> Summary {
+    let mut summary = 0;
+    for d in 0..12 {
+        let zero = sets.iter().any(|set| set >> d & 1 == 0);
+        if !zero {
+            summary += 1 << d;
+        }
+    }
+    Summary(summary)
 }
 
 impl Call {
@@ -46,41 +60,6 @@ impl Call {
         (j..=self.n()).filter(|k| self.has_pitch(*k)).take(self.theme.len()).collect()
     }
 
-    fn check_score(&self) -> Result<(), Refusal> {
-        if self.tracks == 0 || self.tracks > 16 {
-            return refuse(1, 0);
-        }
-        if self.cells.len() % self.tracks != 0 || self.n() == 0 || self.n() > 2048 {
-            return refuse(2, 0);
-        }
-        match self.cells.iter().position(|c| (128..=254).contains(c)) {
-            Some(at) => refuse(3, at),
-            None => Ok(()),
-        }
-    }
-
-    fn check_theme(&self) -> Result<(), Refusal> {
-        if !(2..=32).contains(&self.theme.len()) {
-            return refuse(4, 0);
-        }
-        match self.theme.iter().position(|p| *p > 127) {
-            Some(at) => refuse(5, at),
-            None => Ok(()),
-        }
-    }
-
-    fn check_page(&self) -> Result<(), Refusal> {
-        if self.lent.columns.is_empty() || self.lent.columns.len() != self.lent.shifts.len() {
-            return refuse(9, 0);
-        }
-        let (lowest, highest) = self.shifts();
-        let b = self.bookmark;
-        if b.column == 0 || usize::from(b.column) > self.n() + 1 || !(lowest..=highest + 1).contains(&b.shift.into()) {
-            return refuse(10, 0);
-        }
-        Ok(())
-    }
-
     /// The lowest and the highest shift of the way.
     fn shifts(&self) -> (i32, i32) {
         match self.way {
@@ -90,26 +69,41 @@ impl Call {
         }
     }
 
-    /// Preparation: the answer, and the sets after it.
-    pub fn prepare(&self) -> (Result<(), Refusal>, Vec<u16>) {
-        let lent = self.lent.sets.clone();
-        if let Err(r) = self.check_score() {
-            return (Err(r), lent);
-        }
-        if lent.len() != self.n() - 1 {
-            return (refuse(6, 0), lent);
-        }
-        let set = |k| {
-            let mut set = 4095;
-            let Some(next) = (k + 1..=self.n()).find(|l| self.has_pitch(*l)) else { return set };
-            for x in self.column(k) {
-                for y in self.column(next) {
-                    set &= !(1 << (y - x).rem_euclid(12));
-                }
+    /// The set of column k, by the definition.
+    fn set(&self, k: usize) -> u16 {
+        let mut set = 4095;
+        let Some(next) = (k + 1..=self.n()).find(|l| self.has_pitch(*l)) else { return set };
+        for x in self.column(k) {
+            for y in self.column(next) {
+                set &= !(1 << (y - x).rem_euclid(12));
             }
-            set
-        };
-        (Ok(()), (1..self.n()).map(set).collect())
+        }
+        set
+    }
+
+    /// Preparation: the answer, and the sets after it.
+    pub fn prepare(&self) -> (Result<Summary, Refusal>, Vec<u16>) {
+        if let Err(r) = self.check_preparation() {
+            return (Err(r), self.lent.sets.clone());
+        }
+        let sets: Vec<u16> = (1..self.n()).map(|k| self.set(k)).collect();
+        (Ok(summary_of(&sets)), sets)
+    }
+
+    /// The update after a column was changed: the answer, and the sets after it.
+    pub fn update(&self) -> (Result<Summary, Refusal>, Vec<u16>) {
+        let mut sets = self.lent.sets.clone();
+        if let Err(r) = self.check_update() {
+            return (Err(r), sets);
+        }
+        let own = usize::from(self.changed);
+        let earlier = (1..own).filter(|k| self.has_pitch(*k)).max();
+        for k in 1..self.n() {
+            if k == own || Some(k) == earlier {
+                sets[k - 1] = self.set(k);
+            }
+        }
+        (Ok(summary_of(&sets)), sets)
     }
 
     /// The interval from note i to the next, counted from 0.
@@ -117,21 +111,54 @@ impl Call {
         (i32::from(self.theme[i + 1]) - i32::from(self.theme[i])).rem_euclid(12)
     }
 
+    /// The theme's table.
+    fn table(&self) -> Vec<u32> {
+        let word = |l: usize| {
+            let mut word = !0;
+            for i in 0..self.theme.len() - 1 {
+                if l >> self.interval(i) & 1 == 0 {
+                    word &= !(1 << i);
+                }
+            }
+            word
+        };
+        (0..4096).map(word).collect()
+    }
+
+    /// Where the notes are sought that begin at column j; none where it has no pitch, where too few columns with one are left,
+    /// or, of a quick search, where it is no candidate.
+    pub fn sought(&self, j: usize, quick: bool) -> Option<Vec<usize>> {
+        let places = self.onward(j);
+        let reached = self.has_pitch(j) && places.len() == self.theme.len();
+        let has = |i: usize| self.lent.sets[places[i] - 1] >> self.interval(i) & 1 == 0;
+        let passed = reached && (!quick || (0..self.theme.len() - 1).all(has));
+        passed.then_some(places)
+    }
+
+    /// The question: the answer, and the lent buffers after it. It is yes where the quick list has a pair.
+    pub fn occurs(&self) -> (Result<bool, Refusal>, Lent) {
+        let mut lent = self.lent.clone();
+        if let Err(r) = self.check_question() {
+            return (Err(r), lent);
+        }
+        lent.table = self.table();
+        let (lowest, highest) = self.shifts();
+        let listed = |j: usize| {
+            self.sought(j, true).is_some_and(|places| {
+                (lowest..=highest).any(|c| (0..self.theme.len()).all(|i| self.holds(places[i], i, c)))
+            })
+        };
+        (Ok((1..=self.n()).any(listed)), lent)
+    }
+
     /// A page: the answer, and the lent buffers after it.
     pub fn page(&self, quick: bool) -> (Result<Page, Refusal>, Lent) {
         let mut lent = self.lent.clone();
-        if let Err(r) = self.check(quick) {
+        if let Err(r) = self.check_pages(quick) {
             return (Err(r), lent);
         }
         if quick {
-            for (l, word) in lent.table.iter_mut().enumerate() {
-                *word = !0;
-                for i in 0..self.theme.len() - 1 {
-                    if l >> self.interval(i) & 1 == 0 {
-                        *word &= !(1 << i);
-                    }
-                }
-            }
+            lent.table = self.table();
         }
         let room = lent.columns.len();
         let (lowest, highest) = self.shifts();
@@ -139,13 +166,7 @@ impl Call {
         let cost = u32::from(self.way != AnyWay::Written);
         let (mut written, mut looks) = (0, 0);
         for j in 1..=self.n() {
-            let places = self.onward(j);
-            if !self.has_pitch(j) || places.len() < self.theme.len() {
-                continue;
-            }
-            if quick && !(0..self.theme.len() - 1).all(|i| self.lent.sets[places[i] - 1] >> self.interval(i) & 1 == 0) {
-                continue;
-            }
+            let Some(places) = self.sought(j, quick) else { continue };
             for c in lowest..=highest {
                 if (j, c) < (usize::from(self.bookmark.column), i32::from(self.bookmark.shift)) || !self.holds(j, 0, c) {
                     continue;
@@ -171,23 +192,6 @@ impl Call {
         }
         let next = Bookmark { column: self.n() as u16 + 1, shift: lowest as i16 };
         (Ok(Page { written, next, finished: true, looks }), lent)
-    }
-
-    fn check(&self, quick: bool) -> Result<(), Refusal> {
-        self.check_score()?;
-        self.check_theme()?;
-        if quick {
-            if self.lent.sets.len() != self.n() - 1 {
-                return refuse(6, 0);
-            }
-            if let Some(at) = self.lent.sets.iter().position(|s| *s > 4095) {
-                return refuse(7, at);
-            }
-            if self.lent.table.len() != 4096 {
-                return refuse(8, 0);
-            }
-        }
-        self.check_page()
     }
 
     /// Whether column k holds note i moved by c.
