@@ -5,13 +5,19 @@
 //! all starts of a column at once: a column's pitches are the bits of one word, a note moves the word, and what is left
 //! after an `and` are the starts that still follow. The looks are then counted by bits.
 //!
-//! The tune in its own key has a page of its own, by a word for each byte and a register.
+//! The tune in its own key has a page of its own, by a word for each byte and a register. `question` says whether a theme
+//! occurs at all, and `update` brings the sets up to date after a column was changed.
 //!
 //! A column without a pitch is passed over. A score in which there is none is walked along as it stands; for any other the
 //! numbers of the columns with a pitch are listed first, and the walk goes along that list.
 
-use finder::{AnyWay, Bookmark, Page, Refusal, Way};
+mod question;
+mod update;
+
+use finder::{AnyWay, Bookmark, Page, Refusal, Summary, Way};
+pub use question::occurs;
 use std::ops::Range;
+pub use update::update;
 
 type Answer = Result<Page, Refusal>;
 
@@ -221,15 +227,25 @@ fn set_of(earlier: u16, later: u16, few: bool) -> u16 {
     !reached as u16 & 4095
 }
 
-pub fn prepare(cells: &[u8], tracks: usize, sets: &mut [u16]) -> Result<(), Refusal> {
+/// The intervals that some set has.
+fn summary_of(sets: &[u16]) -> Summary {
+    Summary(sets.iter().fold(4095, |all, set| all & set))
+}
+
+pub fn prepare(cells: &[u8], tracks: usize, sets: &mut [u16]) -> Result<Summary, Refusal> {
     let n = check_score(cells, tracks)?;
     if sets.len() != n - 1 {
         return refuse(6, 0);
     }
     if n == cells.len() {
         one_track(cells, sets);
-        return Ok(());
+    } else {
+        more_tracks(cells, tracks, sets);
     }
+    Ok(summary_of(sets))
+}
+
+fn more_tracks(cells: &[u8], tracks: usize, sets: &mut [u16]) {
     sets.fill(4095);
     let mut columns = cells.chunks_exact(tracks);
     let mut earlier = classes(columns.next().unwrap());
@@ -242,7 +258,6 @@ pub fn prepare(cells: &[u8], tracks: usize, sets: &mut [u16]) -> Result<(), Refu
             (waits, earlier) = (k + 1, later);
         }
     }
-    Ok(())
 }
 
 /// From the end on, so that the next pitch is known and no test stands between the columns. Where there is no class, of a rest
@@ -258,6 +273,8 @@ fn one_track(cells: &[u8], sets: &mut [u16]) {
 
 // ---- the theme table
 
+/// Inlined wherever it is called, also where it is timed by itself, so that what is taken off a page is what the page took.
+#[inline(always)]
 pub fn fill(theme: &[u8], table: &mut [u32]) {
     let mut rows = [0u32; 12];
     for (i, two) in theme.windows(2).enumerate() {
