@@ -1,12 +1,13 @@
 -- From the two ways to answer to what the call promises: with a right summary that lacks no interval of the theme the row of the
 -- summary does not apply, and the page's answer is the call's; otherwise the answer without a walk is. Assumes nothing.
 use mathlib.Core.Path.{_≡_, refl, sym, ap, _∙_, subst}
-use mathlib.Core.Bool.{Bool, true, false, not, _&&_, true≢false, false≢true}
+use mathlib.Core.Bool.{Bool, true, false, not, _&&_, true≢false}
 use mathlib.Core.List.{List, [], _∷_, _++_}
 use Prim.Native.Nat.{ℕ}
 use lib.Dec.{eqb}
 use lib.ListN.{length}
 use borrow.Author.Tests.{eqb-true}
+use Rattle.theory.proofs.Either.{both-left}
 use Rattle.score.specs.declared.refusals.Refusal.{Refusal}
 use Rattle.score.specs.Score.{scoreOf}
 use Rattle.score.specs.Refusals.{Row, row, judge}
@@ -21,10 +22,6 @@ use Rattle.occurring.specs.declared.question.Occurrence.{Occurrence}
 use Rattle.occurring.specs.declared.question.Occurrence.the-variants.{Refused}
 use Rattle.occurring.specs.Occurring.{lacking, quickList, byList, row12, OccursBy, Occurs}
 
-first-of : (a b : Bool) → (a && b) ≡ true → a ≡ true
-first-of true b e = refl
-first-of false b e = absurd (false≢true e)
-
 module _ (cells : List ℕ) (h : ℕ) (theme : List ℕ) (way : Way) (sets : List ℕ) (s : Summary) (table : List ℕ) where
   abbrev rows : List Row
   rows = withSetsRows cells h theme sets (length table)
@@ -34,7 +31,7 @@ module _ (cells : List ℕ) (h : ℕ) (theme : List ℕ) (way : Way) (sets : Lis
     pub by-page-occurs : (lacks : Bool) → (right && not lacks) ≡ true → {answer : Occurrence} {table′ : List ℕ}
         → OccursBy rows cells h theme way sets table answer table′ → Occurs cells h theme way sets s table answer table′
     by-page-occurs lacks k a =
-        let clear : row12 sets s .applies ≡ false = ap not (sym e ∙ first-of right (not lacks) k) in
+        let clear : row12 sets s .applies ≡ false = ap not (sym e ∙ both-left right (not lacks) k) in
         record {
           answers = a .answers ∙ last Refused (byList (quickList way (scoreOf cells h) theme sets)) clear;
           fills-table = a .fills-table ∙ last (λ r. table) (themeTable wordBits theme) clear;

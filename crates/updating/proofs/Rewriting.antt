@@ -1,7 +1,7 @@
 -- The sets that are rewritten: set by set, `rewritten` changes one of them, and the two that are rewritten one after the other
 -- are those that rest on the changed column (`rewritten-both`). Assumes nothing.
 use mathlib.Core.Path.{_≡_, refl, sym, ap, ap₂, _∙_}
-use mathlib.Core.Bool.{Bool, true, false, cond, _&&_, _||_, true≢false}
+use mathlib.Core.Bool.{Bool, true, false, cond, _&&_, _||_}
 use mathlib.Core.List.{List, [], map}
 use Prim.Native.Nat.{ℕ, _+_, _-_, _*_, _≤_, _<_}
 use native.Mathlib.Omega.{arith}
@@ -10,6 +10,7 @@ use lib.ListN.{length, getD, take, drop, set, length-set, List·getD-eq-default}
 use lib.Seq.{ext-getD, getD-set-same, getD-set-other}
 use borrow.Author.Tests.{eqb-true, eqb-false, lt-ltb, ltb-true}
 use Rattle.theory.specs.Lists.{count, first}
+use Rattle.theory.proofs.Either.{both-left, both-right}
 use Rattle.theory.proofs.Lists.{count-map-length, count-map-at}
 use Rattle.score.specs.declared.quantities.Column.{Column}
 use Rattle.score.specs.Limits.{highestSet}
@@ -51,13 +52,9 @@ module _ (cells : List ℕ) (h n k : ℕ) (low : 1 ≤ k) (high : k < n) {next :
 
 -- ---- one set made anew, or none
 
-both-true : (a b : Bool) → (a && b) ≡ true → (a ≡ true) × (b ≡ true)
-both-true true b e = (refl, e)
-both-true false b e = absurd (true≢false (sym e))
-
 -- the test says that there is a set k
 pub inside : (k n : ℕ) → (ltb 0 k && ltb k n) ≡ true → (1 ≤ k) × (k < n)
-inside k n e = let (a, b) = both-true (ltb 0 k) (ltb k n) e in (ltb-true 0 k a, ltb-true k n b)
+inside k n e = (ltb-true 0 k (both-left (ltb 0 k) (ltb k n) e), ltb-true k n (both-right (ltb 0 k) (ltb k n) e))
 
 module _ (cells : List ℕ) (h n k : ℕ) (lent : List ℕ) where
   pub rewritten-one : {v : ℕ} → (ltb 0 k && ltb k n) ≡ true → v ≡ getD (sets (cut n h cells)) (k - 1) 0
