@@ -273,19 +273,24 @@ fn one_track(cells: &[u8], sets: &mut [u16]) {
 
 // ---- the theme table
 
-/// Inlined wherever it is called, also where it is timed by itself, so that what is taken off a page is what the page took.
+/// From 4095, the set of no interval, downward: each word is that of the set without its lowest interval, which is a larger
+/// number, less the places of that interval. Of an even set that is interval 0. Inlined wherever it is called, also where it
+/// is timed by itself, so that what is taken off a page is what the page took.
 #[inline(always)]
 pub fn fill(theme: &[u8], table: &mut [u32]) {
-    let mut rows = [0u32; 12];
+    let table: &mut [u32; 4096] = table.try_into().unwrap();
+    let mut words = [!0u32; 64];
     for (i, two) in theme.windows(2).enumerate() {
-        rows[(usize::from(two[1]) + 132 - usize::from(two[0])) % 12] |= 1 << i;
+        words[(usize::from(two[1]) + 132 - usize::from(two[0])) % 12] ^= 1 << i;
     }
-    table[0] = !0 << (theme.len() - 1);
-    for (d, row) in rows.into_iter().enumerate() {
-        let (low, high) = table[..2 << d].split_at_mut(1 << d);
-        for (h, l) in high.iter_mut().zip(low) {
-            *h = *l | row;
-        }
+    (table[4095], table[4094]) = (!0, words[0]);
+    let mut even = 4094;
+    while even > 0 {
+        even -= 2;
+        let odd = even + 1;
+        let word = table[(odd | (odd + 1)) & 4095] & words[odd.trailing_ones() as usize & 63];
+        table[odd & 4095] = word;
+        table[even & 4095] = word & words[0];
     }
 }
 

@@ -1,3 +1,3 @@
--- Laws of the theme table as it is filled: `Laws` (rows, and a word from others), `Doubling` (the table).
-pub mod Laws
-pub mod Doubling
+-- Laws of the theme table as it is filled: `Alone` (the words of one interval), `Filling` (the table, from 4095 downward).
+pub mod Alone
+pub mod Filling

@@ -1,5 +1,5 @@
 -- The theme table. The register's words, `step` and `bit`, are theory's.
 pub mod Limits
 pub mod Table
--- the contract of an inner function, which no public call promises
-pub mod Doubling
+-- what the inner functions of the filling promise, which no public call does
+pub mod Lowest

@@ -1,69 +1,55 @@
 // The theme table: a word for each of the 4,096 sets.
 //
-// A word is the or of a row for each bit of its set, and of the ones past the theme's intervals. So the theme is gone
-// through once, for the twelve rows, and the words come by doubling what stands before them.
+// A set of no interval, 4095, has a word of ones. Every other set has a lowest interval, and its word is the word of the set
+// without that interval, and-ed with the word of that interval alone.
 
-use crate::limits::WORD_BITS;
+use score::HIGHEST_SET;
 use score::Pitch;
 use score::TABLE_WORDS;
 use score::interval_of;
 ghost use mathlib.Core.Path.{_≡_};
-ghost use Prim.Native.Nat.{ℕ, _+_, _^_, _≤_, _<_};
-ghost use lib.Bits.{bitOr};
-ghost use lib.ListN.{length, getD};
+ghost use Prim.Native.Nat.{_<_};
+ghost use Rattle.score.specs.Limits.{highestSet};
 ghost use Rattle.filter.specs.Limits.{wordBits};
-ghost use Rattle.filter.specs.Table.{word, tableAfter};
-ghost use Rattle.filter.specs.Doubling.{Doubled};
+ghost use Rattle.filter.specs.Table.{tableAfter};
+ghost use Rattle.filter.specs.Lowest.{wordsAlone, Lowest};
 
-// The row of each interval: a bit for each place where it stands in the theme. The row of d leads from the word of a set
-// of lower bits to the word of that set and d.
-fn rows_of(theme: &[u8]) -> [u32; 12]
-    requires { ⌜ 1 ≤ length (now theme) ⌝ }
-    ensures { λ rows. ⌜ ((d s : ℕ) → d < 12 → s < 2 ^ d → word wordBits (now (theme .entry)) (2 ^ d + s) ≡ bitOr (word wordBits (now (theme .entry)) s) (getD rows d 0)) ⌝ }
+// The word of each interval alone: a 0 for each place where it stands in the theme.
+fn words_alone(theme: &[u8]) -> [u32; 12]
+    ensures { λ words. ⌜ words ≡ wordsAlone wordBits (now (theme .entry)) ⌝ }
 {
-    let mut rows = [0u32; 12];
+    let mut words = [0xffff_ffff; 12];
     let mut mark: u32 = 1;
-    let intervals = theme.len() - 1;
     let mut i = 0;
-    while i < intervals {
+    while i + 1 < theme.len() {
         let note = theme[i];
         let next = theme[i + 1];
         let d = interval_of(Pitch(note), Pitch(next));
         let at = d.0 as usize;
-        rows[at] = rows[at] | mark;
+        words[at] = words[at] & !mark;
         mark = mark << 1;
         i += 1;
     }
-    rows
+    words
 }
 
-// The word of the set with no bit: ones past the theme's intervals.
-fn blank(theme: &[u8]) -> u32
-    requires { ⌜ 1 ≤ length (now theme) ⌝ }
-    ensures { λ r. ⌜ r ≡ word wordBits (now (theme .entry)) 0 ⌝ }
+// The lowest interval of a set that has one. An interval that is there is a 0.
+fn lowest(set: usize) -> usize
+    requires { ⌜ set < highestSet ⌝ }
+    ensures { λ d. ⌜ Lowest set d ⌝ }
 {
-    let intervals = theme.len() - 1;
-    if intervals < WORD_BITS as usize {
-        0xffff_ffff << intervals
-    } else {
-        0
-    }
-}
-
-// The first `power` entries again behind themselves, each or-ed with the word.
-fn double(table: &mut [u32], power: usize, word: u32)
-    requires { ⌜ power + power ≤ length (now table) ⌝ }
-    ensures { λ _. ⌜ Doubled power word (now (table .entry)) (now (table .exit)) ⌝ }
-{
-    let mut i = 0;
-    while i < power {
-        table[power + i] = table[i] | word;
-        i += 1;
-    }
+    usize::trailing_zeros(!set) as usize
 }
 
 // The whole table of a theme, whatever it held. Of a theme with more than 33 notes a word has the first 32 intervals. A theme
 // without notes, and a table that is not 4,096 long, leave it as it is.
+//
+// Adding 1 to a set turns its lowest 0 into a 1, so `set | (set + 1)` is the set without its lowest interval. It is larger, so
+// from 4095 downward its entry stands there already. By hand, with the first set of the manual's score K: 3451 is 4095 - 4 - 128
+// - 512, so it has 2, 7 and 9. Entry 3451 comes from entry 3451 | 3452 = 3455 and the word of 2; entry 3455 from 3455 | 3456 =
+// 3583 and the word of 7; entry 3583 from 3583 | 3584 = 4095 and the word of 9. So it is the and of these three words.
+//
+// Half of the sets are even: their lowest interval is 0, and without it they are the odd set after them.
 pub fn fill_table(theme: &[u8], table: &mut [u32])
     ensures { λ _. ⌜ now (table .exit) ≡ tableAfter wordBits (now (theme .entry)) (now (table .entry)) ⌝ }
 {
@@ -73,11 +59,14 @@ pub fn fill_table(theme: &[u8], table: &mut [u32])
     if table.len() != TABLE_WORDS {
         return;
     }
-    let rows = rows_of(theme);
-    table[0] = blank(theme);
-    let mut d = 0;
-    while d < 12 {
-        double(table, 1 << d, rows[d]);
-        d += 1;
+    let words = words_alone(theme);
+    let mut even = HIGHEST_SET as usize - 1;
+    table[even + 1] = 0xffff_ffff;
+    table[even] = words[0];
+    while 0 < even {
+        even -= 2;
+        let odd = even + 1;
+        table[odd] = table[odd | (odd + 1)] & words[lowest(odd)];
+        table[even] = table[odd] & words[0];
     }
 }

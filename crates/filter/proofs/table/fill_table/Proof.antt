@@ -1,72 +1,122 @@
--- `filter::table::fill_table` meets its contract: a table that is left alone, or filled. The invariant: each entry below
--- 2 ^ d is right. The measure is the rows left. Assumes nothing.
+-- `filter::table::fill_table` meets its contract: a table that is left alone, or filled. The invariant: each entry from `even` on
+-- is right. The measure is the entries left. Assumes nothing.
 use borrow.Author.Needs.{needs}
 use mathlib.Core.Path.{sym, _∙_}
-use Prim.Native.Nat.{_-_}
-use Rattle.theory.proofs.Masks.{one-shl}
+use native.Mathlib.Omega.{arith}
+use lib.ListN.{length-set}
 use Rattle.filter.specs.Limits.{wordBits}
-use Rattle.filter.specs.Table.{word, themeTable}
+use Rattle.filter.specs.Table.{themeTable}
 use Rattle.filter.proofs.Words.{after-none, after-other, after-filled}
-use Rattle.filter.proofs.table.Doubling.{Filled, filled-first, filled-room, filled-twice, filled-all}
+use Rattle.filter.proofs.Lowest.{lowest-lt}
+use Rattle.filter.proofs.table.Filling.{FromEven, even-first, odd-source, even-more, filled-all}
 use Rattle.filter.proofs.table.fill_table.Statement.{statement}
 use Rattle.filter.proofs.table.fill_table.Tie as tie
 
 abbrev Inv-loop : tie.InvT-loop
-Inv-loop theme table₀ rows d₀ table d = Filled (word wordBits theme) table d
+Inv-loop theme table₀ words even₀ table even = FromEven wordBits theme table even
 
 abbrev μ-loop : tie.MeasureT-loop
-μ-loop theme table₀ rows d₀ table d = 12 - d
+μ-loop theme table₀ words even₀ table even = even
 
 returns : tie.Need-returns Inv-loop μ-loop
 returns c = sym (after-none wordBits (c .before .before .before .args .theme .now) _ (c .if1 .taken))
 
 returns-2 : tie.Need-returns-2 Inv-loop μ-loop
-returns-2 c = sym (after-other wordBits (c .before .before .before .before .args .theme .now) _ (c .if2 .taken))
+returns-2 c = sym (after-other wordBits (c .before .before .before .before .args .theme .now) _ (λ e. omega arith))
 
-rows-of-requires : tie.Need-rows-of-requires Inv-loop μ-loop
-rows-of-requires c κs = search needs
+words-alone-requires : tie.Need-words-alone-requires Inv-loop μ-loop
+words-alone-requires c κs = search needs
 
-blank-requires : tie.Need-blank-requires Inv-loop μ-loop
-blank-requires c κs = search needs
+cast-even : tie.Need-cast-even Inv-loop μ-loop
+cast-even c = search needs
+
+sub-even : tie.Need-sub-even Inv-loop μ-loop
+sub-even c = search needs
+
+add-table : tie.Need-add-table Inv-loop μ-loop
+add-table c = search needs
+
+mul-table : tie.Need-mul-table Inv-loop μ-loop
+mul-table c = search needs
 
 slice-write-table : tie.Need-slice-write-table Inv-loop μ-loop
 slice-write-table c = search needs
 
+array-read-table : tie.Need-array-read-table Inv-loop μ-loop
+array-read-table c = search needs
+
+mul-table-2 : tie.Need-mul-table-2 Inv-loop μ-loop
+mul-table-2 c = search needs
+
+slice-write-table-2 : tie.Need-slice-write-table-2 Inv-loop μ-loop
+slice-write-table-2 c = rw length-set (omega arith)
+
 loop-holds : tie.Need-loop-holds Inv-loop μ-loop
-loop-holds c = filled-first _ (c .before .before .before .before .before .before .args .table .now) _ (c .before .before .if2 .left) (c .blank .ensures)
+loop-holds c = even-first wordBits _ (c .words-alone .ensures) (c .before .before .before .before .before .args .table .now) (omega arith)
 
-shl-double : tie.Need-shl-double Inv-loop μ-loop
-shl-double c = search needs
+sub-even-2 : tie.Need-sub-even-2 Inv-loop μ-loop
+sub-even-2 c = search needs
 
-mul-double : tie.Need-mul-double Inv-loop μ-loop
-mul-double c = search needs
+add-odd : tie.Need-add-odd Inv-loop μ-loop
+add-odd c = search needs
 
-array-read-double : tie.Need-array-read-double Inv-loop μ-loop
-array-read-double c = search needs
+add-table-2 : tie.Need-add-table-2 Inv-loop μ-loop
+add-table-2 c = search needs
 
-double-requires : tie.Need-double-requires Inv-loop μ-loop
-double-requires c κs = rw (one-shl (c .before .before .loop .d) 64 (search needs)) (filled-room (c .before .before .loop .inv) (search needs))
+mul-table-3 : tie.Need-mul-table-3 Inv-loop μ-loop
+mul-table-3 c = omega (arith, odd-source wordBits _ (c .before .before .words-alone .ensures) (c .before .loop .inv) (search needs))
 
-add-d : tie.Need-add-d Inv-loop μ-loop
-add-d c = search needs
+slice-read-table : tie.Need-slice-read-table Inv-loop μ-loop
+slice-read-table c =
+    let at-loop = c .before .before in
+    omega (arith, odd-source wordBits _ (at-loop .before .words-alone .ensures) (at-loop .loop .inv) (search needs), at-loop .loop .inv .filled .long)
+
+lowest-requires : tie.Need-lowest-requires Inv-loop μ-loop
+lowest-requires c κs = search needs
+
+mul-table-4 : tie.Need-mul-table-4 Inv-loop μ-loop
+mul-table-4 c = omega (arith, lowest-lt (c .lowest .ensures) (omega (arith, c .before .before .before .loop .inv .filled .within)))
+
+array-read-table-2 : tie.Need-array-read-table-2 Inv-loop μ-loop
+array-read-table-2 c = omega (arith, lowest-lt (c .lowest .ensures) (omega (arith, c .before .before .before .loop .inv .filled .within)))
+
+mul-table-5 : tie.Need-mul-table-5 Inv-loop μ-loop
+mul-table-5 c = search needs
+
+slice-write-table-3 : tie.Need-slice-write-table-3 Inv-loop μ-loop
+slice-write-table-3 c = search needs
+
+mul-table-6 : tie.Need-mul-table-6 Inv-loop μ-loop
+mul-table-6 c = search needs
+
+slice-read-table-2 : tie.Need-slice-read-table-2 Inv-loop μ-loop
+slice-read-table-2 c = rw length-set (omega (arith, c .before .before .before .before .loop .inv .filled .long))
+
+array-read-table-3 : tie.Need-array-read-table-3 Inv-loop μ-loop
+array-read-table-3 c = search needs
+
+mul-table-7 : tie.Need-mul-table-7 Inv-loop μ-loop
+mul-table-7 c = search needs
+
+slice-write-table-4 : tie.Need-slice-write-table-4 Inv-loop μ-loop
+slice-write-table-4 c = rw length-set (omega (arith, c .before .before .before .before .loop .inv .filled .long))
 
 loop-less : tie.Need-loop-less Inv-loop μ-loop
 loop-less c = search needs
 
 loop-again : tie.Need-loop-again Inv-loop μ-loop
 loop-again c =
-    let at-loop = c .before .before .before .before .before in
-    let rows = at-loop .before .before .rows-of .ensures in
-    let power = one-shl (at-loop .loop .d) 64 (search needs) in
-    filled-twice (at-loop .loop .inv) (search needs) (λ s l. rows (at-loop .loop .d) s (search needs) l) (rw power at (c .before .before .double .ensures))
+    let at-loop = c .before .before .before .before in
+    even-more wordBits _ (at-loop .before .words-alone .ensures) (at-loop .loop .inv) (search needs) (c .before .lowest .ensures)
 
 same-length : tie.Need-same-length Inv-loop μ-loop
-same-length c = c .before .loop .inv .long ∙ sym (c .before .before .before .before .if2 .left)
+same-length c = search needs
 
 returns-3 : tie.Need-returns-3 Inv-loop μ-loop
 unfolding themeTable
 returns-3 c =
-    filled-all (c .before .loop .inv) (search needs) ∙ sym (after-filled wordBits _ _ (c .before .before .before .before .before .if1 .left) (c .before .before .before .before .if2 .left))
+    filled-all (c .before .loop .inv .filled) (search needs)
+    ∙ sym (after-filled wordBits _ _ (c .before .before .before .before .if1 .left) (c .before .before .before .if2 .left))
 
 pub fill-table-spec : {M : Type 1} → statement M
 fill-table-spec =
@@ -76,15 +126,31 @@ fill-table-spec =
     μ-loop
     returns
     returns-2
-    rows-of-requires
-    blank-requires
+    words-alone-requires
+    cast-even
+    sub-even
+    add-table
+    mul-table
     slice-write-table
+    array-read-table
+    mul-table-2
+    slice-write-table-2
     loop-holds
-    shl-double
-    mul-double
-    array-read-double
-    double-requires
-    add-d
+    sub-even-2
+    add-odd
+    add-table-2
+    mul-table-3
+    slice-read-table
+    lowest-requires
+    mul-table-4
+    array-read-table-2
+    mul-table-5
+    slice-write-table-3
+    mul-table-6
+    slice-read-table-2
+    array-read-table-3
+    mul-table-7
+    slice-write-table-4
     loop-less
     loop-again
     same-length
