@@ -60,6 +60,7 @@ pub fn fill_table(theme: &[u8], table: &mut [u32])
         return;
     }
     let words = words_alone(theme);
+    // 4095 has no interval, and 4094 has 0 alone
     let mut even = HIGHEST_SET as usize - 1;
     table[even + 1] = 0xffff_ffff;
     table[even] = words[0];
