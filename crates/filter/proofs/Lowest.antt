@@ -1,6 +1,6 @@
--- A word of the theme table by the lowest interval of its set, over any width: the word of no interval is all ones (`word-none`),
--- and the word of a set is that of the set without its lowest interval, and-ed with the word of that interval alone
--- (`word-lowest`). Before them, what `set | (set + 1)` is (`lowest-out`). Assumes nothing.
+-- A word of the theme table by the lowest interval of its set, over any width: the word of the set of no interval is all ones
+-- (`word-none`), and the word of a set is that of the set without its lowest interval, and-ed with the word of that interval
+-- alone (`word-lowest`). Before them, what `set | (set + 1)` is (`lowest-without`). Assumes nothing.
 use mathlib.Core.Path.{_≡_, refl, sym, ap, _∙_}
 use mathlib.Core.List.{List}
 use Prim.Native.Nat.{ℕ, zero, suc, _+_, _-_, _/_, _%_, _^_, _≤_, _<_, min, suc-le-suc}
@@ -25,14 +25,14 @@ use Rattle.filter.proofs.Words.{word-in, word-out, word-lt, word-unique
 pub even-lowest : (set : ℕ) → set % 2 ≡ 0 → Lowest set 0
 even-lowest set e = record { present = bit-zero set ∙ e; below = λ q l. absurd (omega arith) }
 
-pub even-out : (set : ℕ) → set % 2 ≡ 0 → bitOr set (set + 1) ≡ set + 1
-even-out set e =
+pub even-without : (set : ℕ) → set % 2 ≡ 0 → bitOr set (set + 1) ≡ set + 1
+even-without set e =
     let h : (set + 1) / 2 ≡ set / 2 = omega (arith, e) in
     omega (arith, e, or-step set (set + 1), ap (bitOr (set / 2)) h, or-self (set / 2))
 
 -- of an odd set, by that of its half
-doubled : {set d : ℕ} → Lowest (set / 2) d → set % 2 ≡ 1 → Lowest set (suc d)
-doubled {set} {d} low e = record { present = bit-suc set d ∙ low .present; below = below′ }
+odd-lowest : {set d : ℕ} → Lowest (set / 2) d → set % 2 ≡ 1 → Lowest set (suc d)
+odd-lowest {set} {d} low e = record { present = bit-suc set d ∙ low .present; below = below′ }
   where
     below′ : (q : ℕ) → q < suc d → bit set q ≡ 1
     below′ zero l = bit-zero set ∙ e
@@ -56,19 +56,19 @@ lowest-counted (suc k) set h = step (set % 2) refl (λ q. lowest-counted k (set 
     step (suc zero) e ih =
         let t : (2 ^ suc k - 1 - set) % 2 ≡ 0 = omega (arith, pow-suc 2 k) in
         let n : (2 ^ suc k - 1 - set) / 2 ≡ 2 ^ k - 1 - set / 2 = omega (arith, pow-suc 2 k) in
-        rw (t, n) (doubled (ih (omega (arith, pow-suc 2 k))) e)
+        rw (t, n) (odd-lowest (ih (omega (arith, pow-suc 2 k))) e)
     step (suc (suc b)) e ih = absurd (omega (arith, mod-lt set (zero-lt-suc 1)))
 
 -- with 1 added, the lowest 0 becomes a 1 and the ones below it zeros; or-ed with the set, the set with that 1 more
-pub lowest-out : (d set : ℕ) → Lowest set d → bitOr set (set + 1) ≡ bitOr set (2 ^ d)
-lowest-out zero set low =
+pub lowest-without : (d set : ℕ) → Lowest set d → bitOr set (set + 1) ≡ bitOr set (2 ^ d)
+lowest-without zero set low =
     let e : set % 2 ≡ 0 = sym (bit-zero set) ∙ low .present in
-    omega (arith, e, even-out set e, or-step set 1, or-zero-r (set / 2))
-lowest-out (suc d) set low =
+    omega (arith, e, even-without set e, or-step set 1, or-zero-r (set / 2))
+lowest-without (suc d) set low =
     let e : set % 2 ≡ 1 = sym (bit-zero set) ∙ low .below 0 (omega arith) in
     let h : (set + 1) / 2 ≡ set / 2 + 1 = omega (arith, e) in
     let p : 2 ^ suc d / 2 ≡ 2 ^ d = omega (arith, pow-suc 2 d) in
-    let ih = lowest-out d (set / 2) (halved low) in
+    let ih = lowest-without d (set / 2) (halved low) in
     omega (arith, e, or-step set (set + 1), ap (bitOr (set / 2)) h, or-step set (2 ^ suc d), ap (bitOr (set / 2)) p, pow-suc 2 d, ih)
 
 -- a set below 4095 has one of the twelve
@@ -110,7 +110,7 @@ module _ (w : ℕ) (theme : List ℕ) where
       each : (t : ℕ) → t < 12 → Dec (d ≡ t) → bit set t ≡ min (bit without t) (bit (alone d) t)
       each t l (yes e) = rw (← e) (omega (arith, low .present, alone-same d h))
       each t l (no n) =
-          omega (arith, ap (λ (x : ℕ). bit x t) (lowest-out d set low), put-other set d t n, alone-other d t h l n, bit-lt set t)
+          omega (arith, ap (λ (x : ℕ). bit x t) (lowest-without d set low), put-other set d t n, alone-other d t h l n, bit-lt set t)
 
       pick : (i : ℕ) → i < w → Dec (i + 2 ≤ length theme) → bit (word w theme set) i ≡ min (bit (word w theme without) i) (bit (word w theme (alone d)) i)
       pick i l (yes k) =

@@ -1,3 +1,3 @@
--- Laws of the theme table as it is filled: `Alone` (the words of one interval), `Filling` (the table, from 4095 downward).
-pub mod Alone
+-- Laws of the theme table as it is filled: `IntervalWords` (the word of each interval alone), `Filling` (the table, from 4095 downward).
+pub mod IntervalWords
 pub mod Filling

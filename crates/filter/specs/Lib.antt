@@ -1,5 +1,5 @@
 -- The theme table. The register's words, `step` and `bit`, are theory's.
 pub mod Limits
 pub mod Table
--- what the inner functions of the filling promise, which no public call does
+-- what the inner functions of the filling promise, and no public call by itself
 pub mod Lowest

@@ -13,8 +13,8 @@ abbrev pub alone : ℕ → ℕ
 alone d = highestSet - 2 ^ d
 
 -- twelve words, entry d for the set of interval d alone
-unfoldable pub wordsAlone : (w : ℕ) (theme : List ℕ) → List ℕ
-wordsAlone w theme = map (λ d. word w theme (alone d)) (count 0 12)
+unfoldable pub intervalWords : (w : ℕ) (theme : List ℕ) → List ℕ
+intervalWords w theme = map (λ d. word w theme (alone d)) (count 0 12)
 
 -- d is the lowest interval of the set: its bit is 0, and those below it are 1
 pub record Lowest (set d : ℕ) : Type 0 where

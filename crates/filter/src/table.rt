@@ -1,6 +1,6 @@
 // The theme table: a word for each of the 4,096 sets.
 //
-// A set of no interval, 4095, has a word of ones. Every other set has a lowest interval, and its word is the word of the set
+// The set of no interval, 4095, has a word of ones. Every other set has a lowest interval, and its word is the word of the set
 // without that interval, and-ed with the word of that interval alone.
 
 use score::HIGHEST_SET;
@@ -12,11 +12,12 @@ ghost use Prim.Native.Nat.{_<_};
 ghost use Rattle.score.specs.Limits.{highestSet};
 ghost use Rattle.filter.specs.Limits.{wordBits};
 ghost use Rattle.filter.specs.Table.{tableAfter};
-ghost use Rattle.filter.specs.Lowest.{wordsAlone, Lowest};
+ghost use Rattle.filter.specs.Lowest.{intervalWords, Lowest};
 
-// The word of each interval alone: a 0 for each place where it stands in the theme.
-fn words_alone(theme: &[u8]) -> [u32; 12]
-    ensures { λ words. ⌜ words ≡ wordsAlone wordBits (now (theme .entry)) ⌝ }
+// The word of each interval alone: a 0 for each place where it stands in the theme. From the 33rd interval on the mark is 0 and
+// takes nothing away.
+fn interval_words(theme: &[u8]) -> [u32; 12]
+    ensures { λ words. ⌜ words ≡ intervalWords wordBits (now (theme .entry)) ⌝ }
 {
     let mut words = [0xffff_ffff; 12];
     let mut mark: u32 = 1;
@@ -33,7 +34,7 @@ fn words_alone(theme: &[u8]) -> [u32; 12]
     words
 }
 
-// The lowest interval of a set that has one. An interval that is there is a 0.
+// The lowest interval of a set that has one: the place of its lowest 0, which is the lowest 1 of `!set`.
 fn lowest(set: usize) -> usize
     requires { ⌜ set < highestSet ⌝ }
     ensures { λ d. ⌜ Lowest set d ⌝ }
@@ -44,12 +45,17 @@ fn lowest(set: usize) -> usize
 // The whole table of a theme, whatever it held. Of a theme with more than 33 notes a word has the first 32 intervals. A theme
 // without notes, and a table that is not 4,096 long, leave it as it is.
 //
-// Adding 1 to a set turns its lowest 0 into a 1, so `set | (set + 1)` is the set without its lowest interval. It is larger, so
-// from 4095 downward its entry stands there already. By hand, with the first set of the manual's score K: 3451 is 4095 - 4 - 128
-// - 512, so it has 2, 7 and 9. Entry 3451 comes from entry 3451 | 3452 = 3455 and the word of 2; entry 3455 from 3455 | 3456 =
-// 3583 and the word of 7; entry 3583 from 3583 | 3584 = 4095 and the word of 9. So it is the and of these three words.
+// Adding 1 to a set turns its lowest 0 into a 1 and the ones below it into zeros, and the or puts those back: `set | (set + 1)` is
+// the set without its lowest interval. It is larger, so from 4095 downward its entry stands there already. By hand, with the
+// first set of the manual's score K: 3451 = 4095 - 4 - 128 - 512, so it has 2, 7 and 9.
 //
-// Half of the sets are even: their lowest interval is 0, and without it they are the odd set after them.
+//     entry 3451 = entry 3455 & word of 2        3451 | 3452 = 3455
+//     entry 3455 = entry 3583 & word of 7        3455 | 3456 = 3583
+//     entry 3583 = entry 4095 & word of 9        3583 | 3584 = 4095
+//     entry 3450 = entry 3451 & word of 0        3450 | 3451 = 3451
+//
+// The last is even, as half of the sets are: an even set has 0, and without it, it is the odd set after it. So a turn makes two
+// entries, an odd one and from it the even one before it.
 pub fn fill_table(theme: &[u8], table: &mut [u32])
     ensures { λ _. ⌜ now (table .exit) ≡ tableAfter wordBits (now (theme .entry)) (now (table .entry)) ⌝ }
 {
@@ -59,8 +65,8 @@ pub fn fill_table(theme: &[u8], table: &mut [u32])
     if table.len() != TABLE_WORDS {
         return;
     }
-    let words = words_alone(theme);
-    // 4095 has no interval, and 4094 has 0 alone
+    let words = interval_words(theme);
+    // 4095 has no interval, and 4094 has the interval 0 alone
     let mut even = HIGHEST_SET as usize - 1;
     table[even + 1] = 0xffff_ffff;
     table[even] = words[0];

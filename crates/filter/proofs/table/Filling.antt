@@ -1,5 +1,5 @@
--- A table that is filled from its last entry downward: the entries from some place on are right. `Filled` is over any words,
--- `FromEven` of the theme's table. Assumes nothing.
+-- A table that is filled from its last entry downward: the entries from some place on are right. `Filled` is over any
+-- entries, `FromEven` of the theme's table. Assumes nothing.
 use mathlib.Core.Path.{_≡_, refl, sym, ap, _∙_}
 use mathlib.Core.List.{List, map}
 use Prim.Native.Nat.{ℕ, _+_, _-_, _%_, _^_, _≤_, _<_}
@@ -13,17 +13,17 @@ use Rattle.theory.specs.Lists.{count}
 use Rattle.theory.proofs.Lists.{count-map-length, count-map-at}
 use Rattle.score.specs.Limits.{tableWords}
 use Rattle.filter.specs.Table.{word}
-use Rattle.filter.specs.Lowest.{wordsAlone, Lowest}
-use Rattle.filter.proofs.Lowest.{even-lowest, even-out, word-none}
-use Rattle.filter.proofs.table.Alone.{words-at, words-lowest}
+use Rattle.filter.specs.Lowest.{intervalWords, Lowest}
+use Rattle.filter.proofs.Lowest.{even-lowest, even-without, word-none}
+use Rattle.filter.proofs.table.IntervalWords.{words-at, lowest-by-words}
 
-pub record Filled (word : ℕ → ℕ) (table : List ℕ) (from : ℕ) : Type 0 where
+pub record Filled (entry : ℕ → ℕ) (table : List ℕ) (from : ℕ) : Type 0 where
   pub within : from < tableWords
   pub long : length table ≡ tableWords
-  pub each : (s : ℕ) → from ≤ s → s < tableWords → getD table s 0 ≡ word s
+  pub each : (s : ℕ) → from ≤ s → s < tableWords → getD table s 0 ≡ entry s
 
-pub filled-last : {word : ℕ → ℕ} (table : List ℕ) (x : ℕ) → length table ≡ tableWords → x ≡ word 4095 → Filled word (set table 4095 x) 4095
-filled-last {word} table x l e =
+pub filled-last : {entry : ℕ → ℕ} (table : List ℕ) (x : ℕ) → length table ≡ tableWords → x ≡ entry 4095 → Filled entry (set table 4095 x) 4095
+filled-last {entry} table x l e =
     record {
       within = omega arith;
       long = length-set table 4095 x ∙ l;
@@ -31,8 +31,8 @@ filled-last {word} table x l e =
     }
 
 -- an entry more
-module _ {word : ℕ → ℕ} {table : List ℕ} {from : ℕ} (k : ℕ) (f : Filled word table from) (n : k + 1 ≡ from) where
-  pub filled-more : (x : ℕ) → x ≡ word k → Filled word (set table k x) k
+module _ {entry : ℕ → ℕ} {table : List ℕ} {from : ℕ} (k : ℕ) (f : Filled entry table from) (n : k + 1 ≡ from) where
+  pub filled-more : (x : ℕ) → x ≡ entry k → Filled entry (set table k x) k
   filled-more x e =
       record {
         within = omega (arith, f .within);
@@ -40,7 +40,7 @@ module _ {word : ℕ → ℕ} {table : List ℕ} {from : ℕ} (k : ℕ) (f : Fil
         each = λ s a b. pick s a b (ℕ-discrete s k);
       }
     where
-      pick : (s : ℕ) → k ≤ s → s < tableWords → Dec (s ≡ k) → getD (set table k x) s 0 ≡ word s
+      pick : (s : ℕ) → k ≤ s → s < tableWords → Dec (s ≡ k) → getD (set table k x) s 0 ≡ entry s
       pick s a b (yes y) = rw y (getD-set-same table k x 0 (omega (arith, f .within, f .long)) ∙ e)
       pick s a b (no y) = getD-set-other table k s x 0 y ∙ f .each s (omega arith) b
 
@@ -51,15 +51,15 @@ module _ {word : ℕ → ℕ} {table : List ℕ} {from : ℕ} (k : ℕ) (f : Fil
   source-there : from ≤ bitOr k (k + 1)
   source-there = omega (arith, or-add-and k (k + 1), and-le-l k (k + 1))
 
-  pub source-right : getD table (bitOr k (k + 1)) 0 ≡ word (bitOr k (k + 1))
+  pub source-right : getD table (bitOr k (k + 1)) 0 ≡ entry (bitOr k (k + 1))
   source-right = f .each (bitOr k (k + 1)) source-there source-within
 
-pub filled-all : {word : ℕ → ℕ} {table : List ℕ} {from : ℕ} → Filled word table from → from ≡ 0 → table ≡ map word (count 0 tableWords)
-filled-all {word} {table} {from} f z =
-    ext-getD 0 table (map word (count 0 tableWords)) (f .long ∙ sym (count-map-length word 0 tableWords))
+pub filled-all : {entry : ℕ → ℕ} {table : List ℕ} {from : ℕ} → Filled entry table from → from ≡ 0 → table ≡ map entry (count 0 tableWords)
+filled-all {entry} {table} {from} f z =
+    ext-getD 0 table (map entry (count 0 tableWords)) (f .long ∙ sym (count-map-length entry 0 tableWords))
     (λ s l.
     let k : s < tableWords = omega (arith, f .long) in
-    f .each s (omega arith) k ∙ sym (count-map-at word 0 tableWords s 0 k ∙ ap word (zero-add s)))
+    f .each s (omega arith) k ∙ sym (count-map-at entry 0 tableWords s 0 k ∙ ap entry (zero-add s)))
 
 -- ---- the theme's table: an odd entry and the even one before it
 
@@ -67,7 +67,7 @@ pub record FromEven (w : ℕ) (theme table : List ℕ) (even : ℕ) : Type 0 whe
   pub filled : Filled (word w theme) table even
   pub is-even : even % 2 ≡ 0
 
-module _ (w : ℕ) (theme : List ℕ) {words : List ℕ} (e : words ≡ wordsAlone w theme) where
+module _ (w : ℕ) (theme : List ℕ) {words : List ℕ} (e : words ≡ intervalWords w theme) where
   pub even-first : (table : List ℕ) → length table ≡ tableWords → FromEven w theme (set (set table 4095 (2 ^ w - 1)) 4094 (getD words 0 0)) 4094
   even-first table l =
       record {
@@ -85,28 +85,27 @@ module _ (w : ℕ) (theme : List ℕ) {words : List ℕ} (e : words ≡ wordsAlo
     pub odd-source : bitOr odd (odd + 1) < tableWords
     odd-source = source-within odd (f .filled) next
 
-    pub even-more : {d : ℕ} → Lowest odd d
-        → let v : ℕ = bitAnd (getD table (bitOr odd (odd + 1)) 0) (getD words d 0) in
-        FromEven w theme (set (set table odd v) (even - 2) (bitAnd (getD (set table odd v) odd 0) (getD words 0 0))) (even - 2)
-    even-more {d} low = record { filled = filled-more (even - 2) g refl x right; is-even = same }
-      where
-        v : ℕ
-        v = bitAnd (getD table (bitOr odd (odd + 1)) 0) (getD words d 0)
+    module _ {d : ℕ} (low : Lowest odd d) where
+      abbrev v : ℕ
+      v = bitAnd (getD table (bitOr odd (odd + 1)) 0) (getD words d 0)
 
-        x : ℕ
-        x = bitAnd (getD (set table odd v) odd 0) (getD words 0 0)
+      abbrev x : ℕ
+      x = bitAnd (getD (set table odd v) odd 0) (getD words 0 0)
 
-        same : (even - 2) % 2 ≡ 0
-        same = omega (arith, f .is-even)
+      same : (even - 2) % 2 ≡ 0
+      same = omega (arith, f .is-even)
 
-        g : Filled (word w theme) (set table odd v) odd
-        g =
-            filled-more odd (f .filled) next v
-            (ap (λ (z : ℕ). bitAnd z (getD words d 0)) (source-right odd (f .filled) next)
-            ∙ sym (words-lowest w theme e low (omega (arith, f .filled .within))))
+      odd-filled : Filled (word w theme) (set table odd v) odd
+      odd-filled =
+          filled-more odd (f .filled) next v
+          (ap (λ (z : ℕ). bitAnd z (getD words d 0)) (source-right odd (f .filled) next)
+          ∙ sym (lowest-by-words w theme e low (omega (arith, f .filled .within))))
 
-        right : x ≡ word w theme (even - 2)
-        right =
-            ap (λ (z : ℕ). bitAnd z (getD words 0 0)) (g .each odd (omega arith) (g .within))
-            ∙ ap (λ (z : ℕ). bitAnd (word w theme z) (getD words 0 0)) (sym (even-out (even - 2) same))
-            ∙ sym (words-lowest w theme e (even-lowest (even - 2) same) (omega (arith, g .within)))
+      right : x ≡ word w theme (even - 2)
+      right =
+          ap (λ (z : ℕ). bitAnd z (getD words 0 0)) (odd-filled .each odd (omega arith) (odd-filled .within))
+          ∙ ap (λ (z : ℕ). bitAnd (word w theme z) (getD words 0 0)) (sym (even-without (even - 2) same))
+          ∙ sym (lowest-by-words w theme e (even-lowest (even - 2) same) (omega (arith, odd-filled .within)))
+
+      pub even-more : FromEven w theme (set (set table odd v) (even - 2) x) (even - 2)
+      even-more = record { filled = filled-more (even - 2) odd-filled refl x right; is-even = same }

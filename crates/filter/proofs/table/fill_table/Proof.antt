@@ -24,8 +24,8 @@ returns c = sym (after-none wordBits (c .before .before .before .args .theme .no
 returns-2 : tie.Need-returns-2 Inv-loop μ-loop
 returns-2 c = sym (after-other wordBits (c .before .before .before .before .args .theme .now) _ (λ e. omega arith))
 
-words-alone-requires : tie.Need-words-alone-requires Inv-loop μ-loop
-words-alone-requires c κs = search needs
+interval-words-requires : tie.Need-interval-words-requires Inv-loop μ-loop
+interval-words-requires c κs = search needs
 
 cast-even : tie.Need-cast-even Inv-loop μ-loop
 cast-even c = search needs
@@ -52,7 +52,7 @@ slice-write-table-2 : tie.Need-slice-write-table-2 Inv-loop μ-loop
 slice-write-table-2 c = rw length-set (omega arith)
 
 loop-holds : tie.Need-loop-holds Inv-loop μ-loop
-loop-holds c = even-first wordBits _ (c .words-alone .ensures) (c .before .before .before .before .before .args .table .now) (omega arith)
+loop-holds c = even-first wordBits _ (c .interval-words .ensures) (c .before .before .before .before .before .args .table .now) (omega arith)
 
 sub-even-2 : tie.Need-sub-even-2 Inv-loop μ-loop
 sub-even-2 c = search needs
@@ -64,12 +64,12 @@ add-table-2 : tie.Need-add-table-2 Inv-loop μ-loop
 add-table-2 c = search needs
 
 mul-table-3 : tie.Need-mul-table-3 Inv-loop μ-loop
-mul-table-3 c = omega (arith, odd-source wordBits _ (c .before .before .words-alone .ensures) (c .before .loop .inv) (search needs))
+mul-table-3 c = omega (arith, odd-source wordBits _ (c .before .before .interval-words .ensures) (c .before .loop .inv) (search needs))
 
 slice-read-table : tie.Need-slice-read-table Inv-loop μ-loop
 slice-read-table c =
     let at-loop = c .before .before in
-    omega (arith, odd-source wordBits _ (at-loop .before .words-alone .ensures) (at-loop .loop .inv) (search needs), at-loop .loop .inv .filled .long)
+    omega (arith, odd-source wordBits _ (at-loop .before .interval-words .ensures) (at-loop .loop .inv) (search needs), at-loop .loop .inv .filled .long)
 
 lowest-requires : tie.Need-lowest-requires Inv-loop μ-loop
 lowest-requires c κs = search needs
@@ -107,7 +107,7 @@ loop-less c = search needs
 loop-again : tie.Need-loop-again Inv-loop μ-loop
 loop-again c =
     let at-loop = c .before .before .before .before in
-    even-more wordBits _ (at-loop .before .words-alone .ensures) (at-loop .loop .inv) (search needs) (c .before .lowest .ensures)
+    even-more wordBits _ (at-loop .before .interval-words .ensures) (at-loop .loop .inv) (search needs) (c .before .lowest .ensures)
 
 same-length : tie.Need-same-length Inv-loop μ-loop
 same-length c = search needs
@@ -126,7 +126,7 @@ fill-table-spec =
     μ-loop
     returns
     returns-2
-    words-alone-requires
+    interval-words-requires
     cast-even
     sub-even
     add-table

@@ -1,4 +1,4 @@
--- `filter::table::words_alone` meets its contract. The invariant: the words are right for the first i intervals, and the mark is
+-- `filter::table::interval_words` meets its contract. The invariant: the words are right for the first i intervals, and the mark is
 -- bit i. The measure is the notes left. Assumes nothing.
 use borrow.Author.Needs.{needs}
 use mathlib.Core.Path.{ap}
@@ -7,18 +7,18 @@ use native.Mathlib.Omega.{arith}
 use lib.ListN.{length}
 use Rattle.score.specs.declared.quantities.Interval.{Interval}
 use Rattle.filter.specs.Limits.{wordBits}
-use Rattle.filter.proofs.table.Alone.{Alone, alone-start, alone-more, alone-all}
-use Rattle.filter.proofs.table.words_alone.Statement.{statement}
-use Rattle.filter.proofs.table.words_alone.Tie as tie
+use Rattle.filter.proofs.table.IntervalWords.{Marked, marked-start, marked-more, marked-all}
+use Rattle.filter.proofs.table.interval_words.Statement.{statement}
+use Rattle.filter.proofs.table.interval_words.Tie as tie
 
 abbrev Inv-loop : tie.InvT-loop
-Inv-loop theme words₀ mark₀ i₀ words mark i = Alone wordBits theme i mark words
+Inv-loop theme words₀ mark₀ i₀ words mark i = Marked wordBits theme i mark words
 
 abbrev μ-loop : tie.MeasureT-loop
 μ-loop theme words₀ mark₀ i₀ words mark i = length theme - i
 
 loop-holds : tie.Need-loop-holds Inv-loop μ-loop
-loop-holds c = alone-start wordBits _ (omega arith)
+loop-holds c = marked-start wordBits _ (omega arith)
 
 add-loop : tie.Need-add-loop Inv-loop μ-loop
 add-loop c = omega (arith, c .loop .inv .within)
@@ -59,13 +59,13 @@ loop-less c = search needs
 loop-again : tie.Need-loop-again Inv-loop μ-loop
 loop-again c =
     let at-loop = c .before .before .before .before .before in
-    alone-more _ (at-loop .loop .inv) (search needs) (ap (λ (d : Interval). d .0) (c .before .interval-of .ensures))
+    marked-more _ (at-loop .loop .inv) (search needs) (ap (λ (d : Interval). d .0) (c .before .interval-of .ensures))
 
 returns : tie.Need-returns Inv-loop μ-loop
-returns c = alone-all (c .before .loop .inv) (search needs)
+returns c = marked-all (c .before .loop .inv) (search needs)
 
-pub words-alone-spec : {M : Type 1} → statement M
-words-alone-spec =
+pub interval-words-spec : {M : Type 1} → statement M
+interval-words-spec =
     tie.close
     (tie.spec
     Inv-loop

@@ -1,6 +1,6 @@
--- The words of one interval as one pass over the theme makes them: where i intervals are gone through, each has its bits below i
--- and ones from there on. Assumes nothing.
-use mathlib.Core.Path.{_≡_, sym, ap, ap₂, _∙_}
+-- The word of each interval alone, as one pass over the theme makes them: where i intervals are gone through, each has its bits
+-- below i and ones from there on. Assumes nothing.
+use mathlib.Core.Path.{_≡_, refl, sym, ap, ap₂, _∙_}
 use mathlib.Core.List.{List}
 use Prim.Native.Nat.{ℕ, _+_, _-_, _*_, _%_, _^_, _≤_, _<_, zero-le}
 use native.Mathlib.Nat.{mod-lt, mod-eq-of-lt, mod-add-mod, add-mod-mod, pow-suc, zero-lt-suc, zero-add}
@@ -18,12 +18,12 @@ use Rattle.score.specs.Limits.{highestSet}
 use Rattle.score.specs.Score.{pitch}
 use Rattle.score.specs.Sets.{interval}
 use Rattle.filter.specs.Table.{themeInterval, word}
-use Rattle.filter.specs.Lowest.{alone, wordsAlone, Lowest}
+use Rattle.filter.specs.Lowest.{alone, intervalWords, Lowest}
 use Rattle.filter.proofs.Words.{word-unique}
 use Rattle.filter.proofs.Lowest.{lowest-lt, alone-same, alone-other, word-lowest}
 
--- the mark is the bit of interval i, the next
-pub record Alone (w : ℕ) (theme : List ℕ) (i mark : ℕ) (words : List ℕ) : Type 0 where
+-- the mark is the bit of interval i, the next, and 0 from w on
+pub record Marked (w : ℕ) (theme : List ℕ) (i mark : ℕ) (words : List ℕ) : Type 0 where
   pub within : i ≤ length theme - 1
   pub long : length words ≡ 12
   pub marks : mark ≡ 2 ^ i % 2 ^ w
@@ -31,8 +31,8 @@ pub record Alone (w : ℕ) (theme : List ℕ) (i mark : ℕ) (words : List ℕ) 
   pub behind : (d : ℕ) → d < 12 → (q : ℕ) → q < w → q < i → bit (getD words d 0) q ≡ bit (alone d) (themeInterval theme q .0)
   pub ahead : (d : ℕ) → d < 12 → (q : ℕ) → q < w → i ≤ q → bit (getD words d 0) q ≡ 1
 
-pub alone-start : (w : ℕ) (theme : List ℕ) → 0 < w → Alone w theme 0 1 (replicate {A = ℕ} 12 (2 ^ w - 1))
-alone-start w theme wide =
+pub marked-start : (w : ℕ) (theme : List ℕ) → 0 < w → Marked w theme 0 1 (replicate {A = ℕ} 12 (2 ^ w - 1))
+marked-start w theme wide =
     record {
       within = zero-le;
       long = length-replicate {A = ℕ} 12 (2 ^ w - 1);
@@ -46,7 +46,7 @@ alone-start w theme wide =
     full d l = getD-replicate {A = ℕ} 12 d (2 ^ w - 1) 0 l
 
 -- the next interval, at: its word loses the marked bit, and the others stay
-module _ {w : ℕ} {theme : List ℕ} {i mark : ℕ} {words : List ℕ} (at : ℕ) (a : Alone w theme i mark words) (h : i + 1 < length theme)
+module _ {w : ℕ} {theme : List ℕ} {i mark : ℕ} {words : List ℕ} (at : ℕ) (a : Marked w theme i mark words) (h : i + 1 < length theme)
     (step : at ≡ interval (pitch (getD theme i 0)) (pitch (getD theme (i + 1) 0)) .0) where
   e : at ≡ themeInterval theme i .0
   e = step ∙ ap₂ (λ (a b : ℕ). interval (pitch (getD theme a 0)) (pitch (getD theme b 0)) .0) (omega arith) (omega arith)
@@ -97,8 +97,8 @@ module _ {w : ℕ} {theme : List ℕ} {i mark : ℕ} {words : List ℕ} (at : �
   behind′ d l q m n (yes f) = rw f (next-bit d l (omega arith) (ℕ-discrete at d) ∙ ap (bit (alone d)) e)
   behind′ d l q m n (no f) = same-bit d l q m f (ℕ-discrete at d) ∙ a .behind d l q m (omega arith)
 
-  pub alone-more : Alone w theme (i + 1) (mark * 2 ^ 1 % 2 ^ w) (set words at v)
-  alone-more =
+  pub marked-more : Marked w theme (i + 1) (mark * 2 ^ 1 % 2 ^ w) (set words at v)
+  marked-more =
       record {
         within = omega arith;
         long = length-set words at v ∙ a .long;
@@ -110,29 +110,28 @@ module _ {w : ℕ} {theme : List ℕ} {i mark : ℕ} {words : List ℕ} (at : �
 
 -- ---- all of them
 
-words-length : (w : ℕ) (theme : List ℕ) → length (wordsAlone w theme) ≡ 12
-unfolding wordsAlone
+words-length : (w : ℕ) (theme : List ℕ) → length (intervalWords w theme) ≡ 12
+unfolding intervalWords
 words-length w theme = count-map-length (λ (d : ℕ). word w theme (alone d)) 0 12
 
-alone-at : (w : ℕ) (theme : List ℕ) (d : ℕ) → d < 12 → getD (wordsAlone w theme) d 0 ≡ word w theme (alone d)
-unfolding wordsAlone
-alone-at w theme d h = count-map-at (λ (d : ℕ). word w theme (alone d)) 0 12 d 0 h ∙ ap (λ (d : ℕ). word w theme (alone d)) (zero-add d)
+module _ (w : ℕ) (theme : List ℕ) {words : List ℕ} (eq : words ≡ intervalWords w theme) where
+  pub words-at : (d : ℕ) → d < 12 → getD words d 0 ≡ word w theme (alone d)
+  unfolding intervalWords
+  words-at d h =
+      ap (λ (ws : List ℕ). getD ws d 0) eq
+      ∙ count-map-at (λ (d : ℕ). word w theme (alone d)) 0 12 d 0 h ∙ ap (λ (d : ℕ). word w theme (alone d)) (zero-add d)
 
-pub alone-all : {w : ℕ} {theme : List ℕ} {i mark : ℕ} {words : List ℕ} → Alone w theme i mark words → length theme ≤ i + 1 → words ≡ wordsAlone w theme
-alone-all {w} {theme} {i} {mark} {words} a h =
-    ext-getD 0 words (wordsAlone w theme) (a .long ∙ sym (words-length w theme))
+  -- with them, the word of a set by its lowest interval
+  pub lowest-by-words : {set d : ℕ} → Lowest set d → set < highestSet → word w theme set ≡ bitAnd (word w theme (bitOr set (set + 1))) (getD words d 0)
+  lowest-by-words {set} {d} low h =
+      let l : d < 12 = lowest-lt low h in
+      word-lowest w theme set d low l ∙ ap (bitAnd (word w theme (bitOr set (set + 1)))) (sym (words-at d l))
+
+pub marked-all : {w : ℕ} {theme : List ℕ} {i mark : ℕ} {words : List ℕ} → Marked w theme i mark words → length theme ≤ i + 1 → words ≡ intervalWords w theme
+marked-all {w} {theme} {i} {mark} {words} a h =
+    ext-getD 0 words (intervalWords w theme) (a .long ∙ sym (words-length w theme))
     (λ d l.
     let k : d < 12 = omega (arith, a .long) in
     word-unique w theme (alone d) (getD words d 0) (a .small d k) (λ q m n. a .behind d k q m (omega arith))
     (λ q m n. a .ahead d k q m (omega (arith, a .within)))
-    ∙ sym (alone-at w theme d k))
-
-module _ (w : ℕ) (theme : List ℕ) {words : List ℕ} (eq : words ≡ wordsAlone w theme) where
-  pub words-at : (d : ℕ) → d < 12 → getD words d 0 ≡ word w theme (alone d)
-  words-at d h = ap (λ (ws : List ℕ). getD ws d 0) eq ∙ alone-at w theme d h
-
-  -- with them, the word of a set by its lowest interval
-  pub words-lowest : {set d : ℕ} → Lowest set d → set < highestSet → word w theme set ≡ bitAnd (word w theme (bitOr set (set + 1))) (getD words d 0)
-  words-lowest {set} {d} low h =
-      let l : d < 12 = lowest-lt low h in
-      word-lowest w theme set d low l ∙ ap (bitAnd (word w theme (bitOr set (set + 1)))) (sym (words-at d l))
+    ∙ sym (words-at w theme refl d k))
