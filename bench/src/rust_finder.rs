@@ -274,8 +274,9 @@ fn one_track(cells: &[u8], sets: &mut [u16]) {
 // ---- the theme table
 
 /// From 4095, the set of no interval, downward: each word is that of the set without its lowest interval, which is a larger
-/// number, less the places of that interval. Of an even set that is interval 0. Inlined wherever it is called, also where it
-/// is timed by itself, so that what is taken off a page is what the page took.
+/// number, less the places of that interval. Of an even set that is interval 0. With 64 words and the masks no index is
+/// checked. Inlined wherever it is called, also where it is timed by itself, so that what is taken off a page is what the
+/// page took.
 #[inline(always)]
 pub fn fill(theme: &[u8], table: &mut [u32]) {
     let table: &mut [u32; 4096] = table.try_into().unwrap();
