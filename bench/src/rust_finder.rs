@@ -1,5 +1,5 @@
-//! The same work in Rust, written for speed and apart from the library: its own checks, preparation, theme table, filter
-//! and two ways to check a column.
+//! The same work in Rust, written for speed and apart from the library: its own checks, preparation, filter and two ways to
+//! check a column. Only the theme table is filled by the library's method.
 //!
 //! `Direct` goes from start to start and looks for each note among a column's cells, as the library does. `Bits` takes
 //! all starts of a column at once: a column's pitches are the bits of one word, a note moves the word, and what is left

@@ -1,5 +1,5 @@
--- Laws of this crate's definitions: `Words` (the theme table), `Lowest` (a word by the lowest interval of its set), `Unique`
--- (each contract settles its call).
+-- Laws of this crate's definitions: `Words` (the theme table), `LowestInterval` (a word by the lowest interval of its set),
+-- `Unique` (each contract settles its call).
 pub mod Words
-pub mod Lowest
+mod LowestInterval
 pub mod Unique

@@ -12,7 +12,7 @@ ghost use Prim.Native.Nat.{_<_};
 ghost use Rattle.score.specs.Limits.{highestSet};
 ghost use Rattle.filter.specs.Limits.{wordBits};
 ghost use Rattle.filter.specs.Table.{tableAfter};
-ghost use Rattle.filter.specs.Lowest.{intervalWords, Lowest};
+ghost use Rattle.filter.specs.LowestInterval.{intervalWords, LowestInterval};
 
 // The word of each interval alone: a 0 for each place where it stands in the theme. From the 33rd interval on the mark is 0 and
 // takes nothing away.
@@ -35,9 +35,9 @@ fn interval_words(theme: &[u8]) -> [u32; 12]
 }
 
 // The lowest interval of a set that has one: the place of its lowest 0, which is the lowest 1 of `!set`.
-fn lowest(set: usize) -> usize
+fn lowest_interval(set: usize) -> usize
     requires { ⌜ set < highestSet ⌝ }
-    ensures { λ d. ⌜ Lowest set d ⌝ }
+    ensures { λ d. ⌜ LowestInterval set d ⌝ }
 {
     usize::trailing_zeros(!set) as usize
 }
@@ -45,17 +45,20 @@ fn lowest(set: usize) -> usize
 // The whole table of a theme, whatever it held. Of a theme with more than 33 notes a word has the first 32 intervals. A theme
 // without notes, and a table that is not 4,096 long, leave it as it is.
 //
-// Adding 1 to a set turns its lowest 0 into a 1 and the ones below it into zeros, and the or puts those back: `set | (set + 1)` is
-// the set without its lowest interval. It is larger, so from 4095 downward its entry stands there already. By hand, with the
-// first set of the manual's score K: 3451 = 4095 - 4 - 128 - 512, so it has 2, 7 and 9.
+// Adding 1 to a set turns its lowest 0 into a 1 and the ones below it into zeros, and the or puts those back. So
+// `set | (set + 1)` is the set without its lowest interval. That is a larger number, so from 4095 downward its entry is already
+// there. By hand, with the first set of the manual's score K: 3451 = 4095 - 4 - 128 - 512, so it has 2, 7 and 9.
 //
 //     entry 3451 = entry 3455 & word of 2        3451 | 3452 = 3455
 //     entry 3455 = entry 3583 & word of 7        3455 | 3456 = 3583
 //     entry 3583 = entry 4095 & word of 9        3583 | 3584 = 4095
 //     entry 3450 = entry 3451 & word of 0        3450 | 3451 = 3451
 //
-// The last is even, as half of the sets are: an even set has 0, and without it, it is the odd set after it. So a turn makes two
-// entries, an odd one and from it the even one before it.
+// The theme 60 62 69 has the interval 2 and then 7, so the word of 2 is 0xffff_fffe, the word of 7 is 0xffff_fffd, those of the
+// others are ones, and entries 3451 and 3450 are both 0xffff_fffc.
+//
+// 3450 is even, as half of the sets are. An even set has the interval 0, and without it is the odd set after it. So each turn
+// fills two entries: an odd one, and from it the even one before it.
 pub fn fill_table(theme: &[u8], table: &mut [u32])
     ensures { λ _. ⌜ now (table .exit) ≡ tableAfter wordBits (now (theme .entry)) (now (table .entry)) ⌝ }
 {
@@ -73,7 +76,7 @@ pub fn fill_table(theme: &[u8], table: &mut [u32])
     while 0 < even {
         even -= 2;
         let odd = even + 1;
-        table[odd] = table[odd | (odd + 1)] & words[lowest(odd)];
+        table[odd] = table[odd | (odd + 1)] & words[lowest_interval(odd)];
         table[even] = table[odd] & words[0];
     }
 }

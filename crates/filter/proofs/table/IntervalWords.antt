@@ -1,5 +1,5 @@
--- The word of each interval alone, as one pass over the theme makes them: where i intervals are gone through, each has its bits
--- below i and ones from there on. Assumes nothing.
+-- The word of each interval alone, as one pass over the theme makes them: after i intervals each word has its bits below i, and
+-- ones from there on. Assumes nothing.
 use mathlib.Core.Path.{_≡_, refl, sym, ap, ap₂, _∙_}
 use mathlib.Core.List.{List}
 use Prim.Native.Nat.{ℕ, _+_, _-_, _*_, _%_, _^_, _≤_, _<_, zero-le}
@@ -18,9 +18,9 @@ use Rattle.score.specs.Limits.{highestSet}
 use Rattle.score.specs.Score.{pitch}
 use Rattle.score.specs.Sets.{interval}
 use Rattle.filter.specs.Table.{themeInterval, word}
-use Rattle.filter.specs.Lowest.{alone, intervalWords, Lowest}
+use Rattle.filter.specs.LowestInterval.{alone, intervalWords, LowestInterval}
 use Rattle.filter.proofs.Words.{word-unique}
-use Rattle.filter.proofs.Lowest.{lowest-lt, alone-same, alone-other, word-lowest}
+use Rattle.filter.proofs.LowestInterval.{lowest-lt, alone-same, alone-other, word-lowest}
 
 -- the mark is the bit of interval i, the next, and 0 from w on
 pub record Marked (w : ℕ) (theme : List ℕ) (i mark : ℕ) (words : List ℕ) : Type 0 where
@@ -122,7 +122,7 @@ module _ (w : ℕ) (theme : List ℕ) {words : List ℕ} (eq : words ≡ interva
       ∙ count-map-at (λ (d : ℕ). word w theme (alone d)) 0 12 d 0 h ∙ ap (λ (d : ℕ). word w theme (alone d)) (zero-add d)
 
   -- with them, the word of a set by its lowest interval
-  pub lowest-by-words : {set d : ℕ} → Lowest set d → set < highestSet → word w theme set ≡ bitAnd (word w theme (bitOr set (set + 1))) (getD words d 0)
+  pub lowest-by-words : {set d : ℕ} → LowestInterval set d → set < highestSet → word w theme set ≡ bitAnd (word w theme (bitOr set (set + 1))) (getD words d 0)
   lowest-by-words {set} {d} low h =
       let l : d < 12 = lowest-lt low h in
       word-lowest w theme set d low l ∙ ap (bitAnd (word w theme (bitOr set (set + 1)))) (sym (words-at d l))

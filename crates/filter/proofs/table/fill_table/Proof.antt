@@ -7,8 +7,8 @@ use lib.ListN.{length-set}
 use Rattle.filter.specs.Limits.{wordBits}
 use Rattle.filter.specs.Table.{themeTable}
 use Rattle.filter.proofs.Words.{after-none, after-other, after-filled}
-use Rattle.filter.proofs.Lowest.{lowest-lt}
-use Rattle.filter.proofs.table.Filling.{FromEven, even-first, odd-source, even-more, filled-all}
+use Rattle.filter.proofs.LowestInterval.{lowest-lt}
+use Rattle.filter.proofs.table.Downward.{FromEven, even-first, odd-source, even-more, right-all}
 use Rattle.filter.proofs.table.fill_table.Statement.{statement}
 use Rattle.filter.proofs.table.fill_table.Tie as tie
 
@@ -69,16 +69,16 @@ mul-table-3 c = omega (arith, odd-source wordBits _ (c .before .before .interval
 slice-read-table : tie.Need-slice-read-table Inv-loop μ-loop
 slice-read-table c =
     let at-loop = c .before .before in
-    omega (arith, odd-source wordBits _ (at-loop .before .interval-words .ensures) (at-loop .loop .inv) (search needs), at-loop .loop .inv .filled .long)
+    omega (arith, odd-source wordBits _ (at-loop .before .interval-words .ensures) (at-loop .loop .inv) (search needs), at-loop .loop .inv .right .long)
 
-lowest-requires : tie.Need-lowest-requires Inv-loop μ-loop
-lowest-requires c κs = search needs
+lowest-interval-requires : tie.Need-lowest-interval-requires Inv-loop μ-loop
+lowest-interval-requires c κs = search needs
 
 mul-table-4 : tie.Need-mul-table-4 Inv-loop μ-loop
-mul-table-4 c = omega (arith, lowest-lt (c .lowest .ensures) (omega (arith, c .before .before .before .loop .inv .filled .within)))
+mul-table-4 c = omega (arith, lowest-lt (c .lowest-interval .ensures) (omega (arith, c .before .before .before .loop .inv .right .within)))
 
 array-read-table-2 : tie.Need-array-read-table-2 Inv-loop μ-loop
-array-read-table-2 c = omega (arith, lowest-lt (c .lowest .ensures) (omega (arith, c .before .before .before .loop .inv .filled .within)))
+array-read-table-2 c = omega (arith, lowest-lt (c .lowest-interval .ensures) (omega (arith, c .before .before .before .loop .inv .right .within)))
 
 mul-table-5 : tie.Need-mul-table-5 Inv-loop μ-loop
 mul-table-5 c = search needs
@@ -90,7 +90,7 @@ mul-table-6 : tie.Need-mul-table-6 Inv-loop μ-loop
 mul-table-6 c = search needs
 
 slice-read-table-2 : tie.Need-slice-read-table-2 Inv-loop μ-loop
-slice-read-table-2 c = rw length-set (omega (arith, c .before .before .before .before .loop .inv .filled .long))
+slice-read-table-2 c = rw length-set (omega (arith, c .before .before .before .before .loop .inv .right .long))
 
 array-read-table-3 : tie.Need-array-read-table-3 Inv-loop μ-loop
 array-read-table-3 c = search needs
@@ -99,7 +99,7 @@ mul-table-7 : tie.Need-mul-table-7 Inv-loop μ-loop
 mul-table-7 c = search needs
 
 slice-write-table-4 : tie.Need-slice-write-table-4 Inv-loop μ-loop
-slice-write-table-4 c = rw length-set (omega (arith, c .before .before .before .before .loop .inv .filled .long))
+slice-write-table-4 c = rw length-set (omega (arith, c .before .before .before .before .loop .inv .right .long))
 
 loop-less : tie.Need-loop-less Inv-loop μ-loop
 loop-less c = search needs
@@ -107,7 +107,7 @@ loop-less c = search needs
 loop-again : tie.Need-loop-again Inv-loop μ-loop
 loop-again c =
     let at-loop = c .before .before .before .before in
-    even-more wordBits _ (at-loop .before .interval-words .ensures) (at-loop .loop .inv) (search needs) (c .before .lowest .ensures)
+    even-more wordBits _ (at-loop .before .interval-words .ensures) (at-loop .loop .inv) (search needs) (c .before .lowest-interval .ensures)
 
 same-length : tie.Need-same-length Inv-loop μ-loop
 same-length c = search needs
@@ -115,7 +115,7 @@ same-length c = search needs
 returns-3 : tie.Need-returns-3 Inv-loop μ-loop
 unfolding themeTable
 returns-3 c =
-    filled-all (c .before .loop .inv .filled) (search needs)
+    right-all (c .before .loop .inv .right) (search needs)
     ∙ sym (after-filled wordBits _ _ (c .before .before .before .before .if1 .left) (c .before .before .before .if2 .left))
 
 pub fill-table-spec : {M : Type 1} → statement M
@@ -141,7 +141,7 @@ fill-table-spec =
     add-table-2
     mul-table-3
     slice-read-table
-    lowest-requires
+    lowest-interval-requires
     mul-table-4
     array-read-table-2
     mul-table-5

@@ -1,5 +1,5 @@
--- `filter::table::interval_words` meets its contract. The invariant: the words are right for the first i intervals, and the mark is
--- bit i. The measure is the notes left. Assumes nothing.
+-- `filter::table::interval_words` meets its contract. The invariant: the words are right for the first i intervals, and the
+-- mark is bit i. The measure is the notes left. Assumes nothing.
 use borrow.Author.Needs.{needs}
 use mathlib.Core.Path.{ap}
 use Prim.Native.Nat.{_-_}

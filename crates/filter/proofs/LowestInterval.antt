@@ -16,13 +16,13 @@ use Rattle.theory.proofs.Bits.{bit-lt, bit-and, bit-zero, bit-suc, bit-ones, bi
 use Rattle.theory.proofs.Masks.{put-other}
 use Rattle.score.specs.Limits.{highestSet}
 use Rattle.filter.specs.Table.{themeInterval, word}
-use Rattle.filter.specs.Lowest.{alone, Lowest}
+use Rattle.filter.specs.LowestInterval.{alone, LowestInterval}
 use Rattle.filter.proofs.Words.{word-in, word-out, word-lt, word-unique}
 
 -- ---- the lowest interval
 
 -- of an even set it is 0, and without it the set is the next one
-pub even-lowest : (set : ℕ) → set % 2 ≡ 0 → Lowest set 0
+pub even-lowest : (set : ℕ) → set % 2 ≡ 0 → LowestInterval set 0
 even-lowest set e = record { present = bit-zero set ∙ e; below = λ q l. absurd (omega arith) }
 
 pub even-without : (set : ℕ) → set % 2 ≡ 0 → bitOr set (set + 1) ≡ set + 1
@@ -31,25 +31,25 @@ even-without set e =
     omega (arith, e, or-step set (set + 1), ap (bitOr (set / 2)) h, or-self (set / 2))
 
 -- of an odd set, by that of its half
-odd-lowest : {set d : ℕ} → Lowest (set / 2) d → set % 2 ≡ 1 → Lowest set (suc d)
+odd-lowest : {set d : ℕ} → LowestInterval (set / 2) d → set % 2 ≡ 1 → LowestInterval set (suc d)
 odd-lowest {set} {d} low e = record { present = bit-suc set d ∙ low .present; below = below′ }
   where
     below′ : (q : ℕ) → q < suc d → bit set q ≡ 1
     below′ zero l = bit-zero set ∙ e
     below′ (suc q) l = bit-suc set q ∙ low .below q (le-of-suc-le-suc l)
 
-halved : {set d : ℕ} → Lowest set (suc d) → Lowest (set / 2) d
+halved : {set d : ℕ} → LowestInterval set (suc d) → LowestInterval (set / 2) d
 halved {set} {d} low =
     record { present = sym (bit-suc set d) ∙ low .present; below = λ q l. sym (bit-suc set q) ∙ low .below (suc q) (suc-le-suc l) }
 
--- counting the ones below it, as `!set` has zeros there
-pub lowest-counted : (k set : ℕ) → set + 1 < 2 ^ k → Lowest set (trailingZeros k (2 ^ k - 1 - set))
+-- it is the number of zeros at the end of `!set`
+pub lowest-counted : (k set : ℕ) → set + 1 < 2 ^ k → LowestInterval set (trailingZeros k (2 ^ k - 1 - set))
 unfolding trailingZeros
 lowest-counted zero set h = absurd (omega arith)
 lowest-counted (suc k) set h = step (set % 2) refl (λ q. lowest-counted k (set / 2) q)
   where
-    step : (b : ℕ) → set % 2 ≡ b → (set / 2 + 1 < 2 ^ k → Lowest (set / 2) (trailingZeros k (2 ^ k - 1 - set / 2)))
-        → Lowest set (trailingZeros (suc k) (2 ^ suc k - 1 - set))
+    step : (b : ℕ) → set % 2 ≡ b → (set / 2 + 1 < 2 ^ k → LowestInterval (set / 2) (trailingZeros k (2 ^ k - 1 - set / 2)))
+        → LowestInterval set (trailingZeros (suc k) (2 ^ suc k - 1 - set))
     step zero e ih =
         let t : (2 ^ suc k - 1 - set) % 2 ≡ 1 = omega (arith, pow-suc 2 k) in
         rw t (even-lowest set e)
@@ -59,8 +59,8 @@ lowest-counted (suc k) set h = step (set % 2) refl (λ q. lowest-counted k (set 
         rw (t, n) (odd-lowest (ih (omega (arith, pow-suc 2 k))) e)
     step (suc (suc b)) e ih = absurd (omega (arith, mod-lt set (zero-lt-suc 1)))
 
--- with 1 added, the lowest 0 becomes a 1 and the ones below it zeros; or-ed with the set, the set with that 1 more
-pub lowest-without : (d set : ℕ) → Lowest set d → bitOr set (set + 1) ≡ bitOr set (2 ^ d)
+-- adding 1 turns the lowest 0 into a 1 and the ones below it into zeros; or-ed with the set, that is the set with one 1 more
+pub lowest-without : (d set : ℕ) → LowestInterval set d → bitOr set (set + 1) ≡ bitOr set (2 ^ d)
 lowest-without zero set low =
     let e : set % 2 ≡ 0 = sym (bit-zero set) ∙ low .present in
     omega (arith, e, even-without set e, or-step set 1, or-zero-r (set / 2))
@@ -72,7 +72,7 @@ lowest-without (suc d) set low =
     omega (arith, e, or-step set (set + 1), ap (bitOr (set / 2)) h, or-step set (2 ^ suc d), ap (bitOr (set / 2)) p, pow-suc 2 d, ih)
 
 -- a set below 4095 has one of the twelve
-pub lowest-lt : {set d : ℕ} → Lowest set d → set < highestSet → d < 12
+pub lowest-lt : {set d : ℕ} → LowestInterval set d → set < highestSet → d < 12
 lowest-lt {set} {d} low h = pick (decLe 12 d)
   where
     pick : Dec (12 ≤ d) → d < 12
@@ -97,7 +97,7 @@ module _ (w : ℕ) (theme : List ℕ) where
       word-unique w theme highestSet (2 ^ w - 1) (ones-lt w)
       (λ i l m. bit-ones i w l ∙ sym (bit-ones (themeInterval theme i .0) 12 (mod-lt _ (zero-lt-suc 11)))) (λ i l m. bit-ones i w l)
 
-  pub word-lowest : (set d : ℕ) → Lowest set d → d < 12
+  pub word-lowest : (set d : ℕ) → LowestInterval set d → d < 12
       → word w theme set ≡ bitAnd (word w theme (bitOr set (set + 1))) (word w theme (alone d))
   word-lowest set d low h =
       bit-ext w (word w theme set) (bitAnd (word w theme without) (word w theme (alone d))) (word-lt w theme set)

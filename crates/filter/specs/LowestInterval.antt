@@ -17,6 +17,6 @@ unfoldable pub intervalWords : (w : ℕ) (theme : List ℕ) → List ℕ
 intervalWords w theme = map (λ d. word w theme (alone d)) (count 0 12)
 
 -- d is the lowest interval of the set: its bit is 0, and those below it are 1
-pub record Lowest (set d : ℕ) : Type 0 where
+pub record LowestInterval (set d : ℕ) : Type 0 where
   pub present : bit set d ≡ 0
   pub below : (q : ℕ) → q < d → bit set q ≡ 1

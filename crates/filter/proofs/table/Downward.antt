@@ -1,4 +1,4 @@
--- A table that is filled from its last entry downward: the entries from some place on are right. `Filled` is over any
+-- A table that is filled from its last entry downward: the entries from some place on are right. `RightFrom` is over any
 -- entries, `FromEven` of the theme's table. Assumes nothing.
 use mathlib.Core.Path.{_≡_, refl, sym, ap, _∙_}
 use mathlib.Core.List.{List, map}
@@ -11,29 +11,30 @@ use lib.ListN.{length, getD, set, length-set}
 use lib.Seq.{getD-set-same, getD-set-other, ext-getD}
 use Rattle.theory.specs.Lists.{count}
 use Rattle.theory.proofs.Lists.{count-map-length, count-map-at}
-use Rattle.score.specs.Limits.{tableWords}
+use Rattle.score.specs.Limits.{tableWords, highestSet}
 use Rattle.filter.specs.Table.{word}
-use Rattle.filter.specs.Lowest.{intervalWords, Lowest}
-use Rattle.filter.proofs.Lowest.{even-lowest, even-without, word-none}
+use Rattle.filter.specs.LowestInterval.{intervalWords, LowestInterval}
+use Rattle.filter.proofs.LowestInterval.{even-lowest, even-without, word-none}
 use Rattle.filter.proofs.table.IntervalWords.{words-at, lowest-by-words}
 
-pub record Filled (entry : ℕ → ℕ) (table : List ℕ) (from : ℕ) : Type 0 where
+pub record RightFrom (entry : ℕ → ℕ) (table : List ℕ) (from : ℕ) : Type 0 where
   pub within : from < tableWords
   pub long : length table ≡ tableWords
   pub each : (s : ℕ) → from ≤ s → s < tableWords → getD table s 0 ≡ entry s
 
-pub filled-last : {entry : ℕ → ℕ} (table : List ℕ) (x : ℕ) → length table ≡ tableWords → x ≡ entry 4095 → Filled entry (set table 4095 x) 4095
-filled-last {entry} table x l e =
+pub right-last : {entry : ℕ → ℕ} (table : List ℕ) (x : ℕ) → length table ≡ tableWords → x ≡ entry highestSet
+    → RightFrom entry (set table highestSet x) highestSet
+right-last {entry} table x l e =
     record {
       within = omega arith;
-      long = length-set table 4095 x ∙ l;
-      each = λ s a b. let n : s ≡ 4095 = omega arith in rw n (getD-set-same table 4095 x 0 (omega (arith, l)) ∙ e);
+      long = length-set table highestSet x ∙ l;
+      each = λ s a b. let n : s ≡ highestSet = omega arith in rw n (getD-set-same table highestSet x 0 (omega (arith, l)) ∙ e);
     }
 
 -- an entry more
-module _ {entry : ℕ → ℕ} {table : List ℕ} {from : ℕ} (k : ℕ) (f : Filled entry table from) (n : k + 1 ≡ from) where
-  pub filled-more : (x : ℕ) → x ≡ entry k → Filled entry (set table k x) k
-  filled-more x e =
+module _ {entry : ℕ → ℕ} {table : List ℕ} {from : ℕ} (k : ℕ) (f : RightFrom entry table from) (n : k + 1 ≡ from) where
+  pub right-more : (x : ℕ) → x ≡ entry k → RightFrom entry (set table k x) k
+  right-more x e =
       record {
         within = omega (arith, f .within);
         long = length-set table k x ∙ f .long;
@@ -54,8 +55,8 @@ module _ {entry : ℕ → ℕ} {table : List ℕ} {from : ℕ} (k : ℕ) (f : Fi
   pub source-right : getD table (bitOr k (k + 1)) 0 ≡ entry (bitOr k (k + 1))
   source-right = f .each (bitOr k (k + 1)) source-there source-within
 
-pub filled-all : {entry : ℕ → ℕ} {table : List ℕ} {from : ℕ} → Filled entry table from → from ≡ 0 → table ≡ map entry (count 0 tableWords)
-filled-all {entry} {table} {from} f z =
+pub right-all : {entry : ℕ → ℕ} {table : List ℕ} {from : ℕ} → RightFrom entry table from → from ≡ 0 → table ≡ map entry (count 0 tableWords)
+right-all {entry} {table} {from} f z =
     ext-getD 0 table (map entry (count 0 tableWords)) (f .long ∙ sym (count-map-length entry 0 tableWords))
     (λ s l.
     let k : s < tableWords = omega (arith, f .long) in
@@ -64,14 +65,15 @@ filled-all {entry} {table} {from} f z =
 -- ---- the theme's table: an odd entry and the even one before it
 
 pub record FromEven (w : ℕ) (theme table : List ℕ) (even : ℕ) : Type 0 where
-  pub filled : Filled (word w theme) table even
+  pub right : RightFrom (word w theme) table even
   pub is-even : even % 2 ≡ 0
 
 module _ (w : ℕ) (theme : List ℕ) {words : List ℕ} (e : words ≡ intervalWords w theme) where
-  pub even-first : (table : List ℕ) → length table ≡ tableWords → FromEven w theme (set (set table 4095 (2 ^ w - 1)) 4094 (getD words 0 0)) 4094
+  pub even-first : (table : List ℕ) → length table ≡ tableWords
+      → FromEven w theme (set (set table highestSet (2 ^ w - 1)) (highestSet - 1) (getD words 0 0)) (highestSet - 1)
   even-first table l =
       record {
-        filled = filled-more 4094 (filled-last table (2 ^ w - 1) l (word-none w theme)) refl (getD words 0 0) (words-at w theme e 0 (omega arith));
+        right = right-more (highestSet - 1) (right-last table (2 ^ w - 1) l (word-none w theme)) refl (getD words 0 0) (words-at w theme e 0 (omega arith));
         is-even = refl;
       }
 
@@ -83,9 +85,9 @@ module _ (w : ℕ) (theme : List ℕ) {words : List ℕ} (e : words ≡ interval
     next = omega (arith, f .is-even)
 
     pub odd-source : bitOr odd (odd + 1) < tableWords
-    odd-source = source-within odd (f .filled) next
+    odd-source = source-within odd (f .right) next
 
-    module _ {d : ℕ} (low : Lowest odd d) where
+    module _ {d : ℕ} (low : LowestInterval odd d) where
       abbrev v : ℕ
       v = bitAnd (getD table (bitOr odd (odd + 1)) 0) (getD words d 0)
 
@@ -95,17 +97,17 @@ module _ (w : ℕ) (theme : List ℕ) {words : List ℕ} (e : words ≡ interval
       same : (even - 2) % 2 ≡ 0
       same = omega (arith, f .is-even)
 
-      odd-filled : Filled (word w theme) (set table odd v) odd
-      odd-filled =
-          filled-more odd (f .filled) next v
-          (ap (λ (z : ℕ). bitAnd z (getD words d 0)) (source-right odd (f .filled) next)
-          ∙ sym (lowest-by-words w theme e low (omega (arith, f .filled .within))))
+      odd-right : RightFrom (word w theme) (set table odd v) odd
+      odd-right =
+          right-more odd (f .right) next v
+          (ap (λ (z : ℕ). bitAnd z (getD words d 0)) (source-right odd (f .right) next)
+          ∙ sym (lowest-by-words w theme e low (omega (arith, f .right .within))))
 
-      right : x ≡ word w theme (even - 2)
-      right =
-          ap (λ (z : ℕ). bitAnd z (getD words 0 0)) (odd-filled .each odd (omega arith) (odd-filled .within))
+      even-right : x ≡ word w theme (even - 2)
+      even-right =
+          ap (λ (z : ℕ). bitAnd z (getD words 0 0)) (odd-right .each odd (omega arith) (odd-right .within))
           ∙ ap (λ (z : ℕ). bitAnd (word w theme z) (getD words 0 0)) (sym (even-without (even - 2) same))
-          ∙ sym (lowest-by-words w theme e (even-lowest (even - 2) same) (omega (arith, odd-filled .within)))
+          ∙ sym (lowest-by-words w theme e (even-lowest (even - 2) same) (omega (arith, odd-right .within)))
 
       pub even-more : FromEven w theme (set (set table odd v) (even - 2) x) (even - 2)
-      even-more = record { filled = filled-more (even - 2) odd-filled refl x right; is-even = same }
+      even-more = record { right = right-more (even - 2) odd-right refl x even-right; is-even = same }
