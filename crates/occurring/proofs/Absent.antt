@@ -5,23 +5,20 @@ use mathlib.Core.Path.{_≡_, refl, sym, ap, _∙_}
 use mathlib.Core.Bool.{Bool, true, false, true≢false}
 use mathlib.Core.List.{List, [], map, List·Memᴰ as In}
 use Prim.Native.Nat.{ℕ, suc, _+_, _-_, _≤_, _<_}
-use native.Mathlib.Decide.{decLt}
 use native.Mathlib.Omega.{arith}
 use lib.Dec.{eqb}
-use lib.ListN.{length, getD, take, length-map, List·getD-eq-default}
-use lib.Seq.{getD-take, length-take-le}
+use lib.ListN.{length, getD}
 use borrow.Author.Tests.{eqb-true}
 use Rattle.theory.specs.Bits.{bit}
 use Rattle.theory.specs.Lists.{some, count, first}
 use Rattle.theory.specs.Pages.{hits}
-use Rattle.theory.proofs.Lists.{map-at, count-at, count-length, some-first, first-there, none-over}
+use Rattle.theory.proofs.Lists.{count-at, count-length, some-first, first-there, none-over}
 use Rattle.theory.proofs.Hits.{hits-same}
 use Rattle.theory.proofs.Counts.{hits-none}
 use Rattle.score.specs.Limits.{highestSet, tableWords}
 use Rattle.score.specs.Score.{scoreOf, heardOf, heardFrom, note}
 use Rattle.score.proofs.Columns.{score-length}
 use Rattle.score.proofs.Intervals.{interval-lt}
-use Rattle.score.proofs.Heard.{heard-length, number-at, number-rises}
 use Rattle.summing.specs.Summary.{summary}
 use Rattle.summing.proofs.Summaries.{SomeHas, summary-bit}
 use Rattle.ways.specs.declared.way.Way.{Way}
@@ -32,6 +29,7 @@ use Rattle.filter.specs.Table.{themeInterval, themeTable}
 use Rattle.walking.specs.Starts.{Place, starts, hit}
 use Rattle.walking.proofs.Order.{in-starts}
 use Rattle.search.specs.Pairs.{plainSearch, entriesOf, candidateOf}
+use Rattle.search.proofs.Entries.{entry-is, entry-within, entries-small}
 use Rattle.search.proofs.Filtered.{candidate-iff}
 use Rattle.occurring.specs.Occurring.{lacking, quickList}
 
@@ -52,37 +50,6 @@ lacking-which theme set e =
     let l : i < length theme - 1 = omega (arith, w, count-length 0 (length theme - 1)) in
     let at : getD places i 0 ≡ i = count-at 0 (length theme - 1) i 0 l ∙ omega arith in
     record { i = i; within = omega (arith, l); absent = eqb-true _ _ (ap test (sym at) ∙ first-there test places 0 w) }
-
--- ---- the entries are sets
-
-module _ (score : List (List ℕ)) (sets : List ℕ) where
-  abbrev front : List ℕ
-  front = take (length (heardOf score) - 1) (heardFrom 1 score)
-
-  front-length : length front ≡ length (heardOf score) - 1
-  front-length = length-take-le (length (heardOf score) - 1) (heardFrom 1 score) (omega (arith, heard-length 1 score))
-
-  entry-is : (x : ℕ) → x + 1 < length (heardOf score) → getD (entriesOf score sets) x 0 ≡ getD sets (getD (heardFrom 1 score) x 0 - 1) 0
-  entry-is x l =
-      map-at (λ k. getD sets (k - 1) 0) front x 0 0 (omega (arith, front-length))
-      ∙ ap (λ (k : ℕ). getD sets (k - 1) 0) (getD-take (length (heardOf score) - 1) (heardFrom 1 score) x 0 (omega arith))
-
-  -- an entry that is followed by another column with a pitch is that of a column which has a set
-  entry-within : length sets ≡ length score - 1 → (x : ℕ) → x + 1 < length (heardOf score) → getD (heardFrom 1 score) x 0 - 1 < length sets
-  entry-within long x l =
-      let here = number-at 1 score x (omega arith) in
-      let next = number-at 1 score (x + 1) l in
-      omega (arith, long, here .not-before, next .within, number-rises 1 score x (x + 1) (omega arith) l)
-
-  -- and all entries are twelve bits, where all sets are
-  entries-small : ((k : ℕ) → getD sets k 0 < tableWords) → (x : ℕ) → getD (entriesOf score sets) x 0 < tableWords
-  entries-small small x = pick (decLt x (length front))
-    where
-      pick : Dec (x < length front) → getD (entriesOf score sets) x 0 < tableWords
-      pick (yes l) = omega (arith, map-at (λ k. getD sets (k - 1) 0) front x 0 0 l, small (getD front x 0 - 1))
-      pick (no l) =
-          let past : length (entriesOf score sets) ≤ x = omega (arith, length-map front (λ k. getD sets (k - 1) 0)) in
-          omega (arith, List·getD-eq-default (entriesOf score sets) 0 past)
 
 -- ---- no start is at a candidate
 

@@ -16,9 +16,9 @@ use Rattle.theory.proofs.Either.{both-left, both-right}
 use Rattle.theory.proofs.Lists.{sets-more, over-more, over-sets}
 use Rattle.score.specs.Limits.{mostColumns}
 use Rattle.score.specs.Score.{columnsIn, scoreOf, heard, heardOf, heardFrom}
-use Rattle.score.proofs.Columns.{column-length, score-length}
+use Rattle.score.proofs.Columns.{column-length, score-length, next-starts, column-room, column-cells}
+use Rattle.score.proofs.Heard.{numbers-take, numbers-skip}
 use Rattle.passing.specs.Passing.{hasRoom, TakesOut}
-use Rattle.passing.proofs.Looking.{next-starts, column-room, column-cells}
 
 -- ---- a column, from a place on
 
@@ -61,14 +61,6 @@ module _ (score : List (List ℕ)) (k : ℕ) (l : k < length score) where
 
   cells-skip : heard next ≡ false → heardOf (drop (k + 1) score) ≡ heardOf (drop k score)
   cells-skip e = rw (drop-cons score k [] l, e, add-one k)
-
-  numbers-take : (named : List ℕ) → heard next ≡ true
-      → (named ++ ((k + 1) ∷ [])) ++ heardFrom (k + 1 + 1) (drop (k + 1) score) ≡ named ++ heardFrom (k + 1) (drop k score)
-  numbers-take named e =
-      rw (drop-cons score k [] l, e, add-one (k + 1), add-one k) (append-assoc named (suc k ∷ []) (heardFrom (suc (suc k)) (drop (suc k) score)))
-
-  numbers-skip : heard next ≡ false → heardFrom (k + 1 + 1) (drop (k + 1) score) ≡ heardFrom (k + 1) (drop k score)
-  numbers-skip e = rw (drop-cons score k [] l, e, add-one (k + 1), add-one k)
 
 -- ---- room
 

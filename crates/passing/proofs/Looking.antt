@@ -18,7 +18,7 @@ use Rattle.theory.proofs.Lists.{some-at, some-none, none-some}
 use Rattle.theory.proofs.Either.{both-left, both-right}
 use Rattle.score.specs.Limits.{highestPitch}
 use Rattle.score.specs.Score.{cut, columnsIn, scoreOf, heard, hasEmpty}
-use Rattle.score.proofs.Columns.{cut-at, cut-length, column-length}
+use Rattle.score.proofs.Columns.{cut-length, column-length}
 use Rattle.passing.specs.Passing.{restsFirst}
 
 abbrev pub isPitch : ℕ → Bool
@@ -43,22 +43,6 @@ module _ (column : List ℕ) where
 
   pub empty-end : {i : ℕ} → Flagged isPitch column i false → length column ≤ i → true ≡ not (heard column)
   empty-end f h = ap not (flagged-end isPitch column f h)
-
--- ---- the columns of a score
-
-module _ (cells : List ℕ) (h : ℕ) where
-  -- column k begins at base, and lies within the cells
-  pub next-starts : (k base : ℕ) → base ≡ k * h → base + h ≡ (k + 1) * h
-  next-starts k base e = omega (arith, add-mul k 1 h, one-mul h)
-
-  pub column-room : (k base : ℕ) → base ≡ k * h → k < columnsIn cells h → base + h ≤ length cells
-  column-room k base e l =
-      let below : k + 1 ≤ columnsIn cells h = omega arith in
-      omega (arith, next-starts k base e, mul-le-mul-right h below, div-add-mod' (length cells) h)
-
-  pub column-cells : (k base : ℕ) → base ≡ k * h → k < columnsIn cells h → take (base + h - base) (drop base cells) ≡ getD (scoreOf cells h) k []
-  column-cells k base e l =
-      ap₂ (λ (a b : ℕ). take a (drop b cells)) (add-sub-cancel-left base h) e ∙ sym (cut-at (columnsIn cells h) h cells k l)
 
 -- ---- the columns from a place on
 

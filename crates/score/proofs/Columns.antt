@@ -1,9 +1,10 @@
 -- A score cut into its columns: how many there are, and which cells each has. The idea: a column more is h cells more
 -- dropped. Assumes nothing.
-use mathlib.Core.Path.{_≡_, refl, ap, _∙_}
+use mathlib.Core.Path.{_≡_, refl, sym, ap, ap₂, _∙_}
 use mathlib.Core.List.{List, []}
 use Prim.Native.Nat.{ℕ, zero, suc, _+_, _-_, _*_, _%_, _≤_, _<_}
-use native.Mathlib.Nat.{zero-mul, suc-mul, one-mul, add-mul, sub-zero, suc-sub-suc, not-suc-le-zero, le-of-suc-le-suc, div-add-mod'}
+use native.Mathlib.Nat.{zero-mul, suc-mul, one-mul, add-mul, sub-zero, suc-sub-suc, add-sub-cancel-left, mul-le-mul-right}
+use native.Mathlib.Nat.{not-suc-le-zero, le-of-suc-le-suc, div-add-mod'}
 use native.Mathlib.Decide.{decLt}
 use native.Mathlib.Omega.{arith}
 use lib.ListN.{length, getD, take, drop, length-take, length-drop, List·getD-eq-default}
@@ -53,3 +54,19 @@ columns-whole cells h e = omega (arith, div-add-mod' (length cells) h)
 
 pub score-length : (cells : List ℕ) (h : ℕ) → length (scoreOf cells h) ≡ columnsIn cells h
 score-length cells h = cut-length (columnsIn cells h) h cells
+
+-- ---- a column, by where it begins
+
+module _ (cells : List ℕ) (h : ℕ) where
+  -- column k, from 0, begins at base, and lies within the cells
+  pub next-starts : (k base : ℕ) → base ≡ k * h → base + h ≡ (k + 1) * h
+  next-starts k base e = omega (arith, add-mul k 1 h, one-mul h)
+
+  pub column-room : (k base : ℕ) → base ≡ k * h → k < columnsIn cells h → base + h ≤ length cells
+  column-room k base e l =
+      let below : k + 1 ≤ columnsIn cells h = omega arith in
+      omega (arith, next-starts k base e, mul-le-mul-right h below, div-add-mod' (length cells) h)
+
+  pub column-cells : (k base : ℕ) → base ≡ k * h → k < columnsIn cells h → take (base + h - base) (drop base cells) ≡ getD (scoreOf cells h) k []
+  column-cells k base e l =
+      ap₂ (λ (a b : ℕ). take a (drop b cells)) (add-sub-cancel-left base h) e ∙ sym (cut-at (columnsIn cells h) h cells k l)

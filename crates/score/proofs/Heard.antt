@@ -3,14 +3,15 @@
 -- its own, under its own numbers. By the columns of the score, one at a time. Assumes nothing.
 use mathlib.Core.Path.{_≡_, refl, sym, ap, ap₂, _∙_, subst}
 use mathlib.Core.Bool.{Bool, true, false, cond, not, true≢false, false≢true}
-use mathlib.Core.List.{List, [], _∷_, List·Memᴰ as In, List·Memᴰ·not-nil as not-nil}
+use mathlib.Core.List.{List, [], _∷_, _++_, append-assoc, List·Memᴰ as In, List·Memᴰ·not-nil as not-nil}
 use Prim.Native.Nat.{ℕ, zero, suc, _+_, _-_, _≤_, _<_}
-use native.Mathlib.Nat.{not-suc-le-zero, le-of-suc-le-suc, le-refl, sub-self}
+use native.Mathlib.Nat.{not-suc-le-zero, le-of-suc-le-suc, le-refl, add-zero, sub-self}
+use native.Mathlib.Numerals.{add-one}
 use native.Mathlib.Decide.{decLt}
 use native.Mathlib.Omega.{arith}
 use lib.Dec.{leb}
 use lib.ListN.{length, getD, take, drop, List·getD-eq-default}
-use lib.Seq.{getD-drop}
+use lib.Seq.{drop-cons, getD-drop}
 use Rattle.theory.specs.Lists.{some, count}
 use Rattle.score.specs.declared.quantities.Pitch.{Pitch}
 use Rattle.score.specs.Limits.{highestPitch}
@@ -121,6 +122,29 @@ number-of j (c ∷ score) k l e = step (heard c) refl k l e (number-of (suc j) s
     step true f (suc k) l e ih = let r = ih k (le-of-suc-le-suc l) e in (suc (r .0), omega (arith, r .1), r .2 ∙ omega arith)
     step false f zero l e ih = absurd (true≢false (sym e ∙ f))
     step false f (suc k) l e ih = let r = ih k (le-of-suc-le-suc l) e in (r .0, r .1, r .2 ∙ omega arith)
+
+-- ---- the numbers that are left, a column further on
+
+module _ (score : List (List ℕ)) (k : ℕ) (l : k < length score) where
+  pub numbers-take : (named : List ℕ) → heard (getD score k []) ≡ true
+      → (named ++ ((k + 1) ∷ [])) ++ heardFrom (k + 1 + 1) (drop (k + 1) score) ≡ named ++ heardFrom (k + 1) (drop k score)
+  numbers-take named e =
+      rw (drop-cons score k [] l, e, add-one (k + 1), add-one k) (append-assoc named (suc k ∷ []) (heardFrom (suc (suc k)) (drop (suc k) score)))
+
+  pub numbers-skip : heard (getD score k []) ≡ false → heardFrom (k + 1 + 1) (drop (k + 1) score) ≡ heardFrom (k + 1) (drop k score)
+  numbers-skip e = rw (drop-cons score k [] l, e, add-one (k + 1), add-one k)
+
+-- behind the first k columns they are those of the score without as many as have a pitch among these
+pub numbers-drop : (j k : ℕ) (score : List (List ℕ)) → heardFrom (j + k) (drop k score) ≡ drop (length (heardOf (take k score))) (heardFrom j score)
+numbers-drop j zero score = rw add-zero
+numbers-drop j (suc k) [] = refl
+numbers-drop j (suc k) (c ∷ score) = step (heard c) (numbers-drop (suc j) k score)
+  where
+    step : (t : Bool) → heardFrom (suc j + k) (drop k score) ≡ drop (length (heardOf (take k score))) (heardFrom (suc j) score)
+        → heardFrom (j + suc k) (drop k score)
+        ≡ drop (length (cond t (c ∷ heardOf (take k score)) (heardOf (take k score)))) (cond t (j ∷ heardFrom (suc j) score) (heardFrom (suc j) score))
+    step true ih = let e : j + suc k ≡ suc j + k = omega arith in rw e ih
+    step false ih = let e : j + suc k ≡ suc j + k = omega arith in rw e ih
 
 -- ---- a score without an empty column
 

@@ -1,5 +1,5 @@
 -- Laws of this crate's definitions. Places: `Notes` (all notes). Columns with a pitch: `Numbers`, `Kept`. The list: `Listed`, `AllWays`; a
--- score without an empty column: `Full`. Candidates: `Filtered`. The
+-- score without an empty column: `Full`. Candidates: `Entries`, `Filtered`. The
 -- worked cases: `Worked`. The calls: `PlainCall`, `QuickCall`. The two searches, for the laws of `paging`: `Searches`; quick
 -- and plain compared: `Quicker`; what a walk has found is what a page shows: `Reached`; which starts it goes through:
 -- `FromBookmarks`. Each contract settles its call: `Unique`. What all this comes to: `WholeLists`, `Truths`.
@@ -9,6 +9,7 @@ mod Kept
 pub mod Listed
 pub mod AllWays
 pub mod Full
+pub mod Entries
 pub mod Filtered
 pub mod Worked
 pub mod PlainCall

@@ -1,6 +1,6 @@
 -- Laws of `over`, `count`, `join`, `some` and `first`, by places and by membership; and of a loop that stores from the front.
 -- Assumes nothing.
-use mathlib.Core.Path.{_≡_, refl, sym, ap, _∙_, subst}
+use mathlib.Core.Path.{_≡_, refl, sym, ap, ap₂, _∙_, subst}
 use mathlib.Core.Bool.{Bool, true, false, cond, true≢false}
 use mathlib.Core.Logic.{⊎-elim}
 use mathlib.Core.List.{List, [], _∷_, _++_, map, append-assoc, append-nil, map-append, List·Memᴰ as In, List·Memᴰ·head as at-head, List·Memᴰ·tail as in-tail}
@@ -77,6 +77,13 @@ pub count-map-at : {A : Type 0} (f : ℕ → A) (a n i : ℕ) (d : A) → i < n 
 count-map-at f a zero i d h = absurd (not-suc-le-zero h)
 count-map-at f a (suc n) zero d h = rw add-zero
 count-map-at f a (suc n) (suc i) d h = let e : suc a + i ≡ a + suc i = omega arith in rw (← e) (count-map-at f (suc a) n i d (le-of-suc-le-suc h))
+
+-- two functions that agree on the numbers from a on, n of them
+pub count-map-agree : {A : Type 0} (f g : ℕ → A) (a n : ℕ) → ((k : ℕ) → a ≤ k → k < a + n → f k ≡ g k) → map f (count a n) ≡ map g (count a n)
+count-map-agree f g a zero h = refl
+count-map-agree {A} f g a (suc n) h =
+    ap₂ (λ (x : A) (xs : List A). x ∷ xs) (h a (omega arith) (omega arith))
+    (count-map-agree f g (suc a) n (λ k p q. h k (omega arith) (omega arith)))
 
 -- ---- join
 

@@ -6,9 +6,9 @@ use mathlib.Core.Logic.{_↔_}
 use Prim.Native.Nat.{ℕ, _≤_}
 use native.Mathlib.Nat.{add-zero}
 use native.Mathlib.Omega.{arith}
-use lib.Dec.{T}
-use lib.IntN.{ℤ, pos, _+ℤ_, _-ℤ_, +ℤ-idr}
-use lib.Signed.{ltZ, _≤ℤ_, ltZ-no, ltZ-yes, clashℤ, pos-natAbs, yes-nonNeg}
+use lib.Dec.{T, leb→le, le→leb}
+use lib.IntN.{ℤ, pos, negsuc, _+ℤ_, _-ℤ_, +ℤ-idr}
+use lib.Signed.{ltZ, _≤ℤ_, leZ-yes, ltZ-no, ltZ-yes, clashℤ, pos-natAbs, yes-nonNeg}
 use borrow.Author.Tests.{le-leb}
 use mir.Syntax.{w16}
 use mir.Val.{SFits}
@@ -16,7 +16,7 @@ use Rattle.theory.proofs.Signed.{raised, mag-sub}
 use Rattle.ways.specs.declared.way.Way.{Way}
 use Rattle.ways.specs.declared.way.Way.the-variants.{Exact, Octave}
 use Rattle.ways.specs.Way.{lowest, highest, span, shiftOf, codeOf}
-use Rattle.ways.specs.Codes.{outOfRange, codeGiven, shiftGiven}
+use Rattle.ways.specs.Codes.{noShift, outOfRange, codeGiven, shiftGiven}
 
 -- ---- tests that fail
 
@@ -33,6 +33,10 @@ not-overZ a b = (λ e. ltZ-no (subst (λ (t : Bool). T (not t)) (sym e) tt), λ 
 
 -- ---- where it matters
 
+-- a shift of the way
+pub is-shift : (way : Way) (shift : ℤ) → (noShift way shift ≡ false) ↔ ((lowest way ≤ℤ shift) × (shift ≤ℤ highest way))
+is-shift way shift = neither (ltZ shift (lowest way)) (ltZ (highest way) shift) (not-overZ shift (lowest way)) (not-overZ (highest way) shift)
+
 -- a shift that a bookmark may have
 pub in-range : (way : Way) (shift : ℤ) → (outOfRange way shift ≡ false) ↔ ((lowest way ≤ℤ shift) × (shift ≤ℤ (highest way +ℤ pos 1)))
 in-range way shift =
@@ -40,6 +44,16 @@ in-range way shift =
 
 pub code-given : (way : Way) (shift : ℤ) → lowest way ≤ℤ shift → shift ≤ℤ (highest way +ℤ pos 1) → codeGiven way shift ≡ codeOf way shift
 code-given way shift low high = rw (in-range way shift .1 (low, high))
+
+-- a shift of the way is one that a bookmark may have
+raised-range : (way : Way) (shift : ℤ) → shift ≤ℤ highest way → shift ≤ℤ (highest way +ℤ pos 1)
+raised-range Exact (pos a) h = leZ-yes (le→leb a 128 (omega (arith, leb→le a 127 (h .le))))
+raised-range Exact (negsuc a) h = leZ-yes tt
+raised-range Octave (pos a) h = leZ-yes (le→leb a 12 (omega (arith, leb→le a 11 (h .le))))
+raised-range Octave (negsuc a) h = leZ-yes tt
+
+pub code-of-shift : (way : Way) (shift : ℤ) → noShift way shift ≡ false → codeGiven way shift ≡ codeOf way shift
+code-of-shift way shift e = let r = is-shift way shift .0 e in code-given way shift (r .0) (raised-range way shift (r .1))
 
 pub shift-given : (way : Way) (code : ℕ) → code ≤ 255 → shiftGiven way code ≡ shiftOf way code
 shift-given way code small = rw (le-leb code 255 small)

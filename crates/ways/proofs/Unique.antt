@@ -7,6 +7,7 @@ use Rattle.ways.proofs.bookmark.Bookmark.first
 use Rattle.ways.proofs.bookmark.Bookmark.after
 use Rattle.ways.proofs.bookmark.Bookmark.finished
 use Rattle.ways.proofs.codes.span_of
+use Rattle.ways.proofs.codes.no_shift
 use Rattle.ways.proofs.codes.out_as
 use Rattle.ways.proofs.codes.code_of
 use Rattle.ways.proofs.codes.shift_of
@@ -22,6 +23,9 @@ bookmark-finished-unique κs args x y = (settled-unique (x .meets) (y .meets), r
 
 pub span-of-unique : Settles span_of.Kinds.ps span_of.Kinds.r span_of.Reads.Post
 span-of-unique κs args x y = (settled-unique (x .meets) (y .meets), refl)
+
+pub no-shift-unique : Settles no_shift.Kinds.ps no_shift.Kinds.r no_shift.Reads.Post
+no-shift-unique κs args x y = (settled-unique (x .meets) (y .meets), refl)
 
 pub out-as-unique : Settles out_as.Kinds.ps out_as.Kinds.r out_as.Reads.Post
 out-as-unique κs args x y = (settled-unique (x .meets) (y .meets), refl)

@@ -1,5 +1,6 @@
--- Codes of every shift and shifts of every code that 16 bits hold: what `code_of` and `shift_of` give. For what a bookmark may
--- have they are `codeOf` and `shiftOf` of `Way`. Assumes nothing.
+-- Which shifts a way has (`noShift`) and a bookmark may have (`outOfRange`, `outAs`); and codes of every shift and shifts of every
+-- code that 16 bits hold, what `code_of` and `shift_of` give. For what a bookmark may have they are `codeOf` and `shiftOf` of `Way`.
+-- Assumes nothing.
 use mathlib.Core.Bool.{Bool, cond, _||_}
 use Prim.Native.Nat.{ℕ}
 use lib.Dec.{leb}
@@ -11,6 +12,10 @@ use Rattle.ways.specs.Way.{lowest, highest, codeOf, shiftOf, rangeAs}
 
 abbrev pub outside : (shift low high : ℤ) → Bool
 outside shift low high = ltZ shift low || ltZ high shift
+
+-- the shift is none of the way's
+abbrev pub noShift : Way → (shift : ℤ) → Bool
+noShift way shift = outside shift (lowest way) (highest way)
 
 -- no bookmark may have the shift: it is below the way's lowest, or more than one above its highest
 abbrev pub outOfRange : Way → (shift : ℤ) → Bool

@@ -1,10 +1,12 @@
 // The shifts of a way, which may be below zero, and their codes, which count from the lowest. No other module of a search that
 // moves the theme knows a shift's sign.
 
+use crate::limits::EXACT_HIGHEST;
 use crate::limits::EXACT_LOWEST;
 use crate::limits::EXACT_PAST;
 use crate::limits::EXACT_SHIFTS;
 use crate::limits::HIGHEST_CODE;
+use crate::limits::OCTAVE_HIGHEST;
 use crate::limits::OCTAVE_LOWEST;
 use crate::limits::OCTAVE_PAST;
 use crate::limits::OCTAVE_SHIFTS;
@@ -17,7 +19,7 @@ ghost use mathlib.Core.Bool.{cond};
 ghost use lib.IntN.{pos, _+ℤ_};
 ghost use lib.Signed.{ltZ};
 ghost use Rattle.ways.specs.Way.{lowest, span, rangeAs};
-ghost use Rattle.ways.specs.Codes.{outside, outOfRange, outAs, codeGiven, shiftGiven};
+ghost use Rattle.ways.specs.Codes.{outside, noShift, outOfRange, outAs, codeGiven, shiftGiven};
 
 // How many shifts the way has.
 pub fn span_of(way: Way) -> u16
@@ -64,6 +66,16 @@ fn outside(shift: i16, low: i16, high: i16) -> bool
         return true;
     }
     high < shift
+}
+
+// Whether the shift is none of the way's. That which a bookmark may have besides is none.
+pub fn no_shift(way: Way, shift: i16) -> bool
+    ensures { λ r. ⌜ r ≡ noShift way shift ⌝ }
+{
+    match way {
+        Way::Exact => outside(shift, EXACT_LOWEST, EXACT_HIGHEST),
+        Way::Octave => outside(shift, OCTAVE_LOWEST, OCTAVE_HIGHEST),
+    }
 }
 
 // Whether a bookmark may not have this shift: one below the way's lowest, or more than one above its highest.

@@ -11,6 +11,7 @@ pub mod way;
 pub use bookmark::Bookmark;
 pub use bookmark::Pair;
 pub use codes::code_of;
+pub use codes::no_shift;
 pub use codes::out_as;
 pub use codes::shift_of;
 pub use codes::span_of;

@@ -1,7 +1,9 @@
 // The shifts of each way, and the codes. `specs/Way` has the same numbers.
 
-// The lowest shift of exact, and the one above its highest, which a bookmark may have.
+// The lowest and the highest shift of exact, and the one above it, which a bookmark may have.
 pub const EXACT_LOWEST: i16 = -127;
+
+pub const EXACT_HIGHEST: i16 = 127;
 
 pub const EXACT_PAST: i16 = 128;
 
@@ -10,6 +12,8 @@ pub const EXACT_SHIFTS: u16 = 255;
 
 // The same of octave.
 pub const OCTAVE_LOWEST: i16 = 0;
+
+pub const OCTAVE_HIGHEST: i16 = 11;
 
 pub const OCTAVE_PAST: i16 = 12;
 
