@@ -1,6 +1,6 @@
 -- Demand 1: each call, over its promise. The idea: an answer that meets the promise is the defined one, whose refusals are
 -- known. Assumes nothing.
-use mathlib.Core.Path.{_≡_, refl, sym, _∙_}
+use mathlib.Core.Path.{_≡_, refl, sym, ap, _∙_}
 use mathlib.Core.Logic.{_↔_, _⊎_}
 use mathlib.Core.List.{List, [], _∷_, map}
 use Prim.Native.Nat.{ℕ}
@@ -8,7 +8,8 @@ use Rattle.score.specs.declared.quantities.Column.{Column}
 use Rattle.score.specs.declared.refusals.Refusal.{Refusal}
 use Rattle.score.specs.declared.refusals.Verdict.the-variants.{Accepted as Passed, Refused as Away}
 use Rattle.score.specs.Refusals.{Row, verdict, GivenBy, placeBy}
-use Rattle.score.proofs.Judged.{Clear, judge-clear, verdict-clear}
+use Rattle.score.specs.Score.{scoreOf}
+use Rattle.score.proofs.Judged.{Clear, judge-clear, verdict-clear, answer-refused, answer-accepted, answer-kept}
 use Rattle.summing.specs.declared.summary.Summary.{Summary}
 use Rattle.preparing.specs.declared.sets.Preparation.{Preparation}
 use Rattle.preparing.specs.declared.sets.Preparation.the-variants.{Prepared, Refused as Unprepared}
@@ -16,6 +17,7 @@ use Rattle.preparing.specs.Preparing.{prepareRows, Prepares}
 use Rattle.preparing.proofs.Prepared.{prepare-accepted, prepare-refused, prepare-kept}
 use Rattle.ways.specs.declared.way.Way.{Way}
 use Rattle.ways.specs.declared.way.AnyWay.{AnyWay}
+use Rattle.ways.specs.declared.bookmark.Pair.{Pair}
 use Rattle.ways.specs.declared.bookmark.Bookmark.{Bookmark}
 use Rattle.asking.proofs.Rows.{plain-clear, quick-clear}
 use Rattle.paging.specs.declared.page.Turn.{Turn}
@@ -33,7 +35,13 @@ use Rattle.updating.specs.declared.changes.Change.{Change}
 use Rattle.updating.specs.declared.changes.Change.the-variants.{Updated, Refused as Unchanged}
 use Rattle.updating.specs.Updating.{updateRows, Updates}
 use Rattle.updating.proofs.Updated.{update-accepted, update-refused, update-kept}
+use Rattle.explaining.specs.declared.answer.Explanation.{Explanation}
+use Rattle.explaining.specs.declared.answer.Reason.{Reason}
+use Rattle.explaining.specs.declared.answer.Reason.the-variants.{Listed, NoShift, NoColumn, TooFew, Empty, Outside, Absent, Refused as Unexplained}
+use Rattle.explaining.specs.declared.answer.Sifted.the-variants.{Unasked}
+use Rattle.explaining.specs.Explaining.{noTracks, bare, explained, explainRows, explanation}
 use Rattle.demands.specs.Demands.{TurnsAway}
+use Rattle.demands.proofs.Explanations.{never-refused}
 
 -- no row applies exactly where the verdict accepts
 clear-verdict : (rows : List Row) → Clear rows ↔ (verdict rows ≡ Passed)
@@ -109,4 +117,45 @@ updates-away cells h c lent u =
       exactly = λ k q. let e = update-refused cells h c lent k q in (λ x. e .0 (sym (u .answers) ∙ x), λ x. u .answers ∙ e .1 x);
       otherwise = (λ x. v .0 (a .0 (x .0, sym (u .answers) ∙ x .1)), λ x. let t = a .1 (v .1 x) in (t .0, u .answers ∙ t .1));
       unwritten = λ r x. u .writes ∙ update-kept cells h c lent r (sym (u .answers) ∙ x);
+    }
+
+-- ---- the explainer
+
+abbrev none : Refusal
+none = record { number = 0; place = 0 }
+
+abbrev refusalIn : Reason → Refusal
+refusalIn (Unexplained r) = r
+refusalIn Listed = none
+refusalIn NoShift = none
+refusalIn NoColumn = none
+refusalIn TooFew = none
+refusalIn Empty = none
+refusalIn (Outside i) = none
+refusalIn (Absent i) = none
+
+pub explains-away : (cells : List ℕ) (h : ℕ) (theme : List ℕ) (way : Way) (pair : Pair) (sets : List ℕ) {answer : Explanation}
+    → answer ≡ explanation cells h theme way pair sets
+    → TurnsAway (1 ∷ 2 ∷ 3 ∷ 4 ∷ 5 ∷ 6 ∷ 7 ∷ []) (explainRows cells h theme sets) (λ r. answer .reason ≡ Unexplained r)
+    ((r : Refusal) → answer .reason ≡ Unexplained r → ⊥) ((answer .tracks ≡ noTracks) × (answer .sifted ≡ Unasked))
+unfolding explanation
+explains-away cells h theme way pair sets {answer} e =
+    let rows = explainRows cells h theme sets in
+    let said : Explanation → Reason = λ x. x .reason in
+    let turned : Refusal → Explanation = λ r. bare (Unexplained r) in
+    let full = explained way (scoreOf cells h) theme pair sets in
+    let same : (r s : Refusal) → Unexplained r ≡ Unexplained s → r ≡ s = λ r s x. ap refusalIn x in
+    let never = never-refused cells h theme way pair sets in
+    let own = ap said e in
+    let v = clear-verdict rows in
+    let a = answer-accepted said Unexplained same turned full (λ r. refl) never rows in
+    record {
+      order = refl;
+      exactly = λ k q.
+          let f = answer-refused said Unexplained same turned full (λ r. refl) never rows refl k q in
+          (λ x. f .0 (sym own ∙ x), λ x. own ∙ f .1 x);
+      otherwise = (λ g. v .0 (a .0 (λ r x. g r (own ∙ x))), λ x r y. a .1 (v .1 x) r (sym own ∙ y));
+      unwritten = λ r x.
+          let k = answer-kept said Unexplained same turned full (λ r. refl) never rows (λ y. (y .tracks ≡ noTracks) × (y .sifted ≡ Unasked)) (λ r. (refl, refl)) r (sym own ∙ x) in
+          (ap (λ (y : Explanation). y .tracks) e ∙ k .0, ap (λ (y : Explanation). y .sifted) e ∙ k .1);
     }

@@ -1,4 +1,4 @@
--- The three demands hold, and what is wanted of the question and of the update. Assumes nothing.
+-- The three demands hold, and what is wanted of the question, of the update and of the explainer. Assumes nothing.
 use mathlib.Core.Path.{_≡_, refl, subst}
 use mathlib.Core.List.{List}
 use Prim.Native.Nat.{ℕ}
@@ -24,12 +24,15 @@ use Rattle.filter.specs.Table.{themeTable}
 use Rattle.occurring.specs.declared.question.Occurrence.the-variants.{Refused as Unanswered}
 use Rattle.occurring.specs.Occurring.{quickList, byList, occursRows}
 use Rattle.updating.specs.Updating.{renewed}
-use Rattle.demands.specs.Demands.{RightRequest, Demand1, Demand2, Demand3, Question, Update}
-use Rattle.demands.proofs.Away.{prepares-away, plain-away, quick-away, occurs-away, updates-away}
+use Rattle.explaining.specs.Explaining.{explanation}
+use Rattle.explaining.proofs.Refusing.{passed-asks}
+use Rattle.demands.specs.Demands.{RightRequest, Demand1, Demand2, Demand3, Question, Update, Explainer}
+use Rattle.demands.proofs.Away.{prepares-away, plain-away, quick-away, occurs-away, updates-away, explains-away}
 use Rattle.demands.proofs.True.{own-sets-left, plain-stands, written-free, quick-stands, prepared-intervals, prepared-summary, updated-summary}
 use Rattle.demands.proofs.Whole.{plainly, plain-all, quick-own, own-call}
 use Rattle.demands.proofs.Alike.{reading-same, one-page}
 use Rattle.demands.proofs.Questions.{asked-pages, asked-table, asked-lacking, asked-own}
+use Rattle.demands.proofs.Explanations.{explained-listed, explained-first, explained-tracks, explained-bare, explained-sifted, explained-dismissed, explained-unasked}
 use Rattle.demands.proofs.Updates.{renewed-fresh, renewed-length, renewed-own, renewed-other}
 
 -- a right score and theme are accepted
@@ -53,6 +56,7 @@ demand1 =
             judge rows Unanswered (byList (quickList way (scoreOf cells h) theme sets)),
             (judge rows (λ r. table) (themeTable wordBits theme), record { answers = refl; fills-table = refl }),
           );
+      explainer-answers = λ cells h theme way pair sets. (explanation cells h theme way pair sets, refl);
       update-answers = λ cells h c lent.
           let f = renewed cells h c lent in
           (f .answer, (f .sets, record { answers = refl; writes = refl }));
@@ -61,6 +65,7 @@ demand1 =
       quick = quick-away;
       question = occurs-away;
       update = updates-away;
+      explainer = explains-away;
     }
 
 pub demand2 : Demand2
@@ -102,4 +107,20 @@ update =
     record {
       fresh = λ before cells h c one lent p u. renewed-fresh cells h c u before one (own-sets-left p);
       each = λ cells h c lent u. (renewed-length cells h c u, renewed-own cells h c u, renewed-other cells h c u);
+    }
+
+pub explainer : Explainer
+explainer =
+    record {
+      listed = λ cells h theme way pair sets e v. explained-listed cells h theme way pair sets e v;
+      in-list = λ cells h theme way pair sets e v r room p reading.
+          let l = explained-listed cells h theme way pair sets e v in
+          let i = plain-all cells h theme (passed-asks cells h theme way pair sets v .0) r room (Moved way) p .exactly reading pair in
+          (λ x. i .1 (l .0 x), λ x. l .1 (i .0 x));
+      first-reason = λ cells h theme way pair sets e v. explained-first cells h theme way pair sets e v;
+      tracks = λ cells h theme way pair sets e v l. explained-tracks cells h theme way pair sets e v l;
+      no-tracks = λ cells h theme way pair sets e v f. explained-bare cells h theme way pair sets e v f;
+      sifted = λ cells h theme way pair sets e v f. explained-sifted cells h theme way pair sets e v f;
+      dismissed = λ cells h theme way pair sets e v d. explained-dismissed cells h theme way pair sets e v d;
+      unasked = λ cells h theme way pair sets e v f. explained-unasked cells h theme way pair sets e v f;
     }

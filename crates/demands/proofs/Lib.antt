@@ -1,10 +1,11 @@
 -- That the demands hold: `Away` (what is turned away), `True` (what is listed and prepared is true), `Whole` (pages joined are
--- the whole list), `Alike` (quick pages are the plain ones), `Questions` (the question), `Updates` (the update). What it comes to:
--- `Demands`.
+-- the whole list), `Alike` (quick pages are the plain ones), `Questions` (the question), `Updates` (the update),
+-- `Explanations` (the explainer). What it comes to: `Demands`.
 mod Away
 mod True
 mod Whole
 mod Alike
 mod Questions
 mod Updates
+mod Explanations
 pub mod Demands

@@ -1,35 +1,39 @@
 -- When a list is trusted: three demands, each a record over what the calls promise and over no method. `Demand1`: what is turned
 -- away, and that nothing is then written. `Demand2`: what is listed and what is prepared is true. `Demand3`: pages joined are
--- the whole list, and quick pages hold the same. Beside them what is wanted of two further calls: `Question`, whether a theme
--- occurs at all, and `Update`, of the sets after one column was changed. That all of them hold is `proofs/Demands`. The calls
--- are the five on which the others rest; `docs/CONTRACTS.md` has them all. That every call ends is no field: the check proves of
+-- the whole list, and quick pages hold the same. Beside them what is wanted of three further calls: `Question`, whether a theme
+-- occurs at all, `Update`, of the sets after one column was changed, and `Explainer`, why a pair is listed or not. That all of
+-- them hold is `proofs/Demands`. The calls are the six on which the others rest; `docs/CONTRACTS.md` has them all. That every call ends is no field: the check proves of
 -- every function that it is safe and ends, and no public call has a `requires`. Assumes nothing.
 use mathlib.Core.Path.{_≡_}
-use mathlib.Core.Bool.{true, false}
+use mathlib.Core.Bool.{Bool, true, false}
 use mathlib.Core.Logic.{_↔_, _⊎_}
 use mathlib.Core.List.{List, [], _∷_, _++_, map, List·Memᴰ as In}
 use Prim.Native.Nat.{ℕ, _+_, _-_, _/_, _≤_, _<_}
+use lib.IntN.{ℤ, pos, _+ℤ_}
 use lib.ListN.{length, getD}
+use lib.Signed.{_≤ℤ_}
 use Rattle.theory.specs.Lists.{sum, join}
 use Rattle.theory.specs.Bits.{bit}
-use Rattle.score.specs.Limits.{highestSet, tableWords}
+use Rattle.score.specs.Limits.{highestPitch, highestSet, tableWords}
+use Rattle.score.specs.declared.quantities.Pitch.{Pitch}
 use Rattle.score.specs.declared.quantities.Interval.{Interval}
 use Rattle.score.specs.declared.quantities.Column.{Column}
 use Rattle.score.specs.declared.refusals.Refusal.{Refusal}
 use Rattle.score.specs.declared.refusals.Verdict.the-variants.{Accepted as Passed}
-use Rattle.score.specs.Score.{columnAt, column, scoreOf, heard, onward}
-use Rattle.score.specs.Sets.{Apart, sets as setsOf}
+use Rattle.score.specs.Score.{columnAt, column, scoreOf, heard, rankOf, onward, note}
+use Rattle.score.specs.Sets.{Apart, interval, sets as setsOf}
 use Rattle.score.specs.Refusals.{Row, verdict, GivenBy, placeBy}
 use Rattle.summing.specs.declared.summary.Summary.{Summary}
 use Rattle.preparing.specs.declared.sets.Preparation.{Preparation}
 use Rattle.preparing.specs.declared.sets.Preparation.the-variants.{Prepared, Refused as Unprepared}
 use Rattle.preparing.specs.Preparing.{prepareRows, Prepares}
 use Rattle.ways.specs.declared.way.Way.{Way}
+use Rattle.ways.specs.declared.way.Way.the-variants.{Exact}
 use Rattle.ways.specs.declared.way.AnyWay.{AnyWay}
 use Rattle.ways.specs.declared.way.AnyWay.the-variants.{Moved, Written}
 use Rattle.ways.specs.declared.bookmark.Pair.{Pair}
 use Rattle.ways.specs.declared.bookmark.Bookmark.{Bookmark}
-use Rattle.ways.specs.Way.{rangeAs}
+use Rattle.ways.specs.Way.{Holds, lowest, highest, rangeAs}
 use Rattle.ways.specs.Bookmarks.{firstBookmark}
 use Rattle.asking.specs.Limits.{mostNotes}
 use Rattle.asking.specs.Refusals.{requestRows}
@@ -44,11 +48,19 @@ use Rattle.paging.specs.Page.{Leaf}
 use Rattle.paging.specs.Reading.{Reading}
 use Rattle.paging.specs.Listing.{Read, NoDearer}
 use Rattle.search.specs.Definition.{Stands, StandsAs}
+use Rattle.search.specs.Pairs.{candidateOf}
 use Rattle.search.specs.Page.{rowsOfPlain, PlainPages, rowsOfQuick, QuickPages}
 use Rattle.search.specs.WholeList.{mostLooks}
 use Rattle.occurring.specs.declared.question.Occurrence.{Occurrence}
 use Rattle.occurring.specs.declared.question.Occurrence.the-variants.{Somewhere, Nowhere, Refused as Unanswered}
 use Rattle.occurring.specs.Occurring.{lacking, occursRows, Occurs}
+use Rattle.seeking.specs.Sought.{numbersOn}
+use Rattle.explaining.specs.declared.answer.Explanation.{Explanation}
+use Rattle.explaining.specs.declared.answer.Reason.{Reason}
+use Rattle.explaining.specs.declared.answer.Reason.the-variants.{Listed, NoShift, NoColumn, TooFew, Empty, Outside, Absent, Refused as Unexplained}
+use Rattle.explaining.specs.declared.answer.Lacking.{Lacking}
+use Rattle.explaining.specs.declared.answer.Sifted.the-variants.{Unasked, Kept, Dismissed}
+use Rattle.explaining.specs.Explaining.{noTracks, explainRows, explanation}
 use Rattle.updating.specs.declared.changes.Change.{Change}
 use Rattle.updating.specs.declared.changes.Change.the-variants.{Updated, Refused as Unchanged}
 use Rattle.updating.specs.Updating.{heardBefore, updateRows, Updates, OneChanged}
@@ -77,6 +89,8 @@ pub record Demand1 : Type 0 where
       → (a : Page) × ((table′ : List ℕ) × ((after : Lent) × QuickPages cells h theme way b sets table buffers a table′ after))
   pub question-answers : (cells : List ℕ) (h : ℕ) (theme : List ℕ) (way : Way) (sets : List ℕ) (summary : Summary) (table : List ℕ)
       → (a : Occurrence) × ((table′ : List ℕ) × Occurs cells h theme way sets summary table a table′)
+  pub explainer-answers : (cells : List ℕ) (h : ℕ) (theme : List ℕ) (way : Way) (pair : Pair) (sets : List ℕ)
+      → (a : Explanation) × (a ≡ explanation cells h theme way pair sets)
   pub update-answers : (cells : List ℕ) (h : ℕ) (c : Column) (lent : List ℕ) → (a : Change) × ((after : List ℕ) × Updates cells h c lent a after)
   -- and it is a refusal exactly on a row
   pub preparation : (cells : List ℕ) (h : ℕ) (lent : List ℕ) {answer : Preparation} {after : List ℕ} → Prepares cells h lent answer after
@@ -97,6 +111,11 @@ pub record Demand1 : Type 0 where
   pub update : (cells : List ℕ) (h : ℕ) (c : Column) (lent : List ℕ) {answer : Change} {after : List ℕ} → Updates cells h c lent answer after
       → TurnsAway (1 ∷ 2 ∷ 3 ∷ 6 ∷ 7 ∷ 19 ∷ []) (updateRows cells h c lent) (λ r. answer ≡ Unchanged r)
       ((s : Summary) × (answer ≡ Updated s)) (after ≡ lent)
+  -- the explainer is lent nothing for writing; a refused answer has no track and no second part
+  pub explainer : (cells : List ℕ) (h : ℕ) (theme : List ℕ) (way : Way) (pair : Pair) (sets : List ℕ) {answer : Explanation}
+      → answer ≡ explanation cells h theme way pair sets
+      → TurnsAway (1 ∷ 2 ∷ 3 ∷ 4 ∷ 5 ∷ 6 ∷ 7 ∷ []) (explainRows cells h theme sets) (λ r. answer .reason ≡ Unexplained r)
+      ((r : Refusal) → answer .reason ≡ Unexplained r → ⊥) ((answer .tracks ≡ noTracks) × (answer .sifted ≡ Unasked))
 
 -- ---- demand 2: what is listed stands by the published definition, which passes over empty columns, whatever sets were lent; and what is
 -- prepared is, for each column and the next that has a pitch, exactly the intervals between them with octaves ignored
@@ -239,3 +258,112 @@ pub record Update : Type 0 where
       → getD after (k - 1) 0 ≡ getD (setsOf (scoreOf cells h)) (k - 1) 0)
       × ((k : ℕ) → 1 ≤ k → k ≤ length lent → (k ≡ c .0 → ⊥) → (k ≡ heardBefore (scoreOf cells h) c → ⊥)
       → getD after (k - 1) 0 ≡ getD lent (k - 1) 0)
+
+-- ---- the explainer: the first reason that is true, the lowest tracks, and what the lent sets make of the column
+
+-- the shift is one of the way
+pub record OfWay (way : Way) (c : ℤ) : Type 0 where
+  pub not-below : lowest way ≤ℤ c
+  pub not-above : c ≤ℤ highest way
+
+-- column j passes its three checks: it is not 0, from it on there are as many columns with a pitch as notes, and it has one itself
+pub record Fitting (score : List (List ℕ)) (theme : List ℕ) (j : Column) : Type 0 where
+  pub from-first : 1 ≤ j .0
+  pub to-last : length theme ≤ length (onward score j)
+  pub with-pitch : heard (column score j) ≡ true
+
+-- exact: p + c is a number t, 0 to 127
+pub record Inside (p : Pitch) (c : ℤ) : Type 0 where
+  pub t : ℕ
+  pub small : t ≤ highestPitch
+  pub moved : pos (p .0) +ℤ c ≡ pos t
+
+module _ (way : Way) (score : List (List ℕ)) (theme : List ℕ) (pair : Pair) where
+  -- the column of note i, from 1, holds it moved by the shift
+  abbrev pub HeldNote : (i : ℕ) → Type 0
+  HeldNote i = Holds way (getD (onward score (pair .column)) (i - 1) []) (note theme i) (pair .shift)
+
+  -- note i is the first that fails
+  pub record FirstFails (i : ℕ) : Type 0 where
+    pub from-first : 1 ≤ i
+    pub to-last : i ≤ length theme
+    pub fails : HeldNote i → ⊥
+    pub earlier : (k : ℕ) → 1 ≤ k → k < i → HeldNote k
+
+  -- the reason is true, and none that comes before it is
+  abbrev pub TrueFirst : Reason → Type 0
+  TrueFirst Listed = Stands way score theme pair
+  TrueFirst NoShift = OfWay way (pair .shift) → ⊥
+  TrueFirst NoColumn = OfWay way (pair .shift) × (pair .column .0 ≡ 0)
+  TrueFirst TooFew = OfWay way (pair .shift) × (1 ≤ pair .column .0) × (length (onward score (pair .column)) < length theme)
+  TrueFirst Empty =
+      OfWay way (pair .shift) × (1 ≤ pair .column .0) × (length theme ≤ length (onward score (pair .column)))
+      × (heard (column score (pair .column)) ≡ false)
+  TrueFirst (Outside i) =
+      OfWay way (pair .shift) × Fitting score theme (pair .column) × FirstFails i × (way ≡ Exact) × (Inside (note theme i) (pair .shift) → ⊥)
+  TrueFirst (Absent i) =
+      OfWay way (pair .shift) × Fitting score theme (pair .column) × FirstFails i × (way ≡ Exact → Inside (note theme i) (pair .shift))
+  TrueFirst (Unexplained r) = ⊥
+
+-- track t, from 1, of the column holds note p moved by c, and no lower track does
+pub record LowestTrack (way : Way) (column : List ℕ) (p : Pitch) (c : ℤ) (t : ℕ) : Type 0 where
+  pub from-first : 1 ≤ t
+  pub to-last : t ≤ length column
+  pub there : Holds way (getD column (t - 1) 0 ∷ []) p c
+  pub none-lower : (k : ℕ) → 1 ≤ k → k < t → Holds way (getD column (k - 1) 0 ∷ []) p c → ⊥
+
+-- interval x, from 1, which leads from note x to the next, is the first of the theme that is not in the set of its note's column
+pub record DismissedBy (score : List (List ℕ)) (theme : List ℕ) (j : Column) (sets : List ℕ) (x : Lacking) : Type 0 where
+  pub from-first : 1 ≤ x .number
+  pub to-last : x .number < length theme
+  pub sized : x .size ≡ interval (note theme (x .number)) (note theme (x .number + 1))
+  pub small : x .size .0 < 12
+  pub lacking : bit (getD sets (getD (numbersOn score j) (x .number - 1) 0 - 1) 0) (x .size .0) ≡ 1
+  pub earlier : (i : ℕ) → 1 ≤ i → i < x .number
+      → bit (getD sets (getD (numbersOn score j) (i - 1) 0 - 1) 0) (interval (note theme i) (note theme (i + 1)) .0) ≡ 0
+
+-- the lent sets make the column a candidate, as the quick search has it
+abbrev pub candidateAt : (cells : List ℕ) (h : ℕ) (theme sets : List ℕ) → Column → Bool
+candidateAt cells h theme sets j =
+    candidateOf wordBits (scoreOf cells h) (themeTable wordBits theme) sets (length theme) (rankOf (scoreOf cells h) j)
+
+-- no row of the explainer applies (1 to 7)
+abbrev pub RightExplained : (cells : List ℕ) (h : ℕ) (theme sets : List ℕ) → Type 0
+RightExplained cells h theme sets = verdict (explainRows cells h theme sets) ≡ Passed
+
+pub record Explainer : Type 0 where
+  -- listed, exactly where the pair stands
+  pub listed : (cells : List ℕ) (h : ℕ) (theme : List ℕ) (way : Way) (pair : Pair) (sets : List ℕ) {answer : Explanation}
+      → answer ≡ explanation cells h theme way pair sets → RightExplained cells h theme sets
+      → (answer .reason ≡ Listed) ↔ Stands way (scoreOf cells h) theme pair
+  -- and so exactly where the full list has it, read by plain pages of any room
+  pub in-list : (cells : List ℕ) (h : ℕ) (theme : List ℕ) (way : Way) (pair : Pair) (sets : List ℕ) {answer : Explanation}
+      → answer ≡ explanation cells h theme way pair sets → RightExplained cells h theme sets
+      → (r : ℕ) → 1 ≤ r → {call : Bookmark → Lent → Leaf} → PlainCall cells h theme (Moved way) call
+      → {pages : List (List Pair)} {turns : List Turn} → Reading call r (firstBookmark (rangeAs (Moved way))) pages turns
+      → (answer .reason ≡ Listed) ↔ In pair (join pages)
+  -- otherwise the first reason that is true
+  pub first-reason : (cells : List ℕ) (h : ℕ) (theme : List ℕ) (way : Way) (pair : Pair) (sets : List ℕ) {answer : Explanation}
+      → answer ≡ explanation cells h theme way pair sets → RightExplained cells h theme sets
+      → TrueFirst way (scoreOf cells h) theme pair (answer .reason)
+  -- the tracks of a listed pair, by note, and 0 behind the last; and none of any other
+  pub tracks : (cells : List ℕ) (h : ℕ) (theme : List ℕ) (way : Way) (pair : Pair) (sets : List ℕ) {answer : Explanation}
+      → answer ≡ explanation cells h theme way pair sets → RightExplained cells h theme sets → answer .reason ≡ Listed
+      → ((i : ℕ) → 1 ≤ i → i ≤ length theme
+      → LowestTrack way (getD (onward (scoreOf cells h) (pair .column)) (i - 1) []) (note theme i) (pair .shift) (getD (answer .tracks) (i - 1) 0))
+      × ((i : ℕ) → length theme < i → getD (answer .tracks) (i - 1) 0 ≡ 0)
+  pub no-tracks : (cells : List ℕ) (h : ℕ) (theme : List ℕ) (way : Way) (pair : Pair) (sets : List ℕ) {answer : Explanation}
+      → answer ≡ explanation cells h theme way pair sets → RightExplained cells h theme sets
+      → (answer .reason ≡ Listed → ⊥) → answer .tracks ≡ noTracks
+  -- where the column passes its checks, whatever the shift: kept exactly where the lent sets make it a candidate of the quick
+  -- search, and otherwise dismissed, by the first interval that they lack; where it does not pass, nothing
+  pub sifted : (cells : List ℕ) (h : ℕ) (theme : List ℕ) (way : Way) (pair : Pair) (sets : List ℕ) {answer : Explanation}
+      → answer ≡ explanation cells h theme way pair sets → RightExplained cells h theme sets → Fitting (scoreOf cells h) theme (pair .column)
+      → ((answer .sifted ≡ Kept) ↔ (candidateAt cells h theme sets (pair .column) ≡ true))
+      × (((x : Lacking) × (answer .sifted ≡ Dismissed x)) ↔ (candidateAt cells h theme sets (pair .column) ≡ false))
+  pub dismissed : (cells : List ℕ) (h : ℕ) (theme : List ℕ) (way : Way) (pair : Pair) (sets : List ℕ) {answer : Explanation}
+      → answer ≡ explanation cells h theme way pair sets → RightExplained cells h theme sets → {x : Lacking} → answer .sifted ≡ Dismissed x
+      → DismissedBy (scoreOf cells h) theme (pair .column) sets x
+  pub unasked : (cells : List ℕ) (h : ℕ) (theme : List ℕ) (way : Way) (pair : Pair) (sets : List ℕ) {answer : Explanation}
+      → answer ≡ explanation cells h theme way pair sets → RightExplained cells h theme sets → (Fitting (scoreOf cells h) theme (pair .column) → ⊥)
+      → answer .sifted ≡ Unasked

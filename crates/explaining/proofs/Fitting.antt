@@ -1,6 +1,6 @@
 -- The column by itself: what the numbers of the columns tell of it is what the definition says (`fit-by-is`); and where it fits
 -- (`Placed`), each note has a column of the score, and each note but the last one with a set. Assumes nothing.
-use mathlib.Core.Path.{_≡_, refl, sym, ap, _∙_}
+use mathlib.Core.Path.{_≡_, refl, sym, ap, _∙_, subst}
 use mathlib.Core.Bool.{Bool, true, false, cond}
 use mathlib.Core.List.{List, []}
 use Prim.Native.Nat.{ℕ, _+_, _-_, _≤_, _<_}
@@ -8,7 +8,7 @@ use native.Mathlib.Decide.{decLt}
 use native.Mathlib.Omega.{arith}
 use lib.Dec.{ltb, eqb}
 use lib.ListN.{length, getD}
-use borrow.Author.Tests.{eqb-true, eqb-false, eq-eqb, ne-eqb, lt-ltb, le-ltb, ltb-false}
+use borrow.Author.Tests.{eqb-true, eqb-false, eq-eqb, ne-eqb, lt-ltb, le-ltb, ltb-true, ltb-false}
 use Rattle.score.specs.Limits.{mostTracks, mostColumns}
 use Rattle.score.specs.declared.quantities.Column.{Column}
 use Rattle.score.specs.Score.{columnAt, column, columnsIn, scoreOf, heard, onward}
@@ -27,23 +27,39 @@ pub record Placed (score : List (List ℕ)) (theme : List ℕ) (j : Column) : Ty
   pub to-last : length theme ≤ length (onward score j)
   pub with-pitch : heard (column score j) ≡ true
 
+-- the cases told apart
+abbrev number : Fit → ℕ
+number Zero = 0
+number Short = 1
+number NoPitch = 2
+number Fits = 3
+
 module _ (score : List (List ℕ)) (theme : List ℕ) (j : Column) where
   -- ---- the definition's cases
 
-  zero-fits : (Zero ≡ Fits → ⊥) × (Short ≡ Fits → ⊥) × (NoPitch ≡ Fits → ⊥)
-  zero-fits =
-      (λ e. let z : _≡_ {A = ℕ} 0 1 = cc in omega arith, λ e. let z : _≡_ {A = ℕ} 0 1 = cc in omega arith, λ e. let z : _≡_ {A = ℕ} 0 1 = cc in omega arith)
-
-  pub fits-placed : fitOf score theme j ≡ Fits → Placed score theme j
-  fits-placed e = step (eqb (j .0) 0) refl (ltb (length (onward score j)) (length theme)) refl (heard (column score j)) refl e
+  pub fit-cases : (P : Fit → Type 0)
+      → (j .0 ≡ 0 → P Zero)
+      → (1 ≤ j .0 → length (onward score j) < length theme → P Short)
+      → (1 ≤ j .0 → length theme ≤ length (onward score j) → heard (column score j) ≡ false → P NoPitch)
+      → (Placed score theme j → P Fits)
+      → P (fitOf score theme j)
+  fit-cases P zero short none fits =
+      step (eqb (j .0) 0) refl (ltb (length (onward score j)) (length theme)) refl (heard (column score j)) refl
     where
       step : (a : Bool) → eqb (j .0) 0 ≡ a → (b : Bool) → ltb (length (onward score j)) (length theme) ≡ b → (c : Bool) → heard (column score j) ≡ c
-          → cond a Zero (cond b Short (cond c Fits NoPitch)) ≡ Fits → Placed score theme j
-      step true p b q c r e = absurd (zero-fits .0 e)
-      step false p true q c r e = absurd (zero-fits .1 e)
-      step false p false q false r e = absurd (zero-fits .2 e)
-      step false p false q true r e =
-          record { from-first = let n = eqb-false (j .0) 0 p in omega (arith, n); to-last = ltb-false _ _ q; with-pitch = r }
+          → P (cond a Zero (cond b Short (cond c Fits NoPitch)))
+      step true p b q c r = zero (eqb-true (j .0) 0 p)
+      step false p true q c r = let n = eqb-false (j .0) 0 p in short (omega (arith, n)) (ltb-true _ _ q)
+      step false p false q false r = let n = eqb-false (j .0) 0 p in none (omega (arith, n)) (ltb-false _ _ q) r
+      step false p false q true r =
+          let n = eqb-false (j .0) 0 p in fits (record { from-first = omega (arith, n); to-last = ltb-false _ _ q; with-pitch = r })
+
+  pub fits-placed : fitOf score theme j ≡ Fits → Placed score theme j
+  fits-placed =
+      fit-cases (λ f. f ≡ Fits → Placed score theme j) (λ z e. absurd (other e)) (λ a b e. absurd (other e)) (λ a b c e. absurd (other e)) (λ p e. p)
+    where
+      other : {f : Fit} → f ≡ Fits → cond (eqb (number f) 3) (Unit {0}) ⊥
+      other e = subst (λ (g : Fit). cond (eqb (number g) 3) (Unit {0}) ⊥) (sym e) tt
 
   pub placed-fits : Placed score theme j → fitOf score theme j ≡ Fits
   placed-fits p =

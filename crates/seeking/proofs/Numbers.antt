@@ -71,6 +71,15 @@ zeros-at zero i = omega (arith, List·getD-eq-default {A = ℕ} [] 0 {n = i} zer
 zeros-at (suc n) zero = omega arith
 zeros-at (suc n) (suc i) = zeros-at n i
 
+-- behind what is written over zeros
+pub zeros-behind : (n : ℕ) (vs : List ℕ) (i : ℕ) → length vs ≤ i → getD (over (replicate n 0) vs) i 0 ≤ 0
+zeros-behind n vs i l =
+    let k = length vs in
+    let e : k + (i - k) ≡ i = omega arith in
+    let behind : getD (over (replicate n 0) vs) i 0 ≡ getD (drop k (replicate n 0)) (i - k) 0 =
+    ap (λ (x : ℕ). getD (over (replicate n 0) vs) x 0) (sym e) ∙ getD-append-add vs (drop k (replicate n 0)) (i - k) 0 in
+    omega (arith, behind, getD-drop {A = ℕ} k (replicate n 0) (i - k) 0, zeros-at n (k + (i - k)))
+
 module _ (score : List (List ℕ)) (j : Column) where
   abbrev front : List ℕ
   front = take mostSought (numbersOn score j)
@@ -87,13 +96,7 @@ module _ (score : List (List ℕ)) (j : Column) where
 
   pub sought-past : (i : ℕ) → length (onward score j) ≤ i → getD (sought score j) i 0 ≤ 0
   unfolding soughtBehind
-  sought-past i l =
-      let n = length front in
-      let short : n ≤ i = omega (arith, length-take mostSought (numbersOn score j), numbers-length score j) in
-      let e : n + (i - n) ≡ i = omega arith in
-      let behind : getD (over (replicate mostSought 0) front) i 0 ≡ getD (drop n (replicate mostSought 0)) (i - n) 0 =
-      ap (λ (k : ℕ). getD (over (replicate mostSought 0) front) k 0) (sym e) ∙ getD-append-add front (drop n (replicate mostSought 0)) (i - n) 0 in
-      omega (arith, behind, getD-drop {A = ℕ} n (replicate mostSought 0) (i - n) 0, zeros-at mostSought (n + (i - n)))
+  sought-past i l = zeros-behind mostSought front i (omega (arith, length-take mostSought (numbersOn score j), numbers-length score j))
 
   -- ---- column j itself
 
