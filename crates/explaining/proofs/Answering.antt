@@ -156,7 +156,7 @@ module _ (cells : List ℕ) (h : ℕ) (theme : List ℕ) (way : Way) (pair : Pai
     fit-there e =
         let p = fits-placed score theme j (told e) in
         let c = columns-there cells h theme j few p (accepted .tracks-few) in
-        let t = sets-there cells h theme j few p (accepted .columns-few) sets (passed-asks cells h theme way pair sets v .1 .one-less) in
+        let t = sets-there cells h theme j few p (fit-asked .0) (accepted .columns-few) sets (passed-asks cells h theme way pair sets v .1 .one-less) in
         (subst (ColumnsThere cells h theme) (sym s) c, subst (SetsThere theme sets) (sym s) t)
 
     pub answer-fits : fit ≡ Fits → {r : Explanation} → r ≡ atFit way (pair .shift) score theme sets numbers → r ≡ explained way score theme pair sets

@@ -126,9 +126,10 @@ module _ (cells : List ℕ) (h : ℕ) (theme : List ℕ) (j : Column) (few : len
         to-last = λ i l. omega (arith, same i l, number-named score j i (omega (arith, p .to-last)) .to-last, score-length cells h);
       }
 
-  pub sets-there : columnsIn cells h ≤ mostColumns → (sets : List ℕ) → length sets ≡ columnsIn cells h - 1 → SetsThere theme sets numbers
-  sets-there most sets long =
+  pub sets-there : 1 ≤ length theme → columnsIn cells h ≤ mostColumns → (sets : List ℕ) → length sets ≡ columnsIn cells h - 1 → SetsThere theme sets numbers
+  sets-there some most sets long =
       record {
+        notes-some = some;
         sets-few = omega (arith, most, long);
         notes-few = few;
         room = omega (arith, sought-length score j);

@@ -1,4 +1,4 @@
--- The loops over the notes of a theme: one stops at the first note that its column does not hold (`Gone`), the other writes the
+-- The loops over the notes of a theme: one finds the first note that its column does not hold (`Gone`), the other writes the
 -- lowest track of each (`Naming`). Assumes nothing.
 use mathlib.Core.Path.{_≡_, refl, sym, ap, _∙_}
 use mathlib.Core.Bool.{Bool, true, false, not}
@@ -8,7 +8,6 @@ use native.Mathlib.Omega.{arith}
 use lib.ListN.{length, getD, set, length-set}
 use Rattle.theory.specs.Lists.{over, count}
 use Rattle.theory.proofs.Lists.{over-more, count-at, count-length, count-map-length, count-append}
-use Rattle.theory.proofs.Scans.{Passed, passed-start, passed-more, passed-found, passed-end}
 use Rattle.score.specs.declared.quantities.Pitch.{Pitch}
 use Rattle.score.specs.Score.{pitch, columnAt, column, columnsIn, scoreOf, note}
 use Rattle.score.proofs.Columns.{column-le}
@@ -17,6 +16,7 @@ use Rattle.ways.specs.Way.{holds}
 use Rattle.seeking.specs.Limits.{mostSought}
 use Rattle.seeking.specs.Track.{lowestTrack}
 use Rattle.seeking.proofs.Tracks.{track-le}
+use Rattle.seeking.proofs.Descending.{Descended, descended-start, descended-took, descended-passed, descended-end}
 use Rattle.explaining.specs.Explaining.{noTracks, fails, held, tracksOf}
 use Rattle.explaining.specs.Inner.{columnBy}
 
@@ -39,32 +39,32 @@ module _ (way : Way) (code : ℕ) (score : List (List ℕ)) (theme numbers : Lis
 
   -- ---- to the first that fails
 
-  -- the first i notes are held
-  pub record Gone (i : ℕ) : Type 0 where
-    pub passed : Passed (fails way code theme at) (count 1 (length theme)) i
+  -- of the notes behind the first i, r is the first that fails
+  pub record Gone (i r : ℕ) : Type 0 where
+    pub descended : Descended (fails way code theme at) (count 1 (length theme)) i r
 
-  pub gone-start : Gone 0
-  gone-start = record { passed = passed-start _ _ }
+  pub gone-start : Gone (length theme) (length theme)
+  gone-start = record { descended = descended-start _ _ (sym (count-length 1 (length theme))) }
 
-  module _ {i : ℕ} (s : Gone i) (h : i < length theme) {c : List ℕ} (same : c ≡ column score (columnAt (getD numbers i 0)))
-      {r : Bool} (e : r ≡ holds way code (pitch (getD theme i 0)) c) where
-    place : getD (count 1 (length theme)) i 0 ≡ i + 1
-    place = count-at 1 (length theme) i 0 h ∙ omega arith
+  pub gone-within : {i r : ℕ} → Gone i r → i ≤ length theme
+  gone-within s = omega (arith, s .descended .within, count-length 1 (length theme))
 
-    within : i < length (count 1 (length theme))
-    within = omega (arith, count-length 1 (length theme))
+  module _ {i r : ℕ} (s : Gone i r) (h : 0 < i) {c : List ℕ} (same : c ≡ column score (columnAt (getD numbers (i - 1) 0)))
+      {b : Bool} (e : b ≡ holds way code (pitch (getD theme (i - 1) 0)) c) where
+    place : getD (count 1 (length theme)) (i - 1) 0 ≡ i - 1 + 1
+    place = count-at 1 (length theme) (i - 1) 0 (omega (arith, gone-within s)) ∙ omega arith
 
-    tells : fails way code theme at (getD (count 1 (length theme)) i 0) ≡ not r
-    tells = ap (fails way code theme at) place ∙ rw (note-of theme i, column-of score numbers i, e, same)
+    tells : fails way code theme at (getD (count 1 (length theme)) (i - 1) 0) ≡ not b
+    tells = ap (fails way code theme at) place ∙ rw (note-of theme (i - 1), column-of score numbers (i - 1), e, same)
 
-    pub note-fails : not r ≡ true → i ≡ held way code theme at
-    note-fails z = passed-found _ _ 0 (s .passed) within (tells ∙ z)
+    pub note-fails : not b ≡ true → Gone (i - 1) (i - 1)
+    note-fails z = record { descended = descended-took _ _ (s .descended) h 0 (tells ∙ z) }
 
-    pub note-held : not r ≡ false → Gone (i + 1)
-    note-held z = record { passed = passed-more _ _ 0 (s .passed) within (tells ∙ z) }
+    pub note-held : not b ≡ false → Gone (i - 1) r
+    note-held z = record { descended = descended-passed _ _ (s .descended) h 0 (tells ∙ z) }
 
-  pub gone-end : {i : ℕ} → Gone i → length theme ≤ i → i ≡ held way code theme at
-  gone-end s h = passed-end _ _ (s .passed) (omega (arith, count-length 1 (length theme)))
+  pub gone-end : {i r : ℕ} → Gone i r → i ≤ 0 → r ≡ held way code theme at
+  gone-end s h = descended-end _ _ (s .descended) h
 
   -- ---- the tracks
 

@@ -1,4 +1,4 @@
--- The loop over the intervals of a theme stops at the first that the set of its column lacks (`Sifting`); and what that makes of the
+-- The loop over the intervals of a theme finds the first that the set of its column lacks (`Sifting`); and what that makes of the
 -- column. Assumes nothing.
 use mathlib.Core.Path.{_≡_, refl, sym, ap, ap₂, _∙_}
 use mathlib.Core.Bool.{Bool, true, false}
@@ -13,13 +13,13 @@ use Rattle.theory.specs.Bits.{bit}
 use Rattle.theory.specs.Lists.{count}
 use Rattle.theory.proofs.Lists.{first-le, count-at, count-length}
 use Rattle.theory.proofs.Masks.{shr-and-one}
-use Rattle.theory.proofs.Scans.{Passed, passed-start, passed-more, passed-found, passed-end}
 use Rattle.score.specs.declared.quantities.Pitch.{Pitch}
 use Rattle.score.specs.declared.quantities.Interval.{Interval}
 use Rattle.score.specs.Score.{pitch, note}
 use Rattle.score.specs.Sets.{interval}
 use Rattle.score.proofs.Intervals.{interval-lt}
 use Rattle.filter.specs.Table.{themeInterval}
+use Rattle.seeking.proofs.Descending.{Descended, descended-start, descended-took, descended-passed, descended-end}
 use Rattle.explaining.specs.declared.answer.Sifted.{Sifted}
 use Rattle.explaining.specs.declared.answer.Sifted.the-variants.{Kept, Dismissed}
 use Rattle.explaining.specs.Explaining.{lacks, had, siftedBy}
@@ -36,27 +36,26 @@ interval-of theme k =
     rw (a, b)
 
 module _ (theme sets numbers : List ℕ) where
-  -- i - 1 intervals are there
-  pub record Sifting (i : ℕ) : Type 0 where
-    pub from-first : 1 ≤ i
-    pub passed : Passed (lacks theme sets numbers) (count 1 (length theme - 1)) (i - 1)
+  -- of the intervals behind the first i, r is the first that is lacking
+  pub record Sifting (i r : ℕ) : Type 0 where
+    pub descended : Descended (lacks theme sets numbers) (count 1 (length theme - 1)) i r
 
-  pub sifting-start : Sifting 1
-  sifting-start = record { from-first = omega arith; passed = passed-start _ _ }
+  pub sifting-start : Sifting (length theme - 1) (length theme - 1)
+  sifting-start = record { descended = descended-start _ _ (sym (count-length 1 (length theme - 1))) }
 
-  module _ {i : ℕ} (s : Sifting i) (h : i < length theme) {d : Interval}
+  pub sifting-within : {i r : ℕ} → Sifting i r → i ≤ length theme - 1
+  sifting-within s = omega (arith, s .descended .within, count-length 1 (length theme - 1))
+
+  module _ {i r : ℕ} (s : Sifting i r) (h : 0 < i) {d : Interval}
       (e : d ≡ interval (pitch (getD theme (i - 1) 0)) (pitch (getD theme i 0))) where
     abbrev set : ℕ
     set = getD sets (getD numbers (i - 1) 0 - 1) 0
 
     place : getD (count 1 (length theme - 1)) (i - 1) 0 ≡ i
-    place = count-at 1 (length theme - 1) (i - 1) 0 (omega (arith, s .from-first)) ∙ omega (arith, s .from-first)
-
-    within : i - 1 < length (count 1 (length theme - 1))
-    within = omega (arith, count-length 1 (length theme - 1), s .from-first)
+    place = count-at 1 (length theme - 1) (i - 1) 0 (omega (arith, sifting-within s)) ∙ omega arith
 
     own : themeInterval theme (i - 1) ≡ d
-    own = let next : i - 1 + 1 ≡ i = omega (arith, s .from-first) in interval-of theme (i - 1) ∙ rw next (sym e)
+    own = let next : i - 1 + 1 ≡ i = omega arith in interval-of theme (i - 1) ∙ rw next (sym e)
 
     tells : lacks theme sets numbers (getD (count 1 (length theme - 1)) (i - 1) 0) ≡ eqb (bitAnd (set / 2 ^ d .0) 1) 1
     tells =
@@ -64,16 +63,14 @@ module _ (theme sets numbers : List ℕ) where
         ∙ ap (λ (x : Interval). eqb (bit set (x .0)) 1) own
         ∙ ap (λ (x : ℕ). eqb x 1) (sym (shr-and-one set (d .0)))
 
-    pub interval-lacks : bitAnd (set / 2 ^ d .0) 1 ≡ 1 → i - 1 ≡ had theme sets numbers
-    interval-lacks z = passed-found _ _ 0 (s .passed) within (tells ∙ eq-eqb _ _ z)
+    pub interval-lacks : bitAnd (set / 2 ^ d .0) 1 ≡ 1 → Sifting (i - 1) (i - 1)
+    interval-lacks z = record { descended = descended-took _ _ (s .descended) h 0 (tells ∙ eq-eqb _ _ z) }
 
-    pub interval-there : (bitAnd (set / 2 ^ d .0) 1 ≡ 1 → ⊥) → Sifting (i + 1)
-    interval-there z =
-        let next : i - 1 + 1 ≡ i + 1 - 1 = omega (arith, s .from-first) in
-        record { from-first = omega arith; passed = rw next at (passed-more _ _ 0 (s .passed) within (tells ∙ ne-eqb _ _ z)) }
+    pub interval-there : (bitAnd (set / 2 ^ d .0) 1 ≡ 1 → ⊥) → Sifting (i - 1) r
+    interval-there z = record { descended = descended-passed _ _ (s .descended) h 0 (tells ∙ ne-eqb _ _ z) }
 
-  pub sifting-end : {i : ℕ} → Sifting i → length theme ≤ i → i - 1 ≡ had theme sets numbers
-  sifting-end s h = passed-end _ _ (s .passed) (omega (arith, count-length 1 (length theme - 1)))
+  pub sifting-end : {i r : ℕ} → Sifting i r → i ≤ 0 → r ≡ had theme sets numbers
+  sifting-end s h = descended-end _ _ (s .descended) h
 
   pub had-le : had theme sets numbers ≤ length theme - 1
   had-le = omega (arith, first-le (lacks theme sets numbers) (count 1 (length theme - 1)), count-length 1 (length theme - 1))

@@ -39,6 +39,7 @@ pub record ColumnsThere (cells : List ℕ) (h : ℕ) (theme numbers : List ℕ) 
 
 -- each note but the last has a column with a set
 pub record SetsThere (theme sets numbers : List ℕ) : Type 0 where
+  pub notes-some : 1 ≤ length theme
   pub sets-few : length sets ≤ mostColumns
   pub notes-few : length theme ≤ mostSought
   pub room : length theme ≤ length numbers

@@ -113,15 +113,15 @@ fn at_fit(
     requires { ⌜ ColumnsThere (now cells) tracks (now theme) (now numbers) × SetsThere (now theme) (now sets) (now numbers) ⌝ }
     ensures { λ r. ⌜ r ≡ atFit way shift (scoreOf (now (cells .entry)) tracks) (now (theme .entry)) (now (sets .entry)) (now (numbers .entry)) ⌝ }
 {
-    let sifted = sift(theme, sets, numbers);
+    let by_sets = sift(theme, sets, numbers);
     if no_shift(way, shift) {
         return Explanation {
             reason: Reason::NoShift,
             tracks: [0; MOST_SOUGHT],
-            sifted,
+            sifted: by_sets,
         };
     }
-    by_notes(cells, tracks, theme, way, code_of(way, shift), numbers, sifted)
+    by_notes(cells, tracks, theme, way, code_of(way, shift), numbers, by_sets)
 }
 
 // And with a shift of the way: by the notes.

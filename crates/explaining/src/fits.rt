@@ -22,13 +22,15 @@ pub fn fit_by(numbers: &[usize], m: usize, column: Column) -> Fit
     ensures { λ r. ⌜ r ≡ fitBy (now (numbers .entry)) m column ⌝ }
 {
     let j = column.0 as usize;
+    let first = numbers[0];
+    let last = numbers[m - 1];
     if j == 0 {
         return Fit::Zero;
     }
-    if numbers[m - 1] == 0 {
+    if last == 0 {
         return Fit::Short;
     }
-    if numbers[0] != j {
+    if first != j {
         return Fit::NoPitch;
     }
     Fit::Fits

@@ -8,22 +8,25 @@ ghost use mathlib.Core.Path.{_≡_};
 ghost use Rattle.explaining.specs.Explaining.{had, siftedBy};
 ghost use Rattle.explaining.specs.Inner.{SetsThere};
 
-// How many intervals come before the first that is not in the set of its column; all of them where there is none.
+// How many intervals come before the first that is not in the set of its column; all of them where there is none. From the last to
+// the first, as with notes.
 fn first_lacking(theme: &[u8], sets: &[u16], numbers: &[usize]) -> usize
     requires { ⌜ SetsThere (now theme) (now sets) (now numbers) ⌝ }
     ensures { λ r. ⌜ r ≡ had (now (theme .entry)) (now (sets .entry)) (now (numbers .entry)) ⌝ }
 {
-    let mut i = 1;
-    while i < theme.len() {
-        let before = i - 1;
-        let d = interval_of(Pitch(theme[before]), Pitch(theme[i]));
-        let at = numbers[before] - 1;
+    let all = theme.len() - 1;
+    let mut found = all;
+    let mut i = all;
+    while 0 < i {
+        let next = i;
+        i -= 1;
+        let d = interval_of(Pitch(theme[i]), Pitch(theme[next]));
+        let at = numbers[i] - 1;
         if (sets[at] >> d.0) & 1 == 1 {
-            return before;
+            found = i;
         }
-        i += 1;
     }
-    i - 1
+    found
 }
 
 // What the sets make of a column that fits.

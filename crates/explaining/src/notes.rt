@@ -22,7 +22,8 @@ fn column_at(cells: &[u8], tracks: usize, number: usize) -> &[u8]
     &cells[base..end]
 }
 
-// How many notes come before the first that its column does not hold; all of them where there is none.
+// How many notes come before the first that its column does not hold; all of them where there is none. It goes from the last note
+// to the first, so the lowest is the one that stays.
 pub fn first_failing(
     cells: &[u8],
     tracks: usize,
@@ -34,15 +35,16 @@ pub fn first_failing(
     requires { ⌜ ColumnsThere (now cells) tracks (now theme) (now numbers) ⌝ }
     ensures { λ r. ⌜ r ≡ held way code (now (theme .entry)) (columnBy (scoreOf (now (cells .entry)) tracks) (now (numbers .entry))) ⌝ }
 {
-    let mut i = 0;
-    while i < theme.len() {
+    let mut found = theme.len();
+    let mut i = theme.len();
+    while 0 < i {
+        i -= 1;
         let column = column_at(cells, tracks, numbers[i]);
         if !holds_at(column, way, code, Pitch(theme[i])) {
-            return i;
+            found = i;
         }
-        i += 1;
     }
-    i
+    found
 }
 
 // Why note p, of this number, is not held: moved it lies outside 0 to 127, which octave never asks, or it is absent.
@@ -52,10 +54,7 @@ pub fn failed(way: Way, code: u16, p: Pitch, number: u8) -> Reason
     let moved = p.0 as u32 + code as u32;
     match way {
         Way::Exact => {
-            if moved < 127 {
-                return Reason::Outside(number);
-            }
-            if 254 < moved {
+            if (moved < 127) | (254 < moved) {
                 return Reason::Outside(number);
             }
             Reason::Absent(number)

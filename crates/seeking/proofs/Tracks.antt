@@ -1,4 +1,4 @@
--- The lowest track that holds a note: how it is looked for, cell by cell (`track-found`, `track-passed`, `track-none`), and what it
+-- The lowest track that holds a note: how it is found, and what it
 -- is: a column holds a note exactly where one of its cells does (`holds-cells`), and then the lowest track is that of the first
 -- (`lowest-there`). Assumes nothing.
 use mathlib.Core.Path.{_≡_, refl, sym, ap, _∙_}
@@ -7,12 +7,10 @@ use mathlib.Core.List.{List, [], _∷_}
 use Prim.Native.Nat.{ℕ, _+_, _-_, _%_, _≤_, _<_}
 use native.Mathlib.Omega.{arith}
 use lib.Dec.{leb, ltb, eqb}
-use lib.ListN.{length, getD, take, drop}
-use lib.Seq.{drop-cons}
-use borrow.Author.Tests.{lt-ltb, le-ltb, ltb-true}
+use lib.ListN.{length, getD}
+use borrow.Author.Tests.{le-leb, lt-leb, lt-ltb, le-ltb, ltb-true}
 use Rattle.theory.specs.Lists.{some, first}
 use Rattle.theory.proofs.Lists.{first-before, first-there, some-first}
-use Rattle.theory.proofs.Scans.{Passed, passed-more, passed-found, passed-end}
 use Rattle.score.specs.declared.quantities.Pitch.{Pitch}
 use Rattle.score.specs.Limits.{highestPitch}
 use Rattle.score.specs.Score.{pitch, pitches}
@@ -21,37 +19,37 @@ use Rattle.ways.specs.declared.way.Way.the-variants.{Exact, Octave}
 use Rattle.ways.specs.Way.{holds}
 use Rattle.seeking.specs.Track.{cellHolds, lowestTrack}
 
--- ---- cell by cell
+-- ---- one cell
 
-module _ (way : Way) (code : ℕ) (p : Pitch) (column : List ℕ) where
-  -- none of the first i cells holds the note
-  abbrev pub Tried : ℕ → Type 0
-  Tried i = Passed (cellHolds way code p) column i
+-- a rest is none; a pitch is by its number, or by its class
+only : (b : Bool) → b ≡ cond b true false
+only true = refl
+only false = refl
 
-  -- the part that is lent is the next cell
-  one-cell : (i : ℕ) → i < length column → take (i + 1 - i) (drop i column) ≡ getD column i 0 ∷ []
-  one-cell i h = let e : i + 1 - i ≡ 1 = omega arith in rw (e, drop-cons column i 0 h)
+module _ (code : ℕ) (p : Pitch) (cell : ℕ) where
+  pub cell-rest : (way : Way) → highestPitch < cell → false ≡ cellHolds way code p cell
+  unfolding holds
+  cell-rest Exact h = rw (lt-leb cell highestPitch h)
+  cell-rest Octave h = rw (lt-leb cell highestPitch h)
 
-  module _ {i : ℕ} (s : Tried i) (h : i < length column) {r : Bool} (e : r ≡ holds way code p (take (i + 1 - i) (drop i column))) where
-    tells : r ≡ cellHolds way code p (getD column i 0)
-    tells = e ∙ ap (holds way code p) (one-cell i h)
+  pub cell-exact : cell ≤ highestPitch → eqb (cell + 127) (p .0 + code) ≡ cellHolds Exact code p cell
+  unfolding holds
+  cell-exact h = rw (le-leb cell highestPitch h) (only (eqb (cell + 127) (p .0 + code)))
 
-    pub track-found : r ≡ true → i + 1 ≡ lowestTrack way code p column
-    unfolding lowestTrack
-    track-found t =
-        let f : i ≡ first (cellHolds way code p) column = passed-found (cellHolds way code p) column 0 s h (sym tells ∙ t) in
-        let l : first (cellHolds way code p) column < length column = omega (arith, f, h) in
-        rw (lt-ltb _ _ l) (omega (arith, f))
+  pub cell-octave : cell ≤ highestPitch → eqb (cell % 12) ((p .0 + code) % 12) ≡ cellHolds Octave code p cell
+  unfolding holds
+  cell-octave h = rw (le-leb cell highestPitch h) (only (eqb (cell % 12) ((p .0 + code) % 12)))
 
-    pub track-passed : r ≡ false → Tried (i + 1)
-    track-passed t = passed-more (cellHolds way code p) column 0 s h (sym tells ∙ t)
+-- ---- by the first cell that holds the note
 
-  pub track-none : {i : ℕ} → Tried i → length column ≤ i → 0 ≡ lowestTrack way code p column
+module _ (way : Way) (code : ℕ) (p : Pitch) (column : List ℕ) {k : ℕ} (e : k ≡ first (cellHolds way code p) column) where
+  pub track-found : k < length column → k + 1 ≡ lowestTrack way code p column
   unfolding lowestTrack
-  track-none {i} s h =
-      let f : i ≡ first (cellHolds way code p) column = passed-end (cellHolds way code p) column s h in
-      let l : length column ≤ first (cellHolds way code p) column = omega (arith, f, h) in
-      rw (le-ltb _ _ l)
+  track-found h = rw (← e, lt-ltb k (length column) h)
+
+  pub track-none : length column ≤ k → 0 ≡ lowestTrack way code p column
+  unfolding lowestTrack
+  track-none h = rw (← e, le-ltb k (length column) h)
 
 -- ---- a column holds a note exactly where one of its cells does
 
@@ -59,14 +57,14 @@ some-pitches : (test : Pitch → Bool) (column : List ℕ) → some test (pitche
 some-pitches test [] = refl
 some-pitches test (cell ∷ column) = step (leb cell highestPitch) (some-pitches test column)
   where
-    only : (b c : Bool) → cond b true c ≡ cond (cond b true false) true c
-    only true c = refl
-    only false c = refl
+    once : (b c : Bool) → cond b true c ≡ cond (cond b true false) true c
+    once true c = refl
+    once false c = refl
 
     step : (t : Bool) → some test (pitches column) ≡ some (λ cell. some test (pitches (cell ∷ []))) column
         → some test (cond t (pitch cell ∷ pitches column) (pitches column))
         ≡ cond (some test (cond t (pitch cell ∷ []) [])) true (some (λ cell. some test (pitches (cell ∷ []))) column)
-    step true ih = ap (cond (test (pitch cell)) true) ih ∙ only (test (pitch cell)) _
+    step true ih = ap (cond (test (pitch cell)) true) ih ∙ once (test (pitch cell)) _
     step false ih = ih
 
 pub holds-cells : (way : Way) (code : ℕ) (p : Pitch) (column : List ℕ) → holds way code p column ≡ some (cellHolds way code p) column

@@ -1,6 +1,5 @@
 -- `explaining::notes::failed` meets its contract: each way out is a case of the definition. Assumes nothing.
 use borrow.Author.Needs.{needs}
-use borrow.Author.Tests.{lt-ltb, le-ltb}
 use Rattle.explaining.proofs.notes.failed.Statement.{statement}
 use Rattle.explaining.proofs.notes.failed.Tie as tie
 
@@ -14,21 +13,18 @@ enum-told : tie.Need-enum-told
 enum-told c = search needs
 
 returns : tie.Need-returns
-returns c = rw (c .before .enum-told .given .1, lt-ltb _ _ (c .if1 .taken))
-
-returns-2 : tie.Need-returns-2
-returns-2 c = rw (c .before .before .enum-told .given .1, le-ltb _ _ (c .before .if1 .left), lt-ltb _ _ (c .if2 .taken))
+returns c = rw (c .before .enum-told .given .1, c .if1 .taken)
 
 enum-told-2 : tie.Need-enum-told-2
 enum-told-2 c = search needs
 
-returns-3 : tie.Need-returns-3
-returns-3 c = rw (c .before .before .enum-told .given .1, le-ltb _ _ (c .before .if1 .left), le-ltb _ _ (c .if2 .left))
+returns-2 : tie.Need-returns-2
+returns-2 c = rw (c .before .enum-told .given .1, c .if1 .left)
 
-returns-4 : tie.Need-returns-4
-returns-4 c = rw (c .enum-told2 .given .1)
+returns-3 : tie.Need-returns-3
+returns-3 c = rw (c .enum-told2 .given .1)
 
 pub failed-spec : {M : Type 1} → statement M
 failed-spec =
     tie.close
-    (tie.spec cast-moved add-moved enum-told returns returns-2 enum-told-2 returns-3 returns-4)
+    (tie.spec cast-moved add-moved enum-told returns enum-told-2 returns-2 returns-3)
