@@ -40,7 +40,8 @@ pub fn first_failing(
     while 0 < i {
         i -= 1;
         let column = column_at(cells, tracks, numbers[i]);
-        if !holds_at(column, way, code, Pitch(theme[i])) {
+        let note = theme[i];
+        if !holds_at(column, way, code, Pitch(note)) {
             found = i;
         }
     }

@@ -42,8 +42,8 @@ column-at-requires c κs =
     let s = start (l .before) in
     (s .pre .from-first (l .before .loop .i - 1) (inside l), s .pre .to-last (l .before .loop .i - 1) (inside l))
 
-shared-slice-read-t15 : tie.Need-shared-slice-read-t15 Inv-loop μ-loop
-shared-slice-read-t15 c = inside (c .before .before .before)
+shared-slice-read-note : tie.Need-shared-slice-read-note Inv-loop μ-loop
+shared-slice-read-note c = inside (c .before .before .before)
 
 holds-at-requires : tie.Need-holds-at-requires Inv-loop μ-loop
 holds-at-requires c κs = search needs
@@ -80,7 +80,7 @@ first-failing-spec =
     mul-column-at
     shared-slice-read-column-at
     column-at-requires
-    shared-slice-read-t15
+    shared-slice-read-note
     holds-at-requires
     loop-less
     loop-again
