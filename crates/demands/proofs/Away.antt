@@ -156,6 +156,8 @@ explains-away cells h theme way pair sets {answer} e =
           (λ x. f .0 (sym own ∙ x), λ x. own ∙ f .1 x);
       otherwise = (λ g. v .0 (a .0 (λ r x. g r (own ∙ x))), λ x r y. a .1 (v .1 x) r (sym own ∙ y));
       unwritten = λ r x.
-          let k = answer-kept said Unexplained same turned full (λ r. refl) never rows (λ y. (y .tracks ≡ noTracks) × (y .sifted ≡ Unasked)) (λ r. (refl, refl)) r (sym own ∙ x) in
+          let k =
+          answer-kept said Unexplained same turned full (λ r. refl) never rows (λ y. (y .tracks ≡ noTracks) × (y .sifted ≡ Unasked))
+          (λ r. (refl, refl)) r (sym own ∙ x) in
           (ap (λ (y : Explanation). y .tracks) e ∙ k .0, ap (λ (y : Explanation). y .sifted) e ∙ k .1);
     }

@@ -2,31 +2,28 @@
 -- and says of the column what the quick search makes of it. The idea: by the cases of the definition, shift, column, notes; and
 -- the test that is computed of a note is the published one. Assumes nothing.
 use mathlib.Core.Path.{_≡_, refl, sym, ap, _∙_, subst}
-use mathlib.Core.Bool.{Bool, true, false, cond, not, _||_, true≢false, false≢true}
+use mathlib.Core.Bool.{Bool, true, false, cond, _||_, true≢false}
 use mathlib.Core.Logic.{_↔_}
 use mathlib.Core.List.{List, [], _∷_, map}
-use Prim.Native.Nat.{ℕ, zero, suc, _+_, _-_, _≤_, _<_}
+use Prim.Native.Nat.{ℕ, _+_, _-_, _≤_, _<_}
 use native.Mathlib.Decide.{decLt}
 use native.Mathlib.Omega.{arith}
-use lib.Dec.{ltb, eqb}
-use lib.IntN.{ℤ, pos, _+ℤ_}
+use lib.Dec.{ltb}
+use lib.IntN.{ℤ}
 use lib.ListN.{length, getD, drop, length-drop, List·getD-append}
-use borrow.Author.Tests.{eqb-true, eqb-false, eq-eqb, ne-eqb, lt-ltb, le-ltb, ltb-true, ltb-false, not-true, not-false}
+use borrow.Author.Tests.{eqb-true, eqb-false, lt-ltb, le-ltb, ltb-true, ltb-false, not-true, not-false}
 use Rattle.theory.specs.Bits.{bit}
-use Rattle.theory.specs.Lists.{over, count, first}
+use Rattle.theory.specs.Lists.{count, first}
 use Rattle.theory.proofs.Bits.{bit-lt}
 use Rattle.theory.proofs.Lists.{first-le, first-before, first-there, count-at, count-length, count-map-at, count-map-length, none-over}
-use Rattle.score.specs.Limits.{highestPitch, highestSet, tableWords}
+use Rattle.score.specs.Limits.{highestSet, tableWords}
 use Rattle.score.specs.declared.quantities.Pitch.{Pitch}
 use Rattle.score.specs.declared.quantities.Interval.{Interval}
 use Rattle.score.specs.declared.quantities.Column.{Column}
 use Rattle.score.specs.declared.refusals.Refusal.{Refusal}
-use Rattle.score.specs.declared.refusals.Verdict.the-variants.{Accepted as Passed}
-use Rattle.score.specs.Score.{columnAt, column, scoreOf, heard, heardOf, heardFrom, rankOf, columnsFrom, onward, note}
+use Rattle.score.specs.Score.{column, scoreOf, heardOf, rankOf, onward, note}
 use Rattle.score.specs.Sets.{interval}
-use Rattle.score.specs.Refusals.{verdict, GivenBy, placeBy}
 use Rattle.score.proofs.Intervals.{interval-lt}
-use Rattle.score.proofs.Judged.{answer-refused, answer-accepted, answer-kept}
 use Rattle.ways.specs.declared.way.Way.{Way}
 use Rattle.ways.specs.declared.way.Way.the-variants.{Exact, Octave}
 use Rattle.ways.specs.declared.bookmark.Pair.{Pair}
@@ -38,10 +35,10 @@ use Rattle.ways.proofs.Coding.{is-shift}
 use Rattle.asking.specs.Limits.{mostNotes}
 use Rattle.asking.specs.Asking.{Accepted, AcceptedSets}
 use Rattle.filter.specs.Limits.{wordBits}
-use Rattle.filter.specs.Table.{themeInterval, themeTable}
+use Rattle.filter.specs.Table.{themeInterval}
 use Rattle.seeking.specs.Limits.{mostSought}
 use Rattle.seeking.specs.Sought.{numbersOn}
-use Rattle.seeking.specs.Track.{cellHolds, lowestTrack}
+use Rattle.seeking.specs.Track.{lowestTrack}
 use Rattle.seeking.proofs.Tracks.{lowest-there}
 use Rattle.seeking.proofs.Numbers.{zeros-behind, numbers-ranked}
 use Rattle.search.specs.Definition.{Stands}
@@ -55,9 +52,7 @@ use Rattle.explaining.specs.declared.answer.Reason.the-variants.{Listed, NoShif
 use Rattle.explaining.specs.declared.answer.Lacking.{Lacking}
 use Rattle.explaining.specs.declared.answer.Sifted.{Sifted}
 use Rattle.explaining.specs.declared.answer.Sifted.the-variants.{Unasked, Kept, Dismissed}
-use Rattle.explaining.specs.declared.fits.Fit.{Fit}
-use Rattle.explaining.specs.declared.fits.Fit.the-variants.{Zero, Short, NoPitch, Fits}
-use Rattle.explaining.specs.Explaining.{noTracks, fitOf, outside, failed, fails, held, notesSay, tracksOf, notesTracks, lacks, had, siftedBy, bare, columnOf, reasonAt, tracksAt, siftedAt, explained, explainRows, explanation}
+use Rattle.explaining.specs.Explaining.{noTracks, fitOf, outside, failed, fails, held, notesSay, tracksOf, lacks, had, siftedBy, columnOf, reasonAt, tracksAt, siftedAt, explained, explanation}
 use Rattle.explaining.proofs.Fitting.{Placed, fit-cases, placed-fits}
 use Rattle.explaining.proofs.Refusing.{passed-asks, passed-explained}
 use Rattle.demands.specs.Demands.{OfWay, Fitting, Inside, HeldNote, FirstFails, TrueFirst, LowestTrack, DismissedBy, candidateAt, RightExplained}
@@ -264,7 +259,8 @@ module _ (way : Way) (score : List (List ℕ)) (theme : List ℕ) (pair : Pair) 
   pub other-tracks : (reasonSaid ≡ Listed → ⊥) → tracksSaid ≡ noTracks
   other-tracks = step (noShift way c)
     where
-      by-notes : (t : Bool) → (cond t (failed way code (note theme (k + 1)) (k + 1)) Listed ≡ Listed → ⊥) → cond t noTracks (tracksOf way code theme at) ≡ noTracks
+      by-notes : (t : Bool) → (cond t (failed way code (note theme (k + 1)) (k + 1)) Listed ≡ Listed → ⊥)
+          → cond t noTracks (tracksOf way code theme at) ≡ noTracks
       by-notes true f = refl
       by-notes false f = absurd (f refl)
 
@@ -348,7 +344,8 @@ module _ (score : List (List ℕ)) (theme : List ℕ) (j : Column) (sets : List 
   pub dismissed-by : {x : Lacking} → siftedBy theme sets (numbersOn score j) ≡ Dismissed x → DismissedBy score theme j sets x
   dismissed-by {x} e = step (ltb q n) refl e
     where
-      step : (t : Bool) → ltb q n ≡ t → cond t (Dismissed (record { number = q + 1; size = themeInterval theme q })) Kept ≡ Dismissed x → DismissedBy score theme j sets x
+      step : (t : Bool) → ltb q n ≡ t → cond t (Dismissed (record { number = q + 1; size = themeInterval theme q })) Kept ≡ Dismissed x
+          → DismissedBy score theme j sets x
       step false l z = let w : _≡_ {A = ℕ} 1 2 = ap part z in absurd (omega arith)
       step true l z =
           let own : record { number = q + 1; size = themeInterval theme q } ≡ x = ap intervalIn z in

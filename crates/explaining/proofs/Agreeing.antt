@@ -1,32 +1,29 @@
 -- What is said of the notes rests on their columns alone, and what is said of the intervals on the numbers of these alone
 -- (`notes-agree`, `tracks-agree`, `sifted-agree`); so at a column that fits, what is computed by the numbers that are sought is
 -- what the definition says (`at-fit-is`). Assumes nothing.
-use mathlib.Core.Path.{_≡_, refl, sym, ap, ap₂, _∙_}
-use mathlib.Core.Bool.{Bool, true, false, cond, not}
-use mathlib.Core.List.{List, [], map}
+use mathlib.Core.Path.{_≡_, ap, ap₂, _∙_}
+use mathlib.Core.Bool.{cond, not}
+use mathlib.Core.List.{List, []}
 use Prim.Native.Nat.{ℕ, _+_, _-_, _≤_, _<_}
 use native.Mathlib.Omega.{arith}
 use lib.Dec.{ltb, eqb}
 use lib.ListN.{length, getD}
 use Rattle.theory.specs.Bits.{bit}
-use Rattle.theory.specs.Lists.{over, count, first}
+use Rattle.theory.specs.Lists.{over}
 use Rattle.theory.proofs.Lists.{count-map-agree}
 use Rattle.theory.proofs.Lowest.{first-agree}
 use Rattle.score.specs.declared.quantities.Column.{Column}
 use Rattle.score.specs.Score.{columnAt, column, onward, note}
 use Rattle.ways.specs.declared.way.Way.{Way}
-use Rattle.ways.specs.declared.bookmark.Pair.{Pair}
-use Rattle.ways.specs.Way.{holds, codeOf}
+use Rattle.ways.specs.Way.{holds}
 use Rattle.filter.specs.Table.{themeInterval}
 use Rattle.seeking.specs.Limits.{mostSought}
 use Rattle.seeking.specs.Sought.{numbersOn, sought}
 use Rattle.seeking.specs.Track.{lowestTrack}
 use Rattle.seeking.proofs.Numbers.{sought-at, number-named}
-use Rattle.explaining.specs.declared.answer.Reason.{Reason}
 use Rattle.explaining.specs.declared.answer.Reason.the-variants.{Listed}
-use Rattle.explaining.specs.declared.answer.Sifted.{Sifted}
 use Rattle.explaining.specs.declared.answer.Sifted.the-variants.{Kept, Dismissed}
-use Rattle.explaining.specs.Explaining.{noTracks, failed, held, notesSay, tracksOf, notesTracks, had, siftedBy}
+use Rattle.explaining.specs.Explaining.{noTracks, failed, held, notesSay, notesTracks, siftedBy}
 use Rattle.explaining.specs.Inner.{columnBy}
 use Rattle.explaining.proofs.Fitting.{Placed}
 

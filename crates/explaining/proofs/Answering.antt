@@ -28,7 +28,7 @@ use Rattle.explaining.specs.declared.answer.Sifted.{Sifted}
 use Rattle.explaining.specs.declared.answer.Sifted.the-variants.{Unasked}
 use Rattle.explaining.specs.declared.fits.Fit.{Fit}
 use Rattle.explaining.specs.declared.fits.Fit.the-variants.{Zero, Short, NoPitch, Fits}
-use Rattle.explaining.specs.Explaining.{noTracks, fitOf, failed, held, notesSay, tracksOf, notesTracks, siftedBy, bare, columnOf, reasonAt, tracksAt, siftedAt, explained, explainRows}
+use Rattle.explaining.specs.Explaining.{noTracks, fitOf, failed, held, tracksOf, siftedBy, bare, columnOf, explained, explainRows}
 use Rattle.explaining.specs.Inner.{fitBy, columnBy, ColumnsThere, SetsThere, firstOf, byNotes, atFit}
 use Rattle.explaining.proofs.Fitting.{fits-placed, fit-by-is, columns-there, sets-there}
 use Rattle.explaining.proofs.Refusing.{passed-asks}

@@ -1,8 +1,8 @@
 -- The column by itself: what the numbers of the columns tell of it is what the definition says (`fit-by-is`); and where it fits
 -- (`Placed`), each note has a column of the score, and each note but the last one with a set. Assumes nothing.
-use mathlib.Core.Path.{_≡_, refl, sym, ap, _∙_, subst}
+use mathlib.Core.Path.{_≡_, refl, sym, _∙_, subst}
 use mathlib.Core.Bool.{Bool, true, false, cond}
-use mathlib.Core.List.{List, []}
+use mathlib.Core.List.{List}
 use Prim.Native.Nat.{ℕ, _+_, _-_, _≤_, _<_}
 use native.Mathlib.Decide.{decLt}
 use native.Mathlib.Omega.{arith}
@@ -11,7 +11,7 @@ use lib.ListN.{length, getD}
 use borrow.Author.Tests.{eqb-true, eqb-false, eq-eqb, ne-eqb, lt-ltb, le-ltb, ltb-true, ltb-false}
 use Rattle.score.specs.Limits.{mostTracks, mostColumns}
 use Rattle.score.specs.declared.quantities.Column.{Column}
-use Rattle.score.specs.Score.{columnAt, column, columnsIn, scoreOf, heard, onward}
+use Rattle.score.specs.Score.{column, columnsIn, scoreOf, heard, onward}
 use Rattle.score.proofs.Columns.{score-length}
 use Rattle.seeking.specs.Limits.{mostSought}
 use Rattle.seeking.specs.Sought.{numbersOn, sought}
@@ -134,6 +134,12 @@ module _ (cells : List ℕ) (h : ℕ) (theme : List ℕ) (j : Column) (few : len
         notes-few = few;
         room = omega (arith, sought-length score j);
         from-first = λ i l. omega (arith, same i (omega arith), number-named score j i (omega (arith, p .to-last)) .from-first);
-        to-last = λ i l. omega (arith, same i (omega arith), named-rise score j i (i + 1) (omega arith) (omega (arith, p .to-last)),
-            number-named score j (i + 1) (omega (arith, p .to-last)) .to-last, score-length cells h, long);
+        to-last = λ i l. omega (
+          arith,
+          same i (omega arith),
+          named-rise score j i (i + 1) (omega arith) (omega (arith, p .to-last)),
+          number-named score j (i + 1) (omega (arith, p .to-last)) .to-last,
+          score-length cells h,
+          long,
+        );
       }

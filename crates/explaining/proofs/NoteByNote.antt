@@ -86,7 +86,8 @@ module _ (way : Way) (code : ℕ) (score : List (List ℕ)) (theme numbers : Lis
       let own : t ≡ trackOf (1 + i) =
       let n : 1 + i ≡ i + 1 = omega arith in rw (n, note-of theme i, column-of score numbers i) (e ∙ ap (lowestTrack way code (pitch (getD theme i 0))) same) in
       let one : map trackOf (count 1 i) ++ (t ∷ []) ≡ map trackOf (count 1 (i + 1)) =
-      ap (λ (x : ℕ). map trackOf (count 1 i) ++ (x ∷ [])) own ∙ sym (ap (map trackOf) (count-append 1 i 1) ∙ map-append trackOf (count 1 i) (count (1 + i) 1)) in
+      ap (λ (x : ℕ). map trackOf (count 1 i) ++ (x ∷ [])) own
+      ∙ sym (ap (map trackOf) (count-append 1 i 1) ∙ map-append trackOf (count 1 i) (count (1 + i) 1)) in
       record {
         so-far = ap (λ (d : List ℕ). set d i t) (s .so-far)
             ∙ over-more noTracks (map trackOf (count 1 i)) 0 i t (count-map-length trackOf 1 i) (omega arith)

@@ -1,12 +1,11 @@
 -- The loop over the intervals of a theme finds the first that the set of its column lacks (`Sifting`); and what that makes of the
 -- column. Assumes nothing.
-use mathlib.Core.Path.{_≡_, refl, sym, ap, ap₂, _∙_}
-use mathlib.Core.Bool.{Bool, true, false}
+use mathlib.Core.Path.{_≡_, sym, ap, _∙_}
 use mathlib.Core.List.{List}
 use Prim.Native.Nat.{ℕ, _+_, _-_, _/_, _^_, _≤_, _<_}
 use native.Mathlib.Omega.{arith}
 use lib.Bits.{bitAnd}
-use lib.Dec.{ltb, eqb}
+use lib.Dec.{eqb}
 use lib.ListN.{length, getD}
 use borrow.Author.Tests.{eq-eqb, ne-eqb, lt-ltb, le-ltb}
 use Rattle.theory.specs.Bits.{bit}
@@ -15,12 +14,11 @@ use Rattle.theory.proofs.Lists.{first-le, count-at, count-length}
 use Rattle.theory.proofs.Masks.{shr-and-one}
 use Rattle.score.specs.declared.quantities.Pitch.{Pitch}
 use Rattle.score.specs.declared.quantities.Interval.{Interval}
-use Rattle.score.specs.Score.{pitch, note}
+use Rattle.score.specs.Score.{pitch}
 use Rattle.score.specs.Sets.{interval}
 use Rattle.score.proofs.Intervals.{interval-lt}
 use Rattle.filter.specs.Table.{themeInterval}
 use Rattle.seeking.proofs.Descending.{Descended, descended-start, descended-took, descended-passed, descended-end}
-use Rattle.explaining.specs.declared.answer.Sifted.{Sifted}
 use Rattle.explaining.specs.declared.answer.Sifted.the-variants.{Kept, Dismissed}
 use Rattle.explaining.specs.Explaining.{lacks, had, siftedBy}
 

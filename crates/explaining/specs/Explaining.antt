@@ -1,6 +1,6 @@
--- Why a pair is listed or not: `explanation`, the whole answer of the call. The reason is the first that holds, in this order: the
--- shift (`noShift` of `ways`), the column (`fitOf`), the notes (`notesSay`). Beside it stands what the lent sets make of a column
--- that fits (`siftedBy`), which rests on no shift. Refusals 1 to 7. Assumes nothing.
+-- Why a pair is listed or not: `explanation`, the whole answer of the call. The reason is the first that is true, in this order:
+-- the shift (`noShift` of `ways`), the column (`fitOf`), the notes (`notesSay`). Beside it stands what the lent sets make of a
+-- column that fits (`siftedBy`), which rests on no shift. Refusals 1 to 7. Assumes nothing.
 use mathlib.Core.Bool.{Bool, false, cond, not, _||_}
 use mathlib.Core.List.{List, [], _∷_, map, _++_}
 use Prim.Native.Nat.{ℕ, _+_, _-_}
@@ -10,7 +10,6 @@ use Rattle.theory.specs.Bits.{bit}
 use Rattle.theory.specs.Lists.{over, count, first}
 use Rattle.score.specs.declared.quantities.Pitch.{Pitch}
 use Rattle.score.specs.declared.quantities.Column.{Column}
-use Rattle.score.specs.declared.refusals.Refusal.{Refusal}
 use Rattle.score.specs.Score.{column, scoreOf, heard, onward, note}
 use Rattle.score.specs.Refusals.{Row, row6, row7, judge}
 use Rattle.ways.specs.declared.way.Way.{Way}
@@ -41,7 +40,9 @@ noTracks = replicate mostSought 0
 -- it is 0; from it on there are fewer columns with a pitch than notes, as from a column above n; it has no pitch; or it fits
 abbrev pub fitOf : (score : List (List ℕ)) (theme : List ℕ) → Column → Fit
 fitOf score theme j =
-    cond (eqb (j .0) 0) Zero (cond (ltb (length (onward score j)) (length theme)) Short (cond (heard (column score j)) Fits NoPitch))
+    cond (eqb (j .0) 0) Zero
+    (cond (ltb (length (onward score j)) (length theme)) Short
+    (cond (heard (column score j)) Fits NoPitch))
 
 -- ---- the notes, by their numbers from 1
 

@@ -23,7 +23,10 @@ use Rattle.explaining.specs.Explaining.{noTracks, notesSay, notesTracks,
 
 -- a column of number 0 is none
 abbrev pub fitBy : (numbers : List ℕ) (m : ℕ) → Column → Fit
-fitBy numbers m j = cond (eqb (j .0) 0) Zero (cond (eqb (getD numbers (m - 1) 0) 0) Short (cond (eqb (getD numbers 0 0) (j .0)) Fits NoPitch))
+fitBy numbers m j =
+    cond (eqb (j .0) 0) Zero
+    (cond (eqb (getD numbers (m - 1) 0) 0) Short
+    (cond (eqb (getD numbers 0 0) (j .0)) Fits NoPitch))
 
 -- the column of note i, from 1
 abbrev pub columnBy : (score : List (List ℕ)) (numbers : List ℕ) → ℕ → List ℕ

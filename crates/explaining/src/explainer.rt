@@ -23,12 +23,11 @@ use ways::no_shift;
 ghost use mathlib.Core.Path.{_≡_};
 ghost use Rattle.score.specs.Score.{scoreOf};
 ghost use Rattle.score.specs.Refusals.{verdict};
-ghost use Rattle.explaining.specs.Explaining.{notesSay, notesTracks, siftedBy, bare, explained, explainRows, explanation};
-ghost use Rattle.explaining.specs.Inner.{columnBy, ColumnsThere, SetsThere, firstOf, byNotes, atFit};
+ghost use Rattle.explaining.specs.Explaining.{bare, explained, explainRows, explanation};
+ghost use Rattle.explaining.specs.Inner.{ColumnsThere, SetsThere, firstOf, byNotes, atFit};
 
-// Explains the pair: it is listed, with the lowest track that holds each note, or the first reason why not; and, where a theme has
-// room at its column, whether the lent sets keep the column or dismiss it, which may come from any score. Refuses 1 to 7. Writes
-// nothing.
+// Explains the pair: it is listed, with the lowest track that holds each note, or the first reason why not; and, where the column
+// fits, whether the lent sets, which may come from any score, keep the column or dismiss it. Refuses 1 to 7. Writes nothing.
 pub fn explain(
     cells: &[u8],
     tracks: usize,
@@ -121,7 +120,15 @@ fn at_fit(
             sifted: by_sets,
         };
     }
-    by_notes(cells, tracks, theme, way, code_of(way, shift), numbers, by_sets)
+    by_notes(
+        cells,
+        tracks,
+        theme,
+        way,
+        code_of(way, shift),
+        numbers,
+        by_sets,
+    )
 }
 
 // And with a shift of the way: by the notes.

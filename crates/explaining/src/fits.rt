@@ -4,7 +4,6 @@ use score::Column;
 ghost use mathlib.Core.Path.{_≡_};
 ghost use Prim.Native.Nat.{_≤_};
 ghost use lib.ListN.{length};
-ghost use Rattle.seeking.specs.Limits.{mostSought};
 ghost use Rattle.explaining.specs.Inner.{fitBy};
 
 // The column is 0; from it on there are too few columns with a pitch; it has none itself; or it fits.

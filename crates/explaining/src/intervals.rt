@@ -8,8 +8,8 @@ ghost use mathlib.Core.Path.{_≡_};
 ghost use Rattle.explaining.specs.Explaining.{had, siftedBy};
 ghost use Rattle.explaining.specs.Inner.{SetsThere};
 
-// How many intervals come before the first that is not in the set of its column; all of them where there is none. From the last to
-// the first, as with notes.
+// How many intervals come before the first that is not in the set of its column; all of them where there is none. It goes from the
+// last to the first, as with notes.
 fn first_lacking(theme: &[u8], sets: &[u16], numbers: &[usize]) -> usize
     requires { ⌜ SetsThere (now theme) (now sets) (now numbers) ⌝ }
     ensures { λ r. ⌜ r ≡ had (now (theme .entry)) (now (sets .entry)) (now (numbers .entry)) ⌝ }

@@ -1,7 +1,7 @@
 -- The entries of the columns with a pitch are sets: each is that of its column (`entry-is`), and they are twelve bits where the sets
 -- are (`entries-small`). Assumes nothing.
 use mathlib.Core.Path.{_≡_, ap, _∙_}
-use mathlib.Core.List.{List, map}
+use mathlib.Core.List.{List}
 use Prim.Native.Nat.{ℕ, _+_, _-_, _≤_, _<_}
 use native.Mathlib.Decide.{decLt}
 use native.Mathlib.Omega.{arith}

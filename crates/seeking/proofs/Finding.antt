@@ -13,7 +13,7 @@ use Rattle.theory.specs.Lists.{over}
 use Rattle.theory.proofs.Either.{both-left, both-right}
 use Rattle.theory.proofs.Lists.{over-more}
 use Rattle.score.specs.Score.{columnsIn, scoreOf, heard}
-use Rattle.score.proofs.Columns.{score-length, column-room, column-cells}
+use Rattle.score.proofs.Columns.{score-length, column-cells}
 use Rattle.score.proofs.Heard.{numbers-take, numbers-skip}
 use Rattle.seeking.specs.Limits.{mostSought}
 use Rattle.seeking.specs.Sought.{numbersBehind, soughtBehind}
@@ -84,4 +84,6 @@ module _ (cells : List ℕ) (h passed : ℕ) {numbers : List ℕ} {k q : ℕ} (f
           sym (take-all mostSought (f .named) (omega (arith, f .many, f .room))) ∙ ap (take mostSought) all
       step true g z =
           let full : mostSought ≡ length (f .named) = omega (arith, f .many, f .room, ltb-false q mostSought z) in
-          sym (take-append-seam (f .named) (numbersBehind score k)) ∙ ap (λ (n : ℕ). take n (f .named ++ numbersBehind score k)) (sym full) ∙ ap (take mostSought) (f .left)
+          sym (take-append-seam (f .named) (numbersBehind score k))
+          ∙ ap (λ (n : ℕ). take n (f .named ++ numbersBehind score k)) (sym full)
+          ∙ ap (take mostSought) (f .left)

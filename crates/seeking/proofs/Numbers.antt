@@ -1,7 +1,7 @@
 -- The columns in which notes are sought, by their numbers: the i-th number names the i-th of the columns with a pitch from column j
 -- on (`Named`); there is a number for each (`sought-at`) and 0 behind them (`sought-past`); and column j has a pitch exactly where
 -- the first number is its own (`heard-first`, `empty-first`). Assumes nothing.
-use mathlib.Core.Path.{_≡_, refl, sym, ap, _∙_}
+use mathlib.Core.Path.{_≡_, sym, ap, _∙_}
 use mathlib.Core.Bool.{true, false, false≢true}
 use mathlib.Core.List.{List, [], _∷_}
 use Prim.Native.Nat.{ℕ, zero, suc, _+_, _-_, _≤_, _<_, zero-le}

@@ -1,8 +1,7 @@
 -- `explaining::explainer::explain` meets its contract: what is turned away is a row of the call, and otherwise the pair is explained.
 -- Assumes nothing.
 use borrow.Author.Needs.{needs}
-use mathlib.Core.Path.{sym, ap, _∙_}
-use Rattle.explaining.proofs.Refusing.{turned-bare, passed-explained}
+use Rattle.explaining.proofs.Refusing.{turned-bare, lets-pass, passed-answer}
 use Rattle.explaining.proofs.explainer.explain.Statement.{statement}
 use Rattle.explaining.proofs.explainer.explain.Tie as tie
 
@@ -19,22 +18,25 @@ returns : tie.Need-returns
 returns c =
     let k = c .before .before .before .before in
     let a = k .before .before .before .before .args in
-    c .bare .ensures
-    ∙ turned-bare (a .cells .now) (a .tracks) (a .theme .now) (a .way) (a .pair) (a .sets .now) (sym (k .check-explained .ensures) ∙ c .before .before .e .given .1)
+    turned-bare (a .cells .now) (a .tracks) (a .theme .now) (a .way) (a .pair) (a .sets .now) (k .check-explained .ensures) (c .before .before .e .given .1)
+    (c .bare .ensures)
 
 enum-told : tie.Need-enum-told
 enum-told c = search needs
 
 explained-requires : tie.Need-explained-requires
-explained-requires c κs = sym (c .before .before .check-explained .ensures) ∙ c .enum-told .given .1
+explained-requires c κs =
+    let k = c .before .before in
+    let a = k .before .before .before .before .args in
+    lets-pass (a .cells .now) (a .tracks) (a .theme .now) (a .way) (a .pair) (a .sets .now) (k .check-explained .ensures) (c .enum-told .given .1)
 
 returns-2 : tie.Need-returns-2
 returns-2 c =
     let t = c .before in
     let k = t .before .before in
     let a = k .before .before .before .before .args in
-    c .explained .ensures
-    ∙ passed-explained (a .cells .now) (a .tracks) (a .theme .now) (a .way) (a .pair) (a .sets .now) (sym (k .check-explained .ensures) ∙ t .enum-told .given .1)
+    passed-answer (a .cells .now) (a .tracks) (a .theme .now) (a .way) (a .pair) (a .sets .now) (k .check-explained .ensures) (t .enum-told .given .1)
+    (c .explained .ensures)
 
 pub explain-spec : {M : Type 1} → statement M
 explain-spec =

@@ -31,7 +31,9 @@ part-result-end : tie.Need-part-result-end
 part-result-end c = fits c
 
 returns : tie.Need-returns
-returns c = let a = c .before .args in column-cells (a .cells .now) (a .tracks) (a .number - 1) ((a .number - 1) * a .tracks) refl (omega (arith, c .before .pre))
+returns c =
+    let a = c .before .args in
+    column-cells (a .cells .now) (a .tracks) (a .number - 1) ((a .number - 1) * a .tracks) refl (omega (arith, c .before .pre))
 
 pub column-at-spec : {M : Type 1} → statement M
 column-at-spec =

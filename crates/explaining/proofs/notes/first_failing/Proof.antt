@@ -22,7 +22,11 @@ start l = l .before .before .before .before
 inside : (c : tie.In-loop Inv-loop μ-loop) → c .before .loop .i - 1 < length (start (c .before) .args .theme .now)
 inside c =
     let a = start (c .before) .args in
-    omega (arith, c .loop-test .taken, gone-within (a .way) (a .code) (scoreOf (a .cells .now) (a .tracks)) (a .theme .now) (a .numbers .now) (c .before .loop .inv))
+    omega (
+      arith,
+      c .loop-test .taken,
+      gone-within (a .way) (a .code) (scoreOf (a .cells .now) (a .tracks)) (a .theme .now) (a .numbers .now) (c .before .loop .inv),
+    )
 
 loop-holds : tie.Need-loop-holds Inv-loop μ-loop
 loop-holds c = gone-start _ _ _ _ _

@@ -42,8 +42,12 @@ cast-named : tie.Need-cast-named Inv-loop μ-loop
 cast-named c =
     let l = c .before .before .before .before .before in
     let s = start l in
-    omega (arith, s .pre .tracks-few, track-few (s .args .way) (s .args .code) (pitch (getD (s .args .theme .now) (l .loop .i) 0)) (s .args .cells .now) (s .args .tracks)
-    (getD (s .args .numbers .now) (l .loop .i) 0) (c .before .before .column-at .ensures) (c .lowest-track .ensures))
+    omega (
+      arith,
+      s .pre .tracks-few,
+      track-few (s .args .way) (s .args .code) (pitch (getD (s .args .theme .now) (l .loop .i) 0)) (s .args .cells .now) (s .args .tracks)
+          (getD (s .args .numbers .now) (l .loop .i) 0) (c .before .before .column-at .ensures) (c .lowest-track .ensures),
+    )
 
 array-write-named : tie.Need-array-write-named Inv-loop μ-loop
 array-write-named c =

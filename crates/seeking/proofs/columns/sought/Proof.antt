@@ -1,7 +1,7 @@
 -- `seeking::columns::sought` meets its contract: behind the columns before the given one. Assumes nothing.
 use borrow.Author.Needs.{needs}
 use mathlib.Core.Path.{_≡_, ap, _∙_}
-use Prim.Native.Nat.{ℕ, _-_}
+use Prim.Native.Nat.{_-_}
 use native.Mathlib.Omega.{arith}
 use Rattle.score.specs.Score.{scoreOf}
 use Rattle.seeking.specs.Sought.{soughtBehind}
