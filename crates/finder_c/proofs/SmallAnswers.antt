@@ -1,13 +1,14 @@
 -- Every answer of the finder is small: a refused place is below 65,536, and the pairs of a page are a number of 32 bits. The
 -- idea: a row names a place only after the rows that bound the length of what it goes through; a start of a theme that is
 -- moved costs a look at least, and as the tune is written a column has one pair at most. First the answers of one number,
--- then the pages. Assumes nothing.
+-- then the explanation, then the pages. Assumes nothing.
 use mathlib.Core.Path.{_≡_, refl}
 use mathlib.Core.Bool.{Bool, true, false, cond}
 use mathlib.Core.List.{List, [], _∷_}
 use Prim.Native.Nat.{ℕ, zero, suc, _+_, _-_, _^_, _≤_, _<_, zero-le}
 use native.Mathlib.Nat.{mul-le-mul, lt-of-le-of-lt}
 use native.Mathlib.Omega.{arith}
+use lib.Dec.{ltb}
 use lib.ListN.{length, length-map}
 use Rattle.theory.specs.Pages.{pageHits, pageLooks}
 use Rattle.theory.specs.Lists.{count}
@@ -15,7 +16,7 @@ use Rattle.theory.proofs.Lists.{some-first, count-length}
 use Rattle.theory.proofs.Pages.{hits-le, page-le}
 use Rattle.score.specs.Limits.{mostTracks, mostColumns, mostCells}
 use Rattle.score.specs.declared.refusals.Refusal.{Refusal}
-use Rattle.score.specs.Score.{columnsIn, scoreOf, heardOf}
+use Rattle.score.specs.Score.{columnsIn, scoreOf, heardOf, note}
 use Rattle.score.specs.Refusals.{Row, judge, row1, row2, row3, row6, row7, badCell, badSet}
 use Rattle.score.specs.declared.quantities.Column.{Column}
 use Rattle.score.specs.Sets.{sets as setsOf}
@@ -31,7 +32,8 @@ use Rattle.ways.specs.declared.way.Way.{Way}
 use Rattle.ways.specs.declared.way.AnyWay.{AnyWay}
 use Rattle.ways.specs.declared.way.AnyWay.the-variants.{Moved, Written}
 use Rattle.ways.specs.declared.bookmark.Bookmark.{Bookmark}
-use Rattle.ways.specs.Way.{Range, rangeOf, rangeAs}
+use Rattle.ways.specs.Way.{Range, rangeOf, rangeAs, codeOf}
+use Rattle.ways.specs.Codes.{noShift}
 use Rattle.ways.specs.declared.bookmark.Pair.{Pair}
 use Rattle.asking.specs.Limits.{mostNotes}
 use Rattle.asking.specs.Asking.{Accepted}
@@ -51,8 +53,15 @@ use Rattle.search.proofs.WholeLists.{most-fits, plain-page-le, quick-page-le}
 use Rattle.occurring.specs.declared.question.Occurrence.{Occurrence}
 use Rattle.occurring.specs.declared.question.Occurrence.the-variants.{Refused as Unanswered}
 use Rattle.occurring.specs.Occurring.{row12, occursRows, quickList, byList}
+use Rattle.explaining.specs.declared.answer.Explanation.{Explanation}
+use Rattle.explaining.specs.declared.answer.Reason.{Reason}
+use Rattle.explaining.specs.declared.answer.Reason.the-variants.{Listed, NoShift, Outside, Absent, Refused as Unexplained}
+use Rattle.explaining.specs.declared.fits.Fit.{Fit}
+use Rattle.explaining.specs.declared.fits.Fit.the-variants.{Zero, Short, NoPitch, Fits}
+use Rattle.explaining.specs.Explaining.{outside, failed, held, columnOf, reasonAt, fitOf, bare, explained, explainRows, explanation}
 use Rattle.finder_c.specs.Singles.{ofPreparation, ofOccurrence, ofChange}
-use Rattle.finder_c.specs.Small.{SmallPlace, SmallSingle, SmallPage}
+use Rattle.finder_c.specs.Reasons.{ofReason}
+use Rattle.finder_c.specs.Small.{SmallPlace, SmallSingle, SmallPage, SmallReason}
 
 -- ---- rows
 
@@ -134,6 +143,36 @@ module _ (cells : List ℕ) (h : ℕ) (sets : List ℕ) where
       judge-small (λ (o : Occurrence). SmallSingle (ofOccurrence o)) Unanswered (byList list) (λ r s. s) (occursRows cells h theme sets summary table)
       (score-small cells h (row4 mostNotes theme ∷ row5 theme ∷ rows)
       (λ b. theme-small theme rows (sets-small cells h sets last b (λ e. nowhere, λ d. (λ e. nowhere, λ d. tt {0}))))) (λ c. list-small list)
+
+-- ---- the explanation: no reason is a refusal but that of a row
+
+either-small : (b : Bool) (x y : Reason) → SmallReason (ofReason x) → SmallReason (ofReason y) → SmallReason (ofReason (cond b x y))
+either-small true x y s t = s
+either-small false x y s t = t
+
+module _ (way : Way) (score : List (List ℕ)) (theme : List ℕ) (pair : Pair) (sets : List ℕ) where
+  at-small : (fit : Fit) → SmallReason (ofReason (reasonAt way score theme pair sets fit))
+  at-small Zero = tt {0}
+  at-small Short = tt {0}
+  at-small NoPitch = tt {0}
+  at-small Fits =
+      let code = codeOf way (pair .shift) in
+      let i = held way code theme (columnOf way score theme pair sets) in
+      let p = note theme (i + 1) in
+      either-small (ltb i (length theme)) (failed way code p (i + 1)) Listed
+      (either-small (outside way code p) (Outside (i + 1)) (Absent (i + 1)) (tt {0}) (tt {0})) (tt {0})
+
+pub explanation-small : (cells : List ℕ) (h : ℕ) (theme : List ℕ) (way : Way) (pair : Pair) (sets : List ℕ)
+    → SmallReason (ofReason (explanation cells h theme way pair sets .reason))
+unfolding explanation
+explanation-small cells h theme way pair sets =
+    let score = scoreOf cells h in
+    let rows = row6 cells h sets ∷ row7 sets ∷ [] in
+    let fit = fitOf score theme (pair .column) in
+    judge-small (λ (e : Explanation). SmallReason (ofReason (e .reason))) (λ r. bare (Unexplained r)) (explained way score theme pair sets) (λ r s. s)
+    (explainRows cells h theme sets)
+    (score-small cells h (row4 mostNotes theme ∷ row5 theme ∷ rows) (λ b. theme-small theme rows (sets-small cells h sets [] b (tt {0}))))
+    (λ c. either-small (noShift way (pair .shift)) NoShift (reasonAt way score theme pair sets fit) (tt {0}) (at-small way score theme pair sets fit))
 
 -- ---- a page: each pair costs a look at least
 

@@ -1,7 +1,7 @@
 -- From the calls that answer to the exported ones: what was answered, told in numbers, is what the contract says; where there is no
 -- call nothing changes. `leaves-through` and `leaves-none` say that of all calls, `single-through` of those that say one number.
 -- Assumes nothing.
-use mathlib.Core.Path.{_≡_, sym, ap, _∙_, subst, subst₂}
+use mathlib.Core.Path.{_≡_, refl, sym, ap, ap₂, _∙_, subst, subst₂}
 use mathlib.Core.Bool.{Bool, true, false, _||_, true≢false}
 use mathlib.Core.List.{List}
 use Prim.Native.Nat.{ℕ}
@@ -16,20 +16,24 @@ use Rattle.updating.specs.declared.changes.Change.{Change}
 use Rattle.updating.specs.Updating.{Updates}
 use Rattle.ways.specs.declared.way.Way.{Way}
 use Rattle.ways.specs.declared.way.AnyWay.{AnyWay}
+use Rattle.ways.specs.declared.bookmark.Pair.{Pair}
 use Rattle.paging.specs.declared.page.Page.{Page}
 use Rattle.paging.specs.Lent.{Lent}
 use Rattle.paging.specs.Page.{Leaf, Pages}
 use Rattle.search.specs.Page.{PlainPages, QuickPages}
 use Rattle.occurring.specs.declared.question.Occurrence.{Occurrence}
 use Rattle.occurring.specs.Occurring.{Occurs}
+use Rattle.explaining.specs.declared.answer.Explanation.{Explanation}
+use Rattle.explaining.specs.Explaining.{explanation}
 use Rattle.finder_c.specs.declared.single.Single.{Single}
-use Rattle.finder_c.specs.Limits.{octave, written, answerNumbers, oneNumber, notCalled}
+use Rattle.finder_c.specs.Limits.{octave, written, answerNumbers, oneNumber, explainNumbers, notCalled}
 use Rattle.finder_c.specs.Singles.{ofPreparation, ofOccurrence, ofChange}
 use Rattle.finder_c.specs.Numbers.{wayOf, anyWayOf, noAnswer, noCall, singleNumber, singleNumbers, pageNumber, pageNumbers}
-use Rattle.finder_c.specs.Small.{SmallSingle, SmallPage}
+use Rattle.finder_c.specs.Reasons.{ofReason, explanationNumber, explanationNumbers}
+use Rattle.finder_c.specs.Small.{SmallSingle, SmallPage, SmallReason}
 use Rattle.finder_c.specs.Calls.{CLeft, CLeaves, singleLeft, CPrepares, CUpdates, COccurs, summaryAt}
-use Rattle.finder_c.specs.Calls.{CPlainPages, CQuickPages, bookmark, leafLeft}
-use Rattle.finder_c.proofs.SmallAnswers.{prepared-small, renewed-small, occurrence-small, plain-small, quick-small}
+use Rattle.finder_c.specs.Calls.{CPlainPages, CQuickPages, CExplains, bookmark, pairTold, leafLeft}
+use Rattle.finder_c.proofs.SmallAnswers.{prepared-small, renewed-small, occurrence-small, plain-small, quick-small, explanation-small}
 
 -- ---- whether it is a call
 
@@ -149,3 +153,23 @@ module _ {cells : List ℕ} {h : ℕ} {theme : List ℕ} {way column : ℕ} {shi
   quick-through {sets} {table} {table′} {buffers} {after} {answer} {p = p} e v k a n ns =
       let b = subst₂ (λ (w : Way) (z : ℤ). QuickPages cells h theme w (bookmark column z) sets table buffers p table′ after) v k a in
       record { leaves = page-through e (b .pages) n ns; fills-table = rw e (b .fills-table) }
+
+-- ---- finder_explain
+
+pub explains-small : (cells : List ℕ) (h : ℕ) (theme : List ℕ) (way : Way) (pair : Pair) (sets : List ℕ) {e : Explanation}
+    → e ≡ explanation cells h theme way pair sets → SmallReason (ofReason (e .reason))
+explains-small cells h theme way pair sets a =
+    subst (λ (e : Explanation). SmallReason (ofReason (e .reason))) (sym a) (explanation-small cells h theme way pair sets)
+
+module _ {cells : List ℕ} {h : ℕ} {theme sets : List ℕ} {column : ℕ} where
+  pub explains-none : {way : ℕ} {shift : ℤ} {answer : List ℤ} → noCall octave way explainNumbers (length answer) ≡ true
+      → CExplains cells h theme way column shift sets answer (pos notCalled) answer
+  explains-none k = record { leaves = leaves-none k }
+
+  pub explains-through : {way : ℕ} {shift : ℤ} {answer answer′ : List ℤ} {w : Way} {z : ℤ} {e : Explanation} {r : ℤ}
+      → noCall octave way explainNumbers (length answer) ≡ false → w ≡ wayOf way → z ≡ shift
+      → e ≡ explanation cells h theme w (pairTold column z) sets → r ≡ explanationNumber e → answer′ ≡ explanationNumbers e answer
+      → CExplains cells h theme way column shift sets answer r answer′
+  explains-through {answer = answer} k v m a n ns =
+      let b = a ∙ ap₂ (λ (w : Way) (z : ℤ). explanation cells h theme w (pairTold column z) sets) v m in
+      record { leaves = leaves-through k (n ∙ ap explanationNumber b) refl (ns ∙ ap (λ (e : Explanation). explanationNumbers e answer) b) }

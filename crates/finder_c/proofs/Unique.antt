@@ -9,12 +9,13 @@ use Rattle.theory.specs.Settled.{Settles}
 use Rattle.theory.proofs.Unique.{_beside_}
 use Rattle.paging.specs.Lent.{Lent}
 use Rattle.paging.proofs.Buffers.{same-columns, same-shifts}
-use Rattle.finder_c.specs.Calls.{CLeft, CLeaves, CPrepares, CUpdates, COccurs, CPlainPages, CQuickPages}
+use Rattle.finder_c.specs.Calls.{CLeft, CLeaves, CPrepares, CUpdates, COccurs, CPlainPages, CQuickPages, CExplains}
 use Rattle.finder_c.proofs.calls.finder_prepare
 use Rattle.finder_c.proofs.calls.finder_update
 use Rattle.finder_c.proofs.calls.finder_occurs
 use Rattle.finder_c.proofs.calls.finder_plain_page
 use Rattle.finder_c.proofs.calls.finder_quick_page
+use Rattle.finder_c.proofs.calls.finder_explain
 
 c-leaves-unique : {Buffers : Type 0} {none : Bool} {buffers : Buffers} {answer : List ℤ} {left : CLeft Buffers} {r r′ : ℤ} {b b′ : Buffers} {a a′ : List ℤ}
     → CLeaves none buffers answer left r b a → CLeaves none buffers answer left r′ b′ a′ → (r ≡ r′) × (b ≡ b′) × (a ≡ a′)
@@ -45,6 +46,11 @@ module _ {cells : List ℕ} {h : ℕ} {theme : List ℕ} {way column : ℕ} {shi
       → CQuickPages cells h theme way column shift sets table buffers answer r′ t′ l′ a′
       → ((r ≡ r′) × (l ≡ l′) × (a ≡ a′)) × (t ≡ t′)
   c-quick-unique p q = (c-leaves-unique (p .leaves) (q .leaves), p .fills-table ∙ sym (q .fills-table))
+
+pub c-explains-unique : {cells : List ℕ} {h : ℕ} {theme : List ℕ} {way column : ℕ} {shift : ℤ} {sets : List ℕ} {answer : List ℤ}
+    {r r′ : ℤ} {a a′ : List ℤ} → CExplains cells h theme way column shift sets answer r a
+    → CExplains cells h theme way column shift sets answer r′ a′ → (r ≡ r′) × (a ≡ a′)
+c-explains-unique p q = let (result, nothing, answer) = c-leaves-unique (p .leaves) (q .leaves) in (result, answer)
 
 -- ---- the calls
 
@@ -77,4 +83,11 @@ finder-quick-page-unique κs args x y =
       result,
       refl beside refl beside refl beside refl beside refl beside refl beside refl
           beside table beside same-columns lent beside same-shifts lent beside answer beside refl,
+    )
+
+pub finder-explain-unique : Settles finder_explain.Kinds.ps finder_explain.Kinds.r finder_explain.Reads.Post
+finder-explain-unique κs args x y =
+    let (result, answer) = c-explains-unique (x .meets) (y .meets) in (
+      result,
+      refl beside refl beside refl beside refl beside refl beside refl beside refl beside answer beside refl,
     )

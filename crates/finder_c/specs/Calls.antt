@@ -1,5 +1,6 @@
--- What each exported call leaves: its result, and every lent buffer. All is said by the definitions of the crates that answer and
--- by `Numbers`; equations settle it, so there is one answer. Where there is no call, everything is as it was. Assumes nothing.
+-- What each exported call leaves: its result, and every lent buffer. All is said by the definitions of the crates that answer, by
+-- `Numbers` and by `Reasons`; equations settle it, so there is one answer. Where there is no call, everything is as it was.
+-- Assumes nothing.
 use mathlib.Core.Path.{_≡_}
 use mathlib.Core.Bool.{Bool, cond}
 use mathlib.Core.List.{List}
@@ -12,6 +13,7 @@ use Rattle.summing.specs.declared.summary.Summary.{Summary}
 use Rattle.preparing.specs.Preparing.{prepared}
 use Rattle.updating.specs.Updating.{renewed}
 use Rattle.ways.specs.declared.bookmark.Bookmark.{Bookmark}
+use Rattle.ways.specs.declared.bookmark.Pair.{Pair}
 use Rattle.filter.specs.Limits.{wordBits}
 use Rattle.filter.specs.Table.{themeTable}
 use Rattle.paging.specs.Lent.{Lent}
@@ -20,10 +22,13 @@ use Rattle.search.specs.Page.{plainPage, quickPage, quickTable}
 use Rattle.occurring.specs.declared.question.Occurrence.{Occurrence}
 use Rattle.occurring.specs.declared.question.Occurrence.the-variants.{Refused}
 use Rattle.occurring.specs.Occurring.{occursRows, quickList, byList}
+use Rattle.explaining.specs.declared.answer.Explanation.{Explanation}
+use Rattle.explaining.specs.Explaining.{explanation}
 use Rattle.finder_c.specs.declared.single.Single.{Single}
-use Rattle.finder_c.specs.Limits.{octave, written, answerNumbers, oneNumber, notCalled}
+use Rattle.finder_c.specs.Limits.{octave, written, answerNumbers, oneNumber, explainNumbers, notCalled}
 use Rattle.finder_c.specs.Singles.{ofPreparation, ofOccurrence, ofChange}
 use Rattle.finder_c.specs.Numbers.{wayOf, anyWayOf, noAnswer, noCall, singleNumber, singleNumbers, pageNumber, pageNumbers}
+use Rattle.finder_c.specs.Reasons.{explanationNumber, explanationNumbers}
 
 -- a call's result, and what it leaves in the lent buffers, of whatever kind they are, and in the lent answer
 pub record CLeft (Buffers : Type 0) : Type 0 where
@@ -100,3 +105,17 @@ pub record CQuickPages (cells : List ℕ) (h : ℕ) (theme : List ℕ) (way colu
       (leafLeft (quickPage cells h theme (wayOf way) (bookmark column shift) sets table buffers) answer) result after answer′
   pub fills-table : table′ ≡ cond (noCall octave way answerNumbers (length answer)) table
       (quickTable cells h theme (wayOf way) (bookmark column shift) sets table buffers)
+
+-- ---- the explanation; no buffer is lent but the answer
+
+abbrev pub pairTold : (column : ℕ) (shift : ℤ) → Pair
+pairTold column shift = record { column = columnAt column; shift = shift }
+
+abbrev pub explanationLeft : Explanation → (answer : List ℤ) → CLeft (Unit {0})
+explanationLeft e answer = record { result = explanationNumber e; buffers = tt {0}; answer = explanationNumbers e answer }
+
+pub record CExplains (cells : List ℕ) (h : ℕ) (theme : List ℕ) (way column : ℕ) (shift : ℤ) (sets : List ℕ) (answer : List ℤ)
+    (result : ℤ) (answer′ : List ℤ) : Type 0 where
+  pub leaves : CLeaves (noCall octave way explainNumbers (length answer)) (tt {0}) answer
+      (explanationLeft (explanation cells h theme (wayOf way) (pairTold column shift) sets) answer)
+      result (tt {0}) answer′

@@ -1,7 +1,7 @@
 -- How an answer is told in numbers, each a constant of the code, in `src/limits`, by the same name. Assumes nothing.
 use Prim.Native.Nat.{ℕ}
 
--- the numbers of ways: the plain page's go up to written, those of the quick page and of the question to octave
+-- the numbers of ways: the plain page's go up to written, those of the quick page, the question and the explanation to octave
 abbrev pub octave : ℕ
 octave = 1
 
@@ -12,9 +12,13 @@ written = 2
 abbrev pub answerNumbers : ℕ
 answerNumbers = 5
 
--- how many numbers the answer of any other call has
+-- how many numbers the answer of a preparation, an update or the question has
 abbrev pub oneNumber : ℕ
 oneNumber = 1
+
+-- how many numbers an explanation has: five in front, and a track for each of 64 notes
+abbrev pub explainNumbers : ℕ
+explainNumbers = 69
 
 -- what a refusal's place is multiplied by, to stand above its number
 abbrev pub placeWeight : ℕ

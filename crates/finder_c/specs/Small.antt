@@ -7,6 +7,8 @@ use Rattle.paging.specs.declared.page.Page.{Page}
 use Rattle.paging.specs.declared.page.Page.the-variants.{Turned, Refused}
 use Rattle.finder_c.specs.declared.single.Single.{Single}
 use Rattle.finder_c.specs.declared.single.Single.the-variants as single
+use Rattle.finder_c.specs.declared.reasons.ReasonNumbers.{ReasonNumbers}
+use Rattle.finder_c.specs.declared.reasons.ReasonNumbers.the-variants as reason
 
 pub record SmallPlace (r : Refusal) : Type 0 where
   pub place : r .place < 65536
@@ -21,3 +23,7 @@ SmallSingle (single.Refused r) = SmallPlace r
 abbrev pub SmallPage : Page → Type 0
 SmallPage (Turned t) = SmallTurn t
 SmallPage (Refused r) = SmallPlace r
+
+abbrev pub SmallReason : ReasonNumbers → Type 0
+SmallReason (reason.Told number note) = Unit {0}
+SmallReason (reason.Refused r) = SmallPlace r

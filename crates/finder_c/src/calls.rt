@@ -2,10 +2,12 @@
 // but that the memory lent is there: what cannot be answered is refused, and a refused call writes nothing.
 
 use crate::limits::ANSWER_NUMBERS;
+use crate::limits::EXPLAIN_NUMBERS;
 use crate::limits::NOT_CALLED;
 use crate::limits::OCTAVE;
 use crate::limits::ONE_NUMBER;
 use crate::limits::WRITTEN;
+use crate::reasons::told_explanation;
 use crate::single::of_change;
 use crate::single::of_occurrence;
 use crate::single::of_preparation;
@@ -15,16 +17,18 @@ use crate::told::no_call;
 use crate::told::told_page;
 use crate::told::told_single;
 use crate::told::way_of;
+use explaining::explain;
 use occurring::occurs;
 use preparing::prepare;
 use score::Column;
 use search::Bookmark;
+use search::Pair;
 use search::plain_page;
 use search::quick_page;
 use summing::Summary;
 use updating::update;
 ghost use Rattle.paging.specs.Lent.{lent};
-ghost use Rattle.finder_c.specs.Calls.{CPrepares, CUpdates, COccurs, CPlainPages, CQuickPages};
+ghost use Rattle.finder_c.specs.Calls.{CPrepares, CUpdates, COccurs, CPlainPages, CQuickPages, CExplains};
 
 // Fills all n - 1 sets of the score: 0, and their summary in `answer`. Otherwise the refusal, 1, 2, 3 or 6, as number +
 // 256 * place; or 255 where `answer` is not 1 long.
@@ -168,4 +172,33 @@ pub extern "C" fn finder_quick_page(
         shifts,
     );
     told_page(p, answer)
+}
+
+// Why the pair (column, shift) is listed or not, in exact or octave, and what the lent sets, which may be of any score, make of
+// its column: 0, and 69 numbers in `answer`. First the reason: 0 listed, 1 the shift, 2 column 0, 3 too few columns, 4 an
+// empty column, 5 a note outside 0 to 127, 6 a note absent; then the number of that note, or 0. Then what the sets make of the
+// column: 0 nothing, 1 kept, 2 dismissed; and the number and the size of the interval that dismisses it, or 0 and 0. Last the
+// 64 tracks. Otherwise the refusal, 1 to 7, as number + 256 * place; or 255 where `way` is above 1 or `answer` is not 69 long.
+#[no_mangle]
+pub extern "C" fn finder_explain(
+    cells: &[u8],
+    tracks: usize,
+    theme: &[u8],
+    way: u8,
+    column: u16,
+    shift: i16,
+    sets: &[u16],
+    answer: &mut [i64],
+) -> i64
+    ensures { λ r. ⌜ CExplains (now (cells .entry)) tracks (now (theme .entry)) way column shift (now (sets .entry)) (now (answer .entry)) r (now (answer .exit)) ⌝ }
+{
+    if no_call(OCTAVE, way, EXPLAIN_NUMBERS, answer.len()) {
+        return NOT_CALLED;
+    }
+    let pair = Pair {
+        column: Column(column),
+        shift,
+    };
+    let e = explain(cells, tracks, theme, way_of(way), pair, sets);
+    told_explanation(e, answer)
 }

@@ -48,7 +48,7 @@ pub fn no_call(highest: u8, way: u8, numbers: usize, len: usize) -> bool
 }
 
 // A refusal's number + 256 * its place.
-fn refusal_number(e: Refusal) -> i64
+pub fn refusal_number(e: Refusal) -> i64
     requires { ⌜ SmallPlace e ⌝ }
     ensures { λ r. ⌜ r ≡ refusalNumber e ⌝ }
 {
@@ -72,7 +72,7 @@ pub fn told_single(s: Single, answer: &mut [i64]) -> i64
 }
 
 // Writes the five places of an answer.
-fn put_five(answer: &mut [i64], a: i64, b: i64, c: i64, d: i64, e: i64)
+pub fn put_five(answer: &mut [i64], a: i64, b: i64, c: i64, d: i64, e: i64)
     requires { ⌜ length (now answer) ≡ answerNumbers ⌝ }
     ensures { λ _. ⌜ now (answer .exit) ≡ a ∷ b ∷ c ∷ d ∷ e ∷ [] ⌝ }
 {
