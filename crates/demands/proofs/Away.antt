@@ -2,12 +2,12 @@
 -- known. Assumes nothing.
 use mathlib.Core.Path.{_≡_, refl, sym, ap, _∙_}
 use mathlib.Core.Logic.{_↔_, _⊎_}
-use mathlib.Core.List.{List, [], _∷_, map}
+use mathlib.Core.List.{List, [], _∷_}
 use Prim.Native.Nat.{ℕ}
 use Rattle.score.specs.declared.quantities.Column.{Column}
 use Rattle.score.specs.declared.refusals.Refusal.{Refusal}
 use Rattle.score.specs.declared.refusals.Verdict.the-variants.{Accepted as Passed, Refused as Away}
-use Rattle.score.specs.Refusals.{Row, verdict, GivenBy, placeBy}
+use Rattle.score.specs.Refusals.{Row, verdict}
 use Rattle.score.specs.Score.{scoreOf}
 use Rattle.score.proofs.Judged.{Clear, judge-clear, verdict-clear, answer-refused, answer-accepted, answer-kept}
 use Rattle.summing.specs.declared.summary.Summary.{Summary}

@@ -32,7 +32,8 @@ use Rattle.demands.proofs.True.{own-sets-left, plain-stands, written-fr
 use Rattle.demands.proofs.Whole.{plainly, plain-all, quick-own, own-call}
 use Rattle.demands.proofs.Alike.{reading-same, one-page}
 use Rattle.demands.proofs.Questions.{asked-pages, asked-table, asked-lacking, asked-own}
-use Rattle.demands.proofs.Explanations.{explained-listed, explained-first, explained-tracks, explained-bare, explained-sifted, explained-dismissed, explained-unasked}
+use Rattle.demands.proofs.Explanations.{explained-listed, explained-first, explained-tracks, explained-bare, explained-sifted}
+use Rattle.demands.proofs.Explanations.{explained-dismissed, explained-unasked, explained-places, explained-by-column}
 use Rattle.demands.proofs.Updates.{renewed-fresh, renewed-length, renewed-own, renewed-other}
 
 -- a right score and theme are accepted
@@ -123,4 +124,6 @@ explainer =
       sifted = λ cells h theme way pair sets e v f. explained-sifted cells h theme way pair sets e v f;
       dismissed = λ cells h theme way pair sets e v d. explained-dismissed cells h theme way pair sets e v d;
       unasked = λ cells h theme way pair sets e v f. explained-unasked cells h theme way pair sets e v f;
+      places = λ cells h theme way pair sets e. explained-places cells h theme sets way pair e;
+      by-column = λ cells h theme way way′ pair pair′ sets e e′ same. explained-by-column cells h theme sets way way′ pair pair′ e e′ same;
     }

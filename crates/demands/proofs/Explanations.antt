@@ -1,5 +1,5 @@
--- The explainer, over its promise: it refuses exactly on its rows, gives the first reason that is true, names the lowest tracks,
--- and says of the column what the quick search makes of it. The idea: by the cases of the definition, shift, column, notes; and
+-- The explainer, over its promise: it gives the first reason that is true, names the lowest tracks, and says of the column what the
+-- quick search makes of it. The idea: by the cases of the definition, shift, column, notes; and
 -- the test that is computed of a note is the published one. Assumes nothing.
 use mathlib.Core.Path.{_≡_, refl, sym, ap, _∙_, subst}
 use mathlib.Core.Bool.{Bool, true, false, cond, _||_, true≢false}
@@ -13,14 +13,17 @@ use lib.IntN.{ℤ}
 use lib.ListN.{length, getD, drop, length-drop, List·getD-append}
 use borrow.Author.Tests.{eqb-true, eqb-false, lt-ltb, le-ltb, ltb-true, ltb-false, not-true, not-false}
 use Rattle.theory.specs.Bits.{bit}
-use Rattle.theory.specs.Lists.{count, first}
+use Rattle.theory.specs.Lists.{over, count}
 use Rattle.theory.proofs.Bits.{bit-lt}
-use Rattle.theory.proofs.Lists.{first-le, first-before, first-there, count-at, count-length, count-map-at, count-map-length, none-over}
+use Rattle.theory.proofs.Lists.{over-length, first-le, first-before, first-there, count-at, count-length, count-map-at, count-map-length, none-over}
 use Rattle.score.specs.Limits.{highestSet, tableWords}
 use Rattle.score.specs.declared.quantities.Pitch.{Pitch}
 use Rattle.score.specs.declared.quantities.Interval.{Interval}
 use Rattle.score.specs.declared.quantities.Column.{Column}
 use Rattle.score.specs.declared.refusals.Refusal.{Refusal}
+use Rattle.score.specs.declared.refusals.Verdict.{Verdict}
+use Rattle.score.specs.declared.refusals.Verdict.the-variants.{Accepted as Passed, Refused as Away}
+use Rattle.score.specs.Refusals.{verdict}
 use Rattle.score.specs.Score.{column, scoreOf, heardOf, rankOf, onward, note}
 use Rattle.score.specs.Sets.{interval}
 use Rattle.score.proofs.Intervals.{interval-lt}
@@ -52,14 +55,17 @@ use Rattle.explaining.specs.declared.answer.Reason.the-variants.{Listed, NoShif
 use Rattle.explaining.specs.declared.answer.Lacking.{Lacking}
 use Rattle.explaining.specs.declared.answer.Sifted.{Sifted}
 use Rattle.explaining.specs.declared.answer.Sifted.the-variants.{Unasked, Kept, Dismissed}
-use Rattle.explaining.specs.Explaining.{noTracks, fitOf, outside, failed, fails, held, notesSay, tracksOf, lacks, had, siftedBy, columnOf, reasonAt, tracksAt, siftedAt, explained, explanation}
-use Rattle.explaining.proofs.Fitting.{Placed, fit-cases, placed-fits}
-use Rattle.explaining.proofs.Refusing.{passed-asks, passed-explained}
-use Rattle.demands.specs.Demands.{OfWay, Fitting, Inside, HeldNote, FirstFails, TrueFirst, LowestTrack, DismissedBy, candidateAt, RightExplained}
+use Rattle.explaining.specs.declared.fits.Fit.{Fit}
+use Rattle.explaining.specs.declared.fits.Fit.the-variants.{Zero, Short, NoPitch, Fits}
+use Rattle.explaining.specs.Explaining.{noTracks, fitOf, Fitting, noteOutside, failed, fails, held, notesSay, tracksOf, lacks, had, siftedBy}
+use Rattle.explaining.specs.Explaining.{bare, columnOf, reasonAt, tracksAt, siftedAt, explained, explainRows, explanation}
+use Rattle.explaining.proofs.Fitting.{fit-cases, placed-fits}
+use Rattle.explaining.proofs.Refusing.{passed-asks, passed-explained, turned-bare}
+use Rattle.demands.specs.Demands.{OfWay, Inside, HeldNote, FirstFails, TrueFirst, LowestTrack, DismissedBy, candidateAt, RightExplained}
 
 -- ---- a note moved, exact
 
-inside-not : (p : Pitch) (code : ℕ) → outside Exact code p ≡ true → Inside p (shiftOf Exact code) → ⊥
+inside-not : (p : Pitch) (code : ℕ) → noteOutside Exact code p ≡ true → Inside p (shiftOf Exact code) → ⊥
 inside-not p code e i =
     let same : i .t + 127 ≡ p .0 + code = moved-exact 127 (i .t) (p .0) code (i .moved) in
     step (ltb (p .0 + code) 127) refl e same
@@ -68,7 +74,7 @@ inside-not p code e i =
     step true l k same = omega (arith, ltb-true (p .0 + code) 127 l, same)
     step false l k same = omega (arith, ltb-true 254 (p .0 + code) k, same, i .small)
 
-inside-is : (p : Pitch) (code : ℕ) → outside Exact code p ≡ false → Inside p (shiftOf Exact code)
+inside-is : (p : Pitch) (code : ℕ) → noteOutside Exact code p ≡ false → Inside p (shiftOf Exact code)
 inside-is p code e = step (ltb (p .0 + code) 127) refl e
   where
     step : (a : Bool) → ltb (p .0 + code) 127 ≡ a → (a || ltb 254 (p .0 + code)) ≡ false → Inside p (shiftOf Exact code)
@@ -144,28 +150,25 @@ module _ (way : Way) (score : List (List ℕ)) (theme : List ℕ) (pair : Pair) 
           earlier = λ i a b. held-note i (before-first i a (omega arith));
         }
 
-    fitted : Placed score theme j → Fitting score theme j
-    fitted p = record { from-first = p .from-first; to-last = p .to-last; with-pitch = p .with-pitch }
-
     -- a note that fails
-    failed-true : Placed score theme j → (i : ℕ) → FirstFails way score theme pair i → TrueFirst way score theme pair (failed way code (note theme i) i)
+    failed-true : Fitting score theme j → (i : ℕ) → FirstFails way score theme pair i → TrueFirst way score theme pair (failed way code (note theme i) i)
     failed-true p i f = by way refl
       where
         by : (w : Way) → way ≡ w → TrueFirst way score theme pair (failed w (codeOf w c) (note theme i) i)
-        by Exact e = step (outside Exact (codeOf Exact c) (note theme i)) refl
+        by Exact e = step (noteOutside Exact (codeOf Exact c) (note theme i)) refl
           where
             there : shiftOf Exact (codeOf Exact c) ≡ c
             there = subst (λ (w : Way). shiftOf w (codeOf w c) ≡ c) e back
 
-            step : (t : Bool) → outside Exact (codeOf Exact c) (note theme i) ≡ t → TrueFirst way score theme pair (cond t (Outside i) (Absent i))
-            step true q = (o, fitted p, f, e, λ x. inside-not (note theme i) (codeOf Exact c) q (subst (Inside (note theme i)) (sym there) x))
-            step false q = (o, fitted p, f, λ z. subst (Inside (note theme i)) there (inside-is (note theme i) (codeOf Exact c) q))
-        by Octave e = (o, fitted p, f, λ z. absurd (octave-exact (sym e ∙ z)))
+            step : (t : Bool) → noteOutside Exact (codeOf Exact c) (note theme i) ≡ t → TrueFirst way score theme pair (cond t (Outside i) (Absent i))
+            step true q = (o, p, f, e, λ x. inside-not (note theme i) (codeOf Exact c) q (subst (Inside (note theme i)) (sym there) x))
+            step false q = (o, p, f, λ z. subst (Inside (note theme i)) there (inside-is (note theme i) (codeOf Exact c) q))
+        by Octave e = (o, p, f, λ z. absurd (octave-exact (sym e ∙ z)))
           where
             octave-exact : Octave ≡ Exact → ⊥
             octave-exact z = let n : _≡_ {A = ℕ} 0 1 = cc in omega arith
 
-    notes-true : Placed score theme j → TrueFirst way score theme pair (notesSay way code theme at)
+    notes-true : Fitting score theme j → TrueFirst way score theme pair (notesSay way code theme at)
     notes-true p = step (ltb k m) refl
       where
         step : (t : Bool) → ltb k m ≡ t → TrueFirst way score theme pair (cond t (failed way code (note theme (k + 1)) (k + 1)) Listed)
@@ -225,7 +228,7 @@ module _ (way : Way) (score : List (List ℕ)) (theme : List ℕ) (pair : Pair) 
 
     tracks-are : tracksSaid ≡ tracksOf way code theme at
     tracks-are =
-        let p : Placed score theme j = record { from-first = s .from-first; to-last = s .to-last; with-pitch = s .with-pitch } in
+        let p : Fitting score theme j = record { from-first = s .from-first; to-last = s .to-last; with-pitch = s .with-pitch } in
         rw (way-of moves, placed-fits score theme j p, le-ltb k m none-fails)
 
     note-track : (i : ℕ) → 1 ≤ i → i ≤ m → getD (tracksOf way code theme at) (i - 1) 0 ≡ trackOf i
@@ -279,11 +282,11 @@ module _ (way : Way) (score : List (List ℕ)) (theme : List ℕ) (pair : Pair) 
   pub sifted-nothing : (Fitting score theme j → ⊥) → siftedSaid ≡ Unasked
   sifted-nothing f =
       fit-cases score theme j (λ x. siftedAt way score theme pair sets x ≡ Unasked) (λ z. refl) (λ a b. refl) (λ a b d. refl)
-      (λ p. absurd (f (record { from-first = p .from-first; to-last = p .to-last; with-pitch = p .with-pitch })))
+      (λ p. absurd (f p))
 
   pub sifted-fitting : Fitting score theme j → siftedSaid ≡ siftedBy theme sets (numbersOn score j)
   sifted-fitting f =
-      rw (placed-fits score theme j (record { from-first = f .from-first; to-last = f .to-last; with-pitch = f .with-pitch }))
+      rw (placed-fits score theme j f)
 
 -- ---- the intervals
 
@@ -357,7 +360,7 @@ module _ (score : List (List ℕ)) (theme : List ℕ) (j : Column) (sets : List 
             to-last = omega (arith, h);
             sized = ap (themeInterval theme) (sym back) ∙ theme-interval (q + 1) (omega arith);
             small = interval-lt (note theme (q + 1)) (note theme (q + 2));
-            lacking = ap (λ (y : ℕ). bit (setOf (q + 1)) (themeInterval theme y .0)) (sym back) ∙ lacks-it h;
+            not-there = ap (λ (y : ℕ). bit (setOf (q + 1)) (themeInterval theme y .0)) (sym back) ∙ lacks-it h;
             earlier = λ i a b. ap (λ (d : Interval). bit (setOf i) (d .0)) (sym (theme-interval i a)) ∙ had-it i a (omega arith);
           })
 
@@ -521,6 +524,68 @@ module _ (cells : List ℕ) (h : ℕ) (theme : List ℕ) (way : Way) (pair : Pai
     where
       nothing : Unasked ≡ Dismissed x → ⊥
       nothing y = let w : _≡_ {A = ℕ} 0 2 = ap part y in omega arith
+
+-- ---- of every answer, refused or not
+
+-- what a fit makes of what the sets say
+abbrev byFit : Sifted → Fit → Sifted
+byFit s Fits = s
+byFit s Zero = Unasked
+byFit s Short = Unasked
+byFit s NoPitch = Unasked
+
+module _ (cells : List ℕ) (h : ℕ) (theme sets : List ℕ) where
+  abbrev columnSays : Column → Sifted
+  columnSays j = byFit (siftedBy theme sets (numbersOn (scoreOf cells h) j)) (fitOf (scoreOf cells h) theme j)
+
+  module _ (way : Way) (pair : Pair) {answer : Explanation} (e : answer ≡ explanation cells h theme way pair sets) where
+    turned : {r : Refusal} → verdict (explainRows cells h theme sets) ≡ Away r → answer ≡ bare (Refused r)
+    turned {r} v = e ∙ sym (turned-bare cells h theme way pair sets (sym v) refl refl)
+
+    tracks-long : length theme ≤ mostSought → length (tracksSaid way (scoreOf cells h) theme pair sets) ≡ mostSought
+    tracks-long short = step (noShift way (pair .shift))
+      where
+        named : List ℕ
+        named = map (trackOf way (scoreOf cells h) theme pair sets) (count 1 (length theme))
+
+        by-notes : (t : Bool) → length (cond t noTracks (over noTracks named)) ≡ mostSought
+        by-notes true = refl
+        by-notes false =
+            over-length noTracks named (omega (arith, short, count-map-length (trackOf way (scoreOf cells h) theme pair sets) 1 (length theme)))
+
+        step : (t : Bool)
+            → length (cond t noTracks (tracksAt way (scoreOf cells h) theme pair sets (fitOf (scoreOf cells h) theme (pair .column)))) ≡ mostSought
+        step true = refl
+        step false =
+            fit-cases (scoreOf cells h) theme (pair .column) (λ f. length (tracksAt way (scoreOf cells h) theme pair sets f) ≡ mostSought)
+            (λ z. refl) (λ a b. refl) (λ a b d. refl) (λ p. by-notes (ltb (k way (scoreOf cells h) theme pair sets) (length theme)))
+
+    pub explained-places : length (answer .tracks) ≡ mostSought
+    explained-places = pick (verdict (explainRows cells h theme sets)) refl
+      where
+        pick : (v : Verdict) → verdict (explainRows cells h theme sets) ≡ v → length (answer .tracks) ≡ mostSought
+        pick Passed v =
+            let a = passed-asks cells h theme way pair sets v .0 in
+            ap length (tracks-told cells h theme way pair sets e v) ∙ tracks-long (omega (arith, a .notes-few))
+        pick (Away r) v = ap (λ (x : Explanation). length (x .tracks)) (turned v)
+
+    by-its-column : (f : Fit) → siftedAt way (scoreOf cells h) theme pair sets f ≡ byFit (siftedBy theme sets (numbersOn (scoreOf cells h) (pair .column))) f
+    by-its-column Fits = refl
+    by-its-column Zero = refl
+    by-its-column Short = refl
+    by-its-column NoPitch = refl
+
+    sifted-accepted : RightExplained cells h theme sets → answer .sifted ≡ columnSays (pair .column)
+    sifted-accepted v = sifted-told cells h theme way pair sets e v ∙ by-its-column (fitOf (scoreOf cells h) theme (pair .column))
+
+  pub explained-by-column : (way way′ : Way) (pair pair′ : Pair) {answer answer′ : Explanation} → answer ≡ explanation cells h theme way pair sets
+      → answer′ ≡ explanation cells h theme way′ pair′ sets → pair′ .column ≡ pair .column → answer′ .sifted ≡ answer .sifted
+  explained-by-column way way′ pair pair′ {answer} {answer′} e e′ same = pick (verdict (explainRows cells h theme sets)) refl
+    where
+      pick : (v : Verdict) → verdict (explainRows cells h theme sets) ≡ v → answer′ .sifted ≡ answer .sifted
+      pick Passed v = sifted-accepted way′ pair′ e′ v ∙ ap columnSays same ∙ sym (sifted-accepted way pair e v)
+      pick (Away r) v =
+          ap (λ (x : Explanation). x .sifted) (turned way′ pair′ e′ v) ∙ sym (ap (λ (x : Explanation). x .sifted) (turned way pair e v))
 
 -- ---- what is turned away
 

@@ -55,13 +55,14 @@ use Rattle.search.specs.WholeList.{mostLooks}
 use Rattle.occurring.specs.declared.question.Occurrence.{Occurrence}
 use Rattle.occurring.specs.declared.question.Occurrence.the-variants.{Somewhere, Nowhere, Refused as Unanswered}
 use Rattle.occurring.specs.Occurring.{lacking, occursRows, Occurs}
+use Rattle.seeking.specs.Limits.{mostSought}
 use Rattle.seeking.specs.Sought.{numbersOn}
 use Rattle.explaining.specs.declared.answer.Explanation.{Explanation}
 use Rattle.explaining.specs.declared.answer.Reason.{Reason}
 use Rattle.explaining.specs.declared.answer.Reason.the-variants.{Listed, NoShift, NoColumn, TooFew, Empty, Outside, Absent, Refused as Unexplained}
 use Rattle.explaining.specs.declared.answer.Lacking.{Lacking}
 use Rattle.explaining.specs.declared.answer.Sifted.the-variants.{Unasked, Kept, Dismissed}
-use Rattle.explaining.specs.Explaining.{noTracks, explainRows, explanation}
+use Rattle.explaining.specs.Explaining.{noTracks, Fitting, explainRows, explanation}
 use Rattle.updating.specs.declared.changes.Change.{Change}
 use Rattle.updating.specs.declared.changes.Change.the-variants.{Updated, Refused as Unchanged}
 use Rattle.updating.specs.Updating.{heardBefore, updateRows, Updates, OneChanged}
@@ -72,7 +73,7 @@ use Rattle.updating.specs.Updating.{heardBefore, updateRows, Updates, OneChange
 -- a call that is judged by these rows, which have these numbers in this order (rows 1 to 3, 6 and 7 are in
 -- `score/specs/Refusals`, 4, 5 and 8 to 10 in `asking/specs/Refusals`, 12 in `occurring/specs/Occurring`, 19 in
 -- `updating/specs/Updating`). `Refuses r` says that its answer is refusal r, `Accepts` that it is none, and `Untouched` that the
--- buffers that it may write are what they were
+-- buffers that it may write are what they were, or, of a call that is lent none, that its answer holds nothing else
 pub record TurnsAway (numbers : List ℕ) (rows : List Row) (Refuses : Refusal → Type 0) (Accepts Untouched : Type 0) : Type 0 where
   pub order : map (λ (row : Row). row .given .number) rows ≡ numbers
   -- number k and place p are given exactly where row k is the first that applies, and p is the place that it names
@@ -112,7 +113,7 @@ pub record Demand1 : Type 0 where
   pub update : (cells : List ℕ) (h : ℕ) (c : Column) (lent : List ℕ) {answer : Change} {after : List ℕ} → Updates cells h c lent answer after
       → TurnsAway (1 ∷ 2 ∷ 3 ∷ 6 ∷ 7 ∷ 19 ∷ []) (updateRows cells h c lent) (λ r. answer ≡ Unchanged r)
       ((s : Summary) × (answer ≡ Updated s)) (after ≡ lent)
-  -- the explainer is lent nothing for writing; a refused answer has no track and no second part
+  -- the explainer is lent nothing for writing: a refused answer has no track and no second part
   pub explainer : (cells : List ℕ) (h : ℕ) (theme : List ℕ) (way : Way) (pair : Pair) (sets : List ℕ) {answer : Explanation}
       → answer ≡ explanation cells h theme way pair sets
       → TurnsAway (1 ∷ 2 ∷ 3 ∷ 4 ∷ 5 ∷ 6 ∷ 7 ∷ []) (explainRows cells h theme sets) (λ r. answer .reason ≡ Unexplained r)
@@ -267,12 +268,6 @@ pub record OfWay (way : Way) (c : ℤ) : Type 0 where
   pub not-below : lowest way ≤ℤ c
   pub not-above : c ≤ℤ highest way
 
--- column j passes its three checks: it is not 0, from it on there are as many columns with a pitch as notes, and it has one itself
-pub record Fitting (score : List (List ℕ)) (theme : List ℕ) (j : Column) : Type 0 where
-  pub from-first : 1 ≤ j .0
-  pub to-last : length theme ≤ length (onward score j)
-  pub with-pitch : heard (column score j) ≡ true
-
 -- exact: p + c is a number t, 0 to 127
 pub record Inside (p : Pitch) (c : ℤ) : Type 0 where
   pub t : ℕ
@@ -319,7 +314,7 @@ pub record DismissedBy (score : List (List ℕ)) (theme : List ℕ) (j : Column)
   pub to-last : x .number < length theme
   pub sized : x .size ≡ interval (note theme (x .number)) (note theme (x .number + 1))
   pub small : x .size .0 < 12
-  pub lacking : bit (getD sets (getD (numbersOn score j) (x .number - 1) 0 - 1) 0) (x .size .0) ≡ 1
+  pub not-there : bit (getD sets (getD (numbersOn score j) (x .number - 1) 0 - 1) 0) (x .size .0) ≡ 1
   pub earlier : (i : ℕ) → 1 ≤ i → i < x .number
       → bit (getD sets (getD (numbersOn score j) (i - 1) 0 - 1) 0) (interval (note theme i) (note theme (i + 1)) .0) ≡ 0
 
@@ -356,6 +351,9 @@ pub record Explainer : Type 0 where
   pub no-tracks : (cells : List ℕ) (h : ℕ) (theme : List ℕ) (way : Way) (pair : Pair) (sets : List ℕ) {answer : Explanation}
       → answer ≡ explanation cells h theme way pair sets → RightExplained cells h theme sets
       → (answer .reason ≡ Listed → ⊥) → answer .tracks ≡ noTracks
+  -- 64 places, whatever is said
+  pub places : (cells : List ℕ) (h : ℕ) (theme : List ℕ) (way : Way) (pair : Pair) (sets : List ℕ) {answer : Explanation}
+      → answer ≡ explanation cells h theme way pair sets → length (answer .tracks) ≡ mostSought
   -- where the column passes its checks, whatever the shift: kept exactly where the lent sets make it a candidate of the quick
   -- search, and otherwise dismissed, by the first interval that they lack; where it does not pass, nothing
   pub sifted : (cells : List ℕ) (h : ℕ) (theme : List ℕ) (way : Way) (pair : Pair) (sets : List ℕ) {answer : Explanation}
@@ -368,3 +366,7 @@ pub record Explainer : Type 0 where
   pub unasked : (cells : List ℕ) (h : ℕ) (theme : List ℕ) (way : Way) (pair : Pair) (sets : List ℕ) {answer : Explanation}
       → answer ≡ explanation cells h theme way pair sets → RightExplained cells h theme sets → (Fitting (scoreOf cells h) theme (pair .column) → ⊥)
       → answer .sifted ≡ Unasked
+  -- and it rests on the column alone: another way and another shift change nothing of it
+  pub by-column : (cells : List ℕ) (h : ℕ) (theme : List ℕ) (way way′ : Way) (pair pair′ : Pair) (sets : List ℕ)
+      {answer answer′ : Explanation} → answer ≡ explanation cells h theme way pair sets → answer′ ≡ explanation cells h theme way′ pair′ sets
+      → pair′ .column ≡ pair .column → answer′ .sifted ≡ answer .sifted

@@ -1,6 +1,6 @@
 -- What is said of the notes rests on their columns alone, and what is said of the intervals on the numbers of these alone
 -- (`notes-agree`, `tracks-agree`, `sifted-agree`); so at a column that fits, what is computed by the numbers that are sought is
--- what the definition says (`at-fit-is`). Assumes nothing.
+-- what the definition says (`columns-same`, `sifted-same`). Assumes nothing.
 use mathlib.Core.Path.{_≡_, ap, ap₂, _∙_}
 use mathlib.Core.Bool.{cond, not}
 use mathlib.Core.List.{List, []}
@@ -23,9 +23,8 @@ use Rattle.seeking.specs.Track.{lowestTrack}
 use Rattle.seeking.proofs.Numbers.{sought-at, number-named}
 use Rattle.explaining.specs.declared.answer.Reason.the-variants.{Listed}
 use Rattle.explaining.specs.declared.answer.Sifted.the-variants.{Kept, Dismissed}
-use Rattle.explaining.specs.Explaining.{noTracks, failed, held, notesSay, notesTracks, siftedBy}
+use Rattle.explaining.specs.Explaining.{noTracks, Fitting, failed, held, notesSay, notesTracks, siftedBy}
 use Rattle.explaining.specs.Inner.{columnBy}
-use Rattle.explaining.proofs.Fitting.{Placed}
 
 -- ---- the notes
 
@@ -53,7 +52,7 @@ sifted-agree theme sets ns ms same =
 
 -- ---- at a column that fits
 
-module _ (score : List (List ℕ)) (theme : List ℕ) (j : Column) (few : length theme ≤ mostSought) (p : Placed score theme j) where
+module _ (score : List (List ℕ)) (theme : List ℕ) (j : Column) (few : length theme ≤ mostSought) (p : Fitting score theme j) where
   sought-same : (i : ℕ) → i < length theme → getD (sought score j) i 0 ≡ getD (numbersOn score j) i 0
   sought-same i l = sought-at score j i (omega arith) (omega (arith, p .to-last))
 

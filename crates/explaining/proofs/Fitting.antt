@@ -1,5 +1,5 @@
 -- The column by itself: what the numbers of the columns tell of it is what the definition says (`fit-by-is`); and where it fits
--- (`Placed`), each note has a column of the score, and each note but the last one with a set. Assumes nothing.
+-- (`Fitting` of the definition), each note has a column of the score, and each note but the last one with a set. Assumes nothing.
 use mathlib.Core.Path.{_≡_, refl, sym, _∙_, subst}
 use mathlib.Core.Bool.{Bool, true, false, cond}
 use mathlib.Core.List.{List}
@@ -18,14 +18,8 @@ use Rattle.seeking.specs.Sought.{numbersOn, sought}
 use Rattle.seeking.proofs.Numbers.{sought-length, sought-at, sought-past, number-named, named-rise, heard-first, empty-first}
 use Rattle.explaining.specs.declared.fits.Fit.{Fit}
 use Rattle.explaining.specs.declared.fits.Fit.the-variants.{Zero, Short, NoPitch, Fits}
-use Rattle.explaining.specs.Explaining.{fitOf}
+use Rattle.explaining.specs.Explaining.{fitOf, Fitting}
 use Rattle.explaining.specs.Inner.{fitBy, ColumnsThere, SetsThere}
-
--- it passes its three checks
-pub record Placed (score : List (List ℕ)) (theme : List ℕ) (j : Column) : Type 0 where
-  pub from-first : 1 ≤ j .0
-  pub to-last : length theme ≤ length (onward score j)
-  pub with-pitch : heard (column score j) ≡ true
 
 -- the cases told apart
 abbrev number : Fit → ℕ
@@ -41,7 +35,7 @@ module _ (score : List (List ℕ)) (theme : List ℕ) (j : Column) where
       → (j .0 ≡ 0 → P Zero)
       → (1 ≤ j .0 → length (onward score j) < length theme → P Short)
       → (1 ≤ j .0 → length theme ≤ length (onward score j) → heard (column score j) ≡ false → P NoPitch)
-      → (Placed score theme j → P Fits)
+      → (Fitting score theme j → P Fits)
       → P (fitOf score theme j)
   fit-cases P zero short none fits =
       step (eqb (j .0) 0) refl (ltb (length (onward score j)) (length theme)) refl (heard (column score j)) refl
@@ -54,14 +48,14 @@ module _ (score : List (List ℕ)) (theme : List ℕ) (j : Column) where
       step false p false q true r =
           let n = eqb-false (j .0) 0 p in fits (record { from-first = omega (arith, n); to-last = ltb-false _ _ q; with-pitch = r })
 
-  pub fits-placed : fitOf score theme j ≡ Fits → Placed score theme j
+  pub fits-placed : fitOf score theme j ≡ Fits → Fitting score theme j
   fits-placed =
-      fit-cases (λ f. f ≡ Fits → Placed score theme j) (λ z e. absurd (other e)) (λ a b e. absurd (other e)) (λ a b c e. absurd (other e)) (λ p e. p)
+      fit-cases (λ f. f ≡ Fits → Fitting score theme j) (λ z e. absurd (other e)) (λ a b e. absurd (other e)) (λ a b c e. absurd (other e)) (λ p e. p)
     where
       other : {f : Fit} → f ≡ Fits → cond (eqb (number f) 3) (Unit {0}) ⊥
       other e = subst (λ (g : Fit). cond (eqb (number g) 3) (Unit {0}) ⊥) (sym e) tt
 
-  pub placed-fits : Placed score theme j → fitOf score theme j ≡ Fits
+  pub placed-fits : Fitting score theme j → fitOf score theme j ≡ Fits
   placed-fits p =
       rw (ne-eqb (j .0) 0 (λ e. omega (arith, p .from-first)), le-ltb (length (onward score j)) (length theme) (p .to-last), p .with-pitch)
 
@@ -106,7 +100,7 @@ module _ (score : List (List ℕ)) (theme : List ℕ) (j : Column) where
 
 -- ---- where it fits
 
-module _ (cells : List ℕ) (h : ℕ) (theme : List ℕ) (j : Column) (few : length theme ≤ mostSought) (p : Placed (scoreOf cells h) theme j) where
+module _ (cells : List ℕ) (h : ℕ) (theme : List ℕ) (j : Column) (few : length theme ≤ mostSought) (p : Fitting (scoreOf cells h) theme j) where
   abbrev score : List (List ℕ)
   score = scoreOf cells h
 

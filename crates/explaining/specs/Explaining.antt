@@ -1,9 +1,10 @@
 -- Why a pair is listed or not: `explanation`, the whole answer of the call. The reason is the first that is true, in this order:
 -- the shift (`noShift` of `ways`), the column (`fitOf`), the notes (`notesSay`). Beside it stands what the lent sets make of a
 -- column that fits (`siftedBy`), which rests on no shift. Refusals 1 to 7. Assumes nothing.
-use mathlib.Core.Bool.{Bool, false, cond, not, _||_}
+use mathlib.Core.Path.{_≡_}
+use mathlib.Core.Bool.{Bool, true, false, cond, not, _||_}
 use mathlib.Core.List.{List, [], _∷_, map, _++_}
-use Prim.Native.Nat.{ℕ, _+_, _-_}
+use Prim.Native.Nat.{ℕ, _+_, _-_, _≤_}
 use lib.Dec.{ltb, eqb}
 use lib.ListN.{length, getD, replicate}
 use Rattle.theory.specs.Bits.{bit}
@@ -44,16 +45,22 @@ fitOf score theme j =
     (cond (ltb (length (onward score j)) (length theme)) Short
     (cond (heard (column score j)) Fits NoPitch))
 
+-- it passes all three: it is not 0, from it on there are as many columns with a pitch as notes, and it has one itself
+pub record Fitting (score : List (List ℕ)) (theme : List ℕ) (j : Column) : Type 0 where
+  pub from-first : 1 ≤ j .0
+  pub to-last : length theme ≤ length (onward score j)
+  pub with-pitch : heard (column score j) ≡ true
+
 -- ---- the notes, by their numbers from 1
 
 -- note p moved by the code's shift is no number 0 to 127; octave never asks
-abbrev pub outside : Way → (code : ℕ) → Pitch → Bool
-outside Exact code p = ltb (p .0 + code) 127 || ltb 254 (p .0 + code)
-outside Octave code p = false
+abbrev pub noteOutside : Way → (code : ℕ) → Pitch → Bool
+noteOutside Exact code p = ltb (p .0 + code) 127 || ltb 254 (p .0 + code)
+noteOutside Octave code p = false
 
 -- why note p, of number i, is not held
 abbrev pub failed : Way → (code : ℕ) → Pitch → (i : ℕ) → Reason
-failed way code p i = cond (outside way code p) (Outside i) (Absent i)
+failed way code p i = cond (noteOutside way code p) (Outside i) (Absent i)
 
 -- `at` has the column of each note
 module _ (way : Way) (code : ℕ) (theme : List ℕ) (at : ℕ → List ℕ) where
@@ -79,7 +86,7 @@ module _ (way : Way) (code : ℕ) (theme : List ℕ) (at : ℕ → List ℕ) whe
 
 -- `numbers` has the numbers of the columns
 module _ (theme sets numbers : List ℕ) where
-  -- the set of the column of note i has not the interval: its bit is 1
+  -- the set of the column of note i does not have the interval: its bit is 1
   abbrev pub lacks : ℕ → Bool
   lacks i = eqb (bit (getD sets (getD numbers (i - 1) 0 - 1) 0) (themeInterval theme (i - 1) .0)) 1
 

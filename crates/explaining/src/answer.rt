@@ -4,10 +4,10 @@ use score::Interval;
 use score::Refusal;
 use seeking::MOST_SOUGHT;
 
-// Whether the pair is listed, and if not, the first reason why, in the order in which they stand here. The shift is none of the
-// way's. The column is 0. From it on there are fewer columns with a pitch than the theme has notes. The column itself has none.
-// A note, the first that fails, named by its number from 1, lies outside 0 to 127 when it is moved, or is absent from its column.
-// Last, the call was refused.
+// Whether the pair is listed, and if not, the first of the reasons against it that is true. The shift is none of the way's. The
+// column is 0. From it on there are fewer columns with a pitch than the theme has notes, as from one above n. The column itself has
+// no pitch. A note is not held, the first such one, named by its number from 1: moved, it lies outside 0 to 127, or it is absent
+// from its column. A refused call has its refusal for a reason.
 pub enum Reason {
     Listed,
     NoShift,
@@ -25,8 +25,8 @@ pub struct Lacking {
     pub size: Interval,
 }
 
-// What the lent sets make of the column, whatever the shift. Nothing where a theme has no place at this column at all; otherwise
-// it is kept, or dismissed by the first interval of the theme that is not in its set.
+// What the lent sets make of the column, whatever the shift. Nothing is asked of them where the column fails one of its checks;
+// otherwise it is kept, or dismissed by the first interval of the theme that is not in its set.
 pub enum Sifted {
     Unasked,
     Kept,

@@ -1,5 +1,5 @@
 -- How the numbers of the columns that are sought are found: those found, with those of the columns that are left, are all of them
--- (`Found`). Assumes nothing.
+-- (`Seeking`). Assumes nothing.
 use mathlib.Core.Path.{_≡_, refl, sym, ap, _∙_}
 use mathlib.Core.Bool.{Bool, true, false, not, _&&_}
 use mathlib.Core.List.{List, [], _∷_, _++_, append-nil}
@@ -21,7 +21,7 @@ use Rattle.seeking.specs.Sought.{numbersBehind, soughtBehind}
 abbrev zeros : List ℕ
 zeros = replicate mostSought 0
 
-pub record Found (cells : List ℕ) (h passed : ℕ) (numbers : List ℕ) (k q : ℕ) : Type 0 where
+pub record Seeking (cells : List ℕ) (h passed : ℕ) (numbers : List ℕ) (k q : ℕ) : Type 0 where
   pub named : List ℕ
   pub so-far : numbers ≡ over zeros named
   pub left : named ++ numbersBehind (scoreOf cells h) k ≡ numbersBehind (scoreOf cells h) passed
@@ -29,14 +29,14 @@ pub record Found (cells : List ℕ) (h passed : ℕ) (numbers : List ℕ) (k q :
   pub room : q ≤ mostSought
   pub long : length numbers ≡ mostSought
 
-pub found-start : (cells : List ℕ) (h passed : ℕ) → Found cells h passed zeros passed 0
+pub found-start : (cells : List ℕ) (h passed : ℕ) → Seeking cells h passed zeros passed 0
 found-start cells h passed = record { named = []; so-far = refl; left = refl; many = refl; room = zero-le; long = refl }
 
 -- the loop goes on
 pub goes-on : (k n q : ℕ) → (ltb k n && ltb q mostSought) ≡ true → (k < n) × (q < mostSought)
 goes-on k n q e = (ltb-true k n (both-left (ltb k n) (ltb q mostSought) e), ltb-true q mostSought (both-right (ltb k n) (ltb q mostSought) e))
 
-module _ (cells : List ℕ) (h passed : ℕ) {numbers : List ℕ} {k q : ℕ} (f : Found cells h passed numbers k q) where
+module _ (cells : List ℕ) (h passed : ℕ) {numbers : List ℕ} {k q : ℕ} (f : Seeking cells h passed numbers k q) where
   abbrev score : List (List ℕ)
   score = scoreOf cells h
 
@@ -48,7 +48,7 @@ module _ (cells : List ℕ) (h passed : ℕ) {numbers : List ℕ} {k q : ℕ} (f
       here : b ≡ not (heard (getD score k []))
       here = e ∙ ap (λ (c : List ℕ). not (heard c)) (column-cells cells h k (k * h) refl l)
 
-      pub found-skip : not b ≡ false → Found cells h passed numbers (k + 1) q
+      pub found-skip : not b ≡ false → Seeking cells h passed numbers (k + 1) q
       found-skip z =
           let g : heard (getD score k []) ≡ false = not-true _ (sym here ∙ not-false b z) in
           record {
@@ -60,7 +60,7 @@ module _ (cells : List ℕ) (h passed : ℕ) {numbers : List ℕ} {k q : ℕ} (f
             long = f .long;
           }
 
-      pub found-take : q < mostSought → not b ≡ true → Found cells h passed (set numbers q (k + 1)) (k + 1) (q + 1)
+      pub found-take : q < mostSought → not b ≡ true → Seeking cells h passed (set numbers q (k + 1)) (k + 1) (q + 1)
       found-take r z =
           let g : heard (getD score k []) ≡ true = not-false _ (sym here ∙ not-true b z) in
           record {

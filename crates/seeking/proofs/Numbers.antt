@@ -65,7 +65,7 @@ rank-next score j low e = pick (decLt (j .0 - 1) (length score))
 
 -- ---- in 64 places
 
--- the first of the numbers, and 0 behind them
+-- a place of a row of zeros
 zeros-at : (n i : ℕ) → getD (replicate n 0) i 0 ≤ 0
 zeros-at zero i = omega (arith, List·getD-eq-default {A = ℕ} [] 0 {n = i} zero-le)
 zeros-at (suc n) zero = omega arith

@@ -1,6 +1,5 @@
--- The lowest track that holds a note: how it is found, and what it
--- is: a column holds a note exactly where one of its cells does (`holds-cells`), and then the lowest track is that of the first
--- (`lowest-there`). Assumes nothing.
+-- The lowest track that holds a note: how it is found, and what it is: a column holds a note exactly where one of its cells does
+-- (`holds-cells`), and then the lowest track is that of the first (`lowest-there`). Assumes nothing.
 use mathlib.Core.Path.{_≡_, refl, sym, ap, _∙_}
 use mathlib.Core.Bool.{Bool, true, false, cond}
 use mathlib.Core.List.{List, [], _∷_}

@@ -5,7 +5,6 @@ use passing::is_empty;
 use score::Column;
 use score::columns_in;
 ghost use mathlib.Core.Path.{_≡_};
-ghost use Prim.Native.Nat.{_-_};
 ghost use Rattle.score.specs.Score.{scoreOf};
 ghost use Rattle.seeking.specs.Sought.{sought, soughtBehind};
 

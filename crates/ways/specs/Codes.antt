@@ -1,6 +1,6 @@
--- Which shifts a way has (`noShift`) and a bookmark may have (`outOfRange`, `outAs`); and codes of every shift and shifts of every
--- code that 16 bits hold, what `code_of` and `shift_of` give. For what a bookmark may have they are `codeOf` and `shiftOf` of `Way`.
--- Assumes nothing.
+-- Which shifts a way has (`noShift`) and a bookmark may have (`outOfRange`, `outAs`); and codes of every shift and shifts of
+-- every code that 16 bits hold, what `code_of` and `shift_of` give. For what a bookmark may have they are `codeOf` and `shiftOf`
+-- of `Way`. Assumes nothing.
 use mathlib.Core.Bool.{Bool, cond, _||_}
 use Prim.Native.Nat.{ℕ}
 use lib.Dec.{leb}

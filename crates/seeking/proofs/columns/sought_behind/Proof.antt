@@ -8,12 +8,12 @@ use lib.ListN.{length}
 use Rattle.score.specs.Score.{columnsIn}
 use Rattle.score.proofs.Columns.{column-room}
 use Rattle.seeking.specs.Limits.{mostSought}
-use Rattle.seeking.proofs.Finding.{Found, found-start, goes-on, found-skip, found-take, found-end}
+use Rattle.seeking.proofs.Finding.{Seeking, found-start, goes-on, found-skip, found-take, found-end}
 use Rattle.seeking.proofs.columns.sought_behind.Statement.{statement}
 use Rattle.seeking.proofs.columns.sought_behind.Tie as tie
 
 abbrev Inv-loop : tie.InvT-loop
-Inv-loop cells tracks passed n numbers₀ k₀ q₀ numbers k q = Found cells tracks passed numbers k q
+Inv-loop cells tracks passed n numbers₀ k₀ q₀ numbers k q = Seeking cells tracks passed numbers k q
 
 abbrev μ-loop : tie.MeasureT-loop
 μ-loop cells tracks passed n numbers₀ k₀ q₀ numbers k q = columnsIn cells tracks - k
