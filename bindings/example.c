@@ -1,5 +1,5 @@
-/* How C calls the finder: prepares a small score, lists a theme's pairs page by page, asks whether themes occur at all, and
- * changes a column. */
+/* How C calls the finder: prepares a small score, lists a theme's pairs page by page, explains why some are listed and
+ * others are not, asks whether themes occur at all, and changes a column. */
 #include <finder.h>
 #include <stdio.h>
 
@@ -33,6 +33,71 @@ static int question(const uint8_t *cells, const uint8_t *theme, uint16_t *sets, 
     return 1;
 }
 
+/* Whether the first numbers of an explanation are these, and the tracks of a theme of two notes with nothing behind them. */
+static int told(const int64_t *why, int64_t reason, int64_t note, int64_t sifted, int64_t interval, int64_t size,
+                int64_t track1, int64_t track2)
+{
+    const int64_t expected[] = {reason, note, sifted, interval, size, track1, track2};
+    int64_t i;
+
+    for (i = 0; i < FINDER_EXPLAIN_LEN; i++)
+        if (why[i] != (i < 7 ? expected[i] : 0))
+            return 0;
+    return 1;
+}
+
+/* Whether a call with `places` places of `why` is turned away with this result, and all of them are as they were. */
+static int turned_away(const uint8_t *cells, const uint8_t *theme, uint8_t way, const uint16_t *sets, size_t sets_len,
+                       size_t places, int64_t expected)
+{
+    int64_t why[FINDER_EXPLAIN_LEN + 1];
+    size_t i;
+
+    for (i = 0; i <= FINDER_EXPLAIN_LEN; i++)
+        why[i] = -77;
+    if (finder_explain(cells, 10, 2, theme, 2, way, 2, 2, sets, sets_len, why, places) != expected)
+        return 0;
+    for (i = 0; i <= FINDER_EXPLAIN_LEN; i++)
+        if (why[i] != -77)
+            return 0;
+    return 1;
+}
+
+/* Why pairs of the theme are listed or not, with the score's own sets and with others; whether all went well. */
+static int explanation(const uint8_t *cells, const uint8_t *theme, const uint16_t *sets)
+{
+    static const uint16_t others[] = {4095, 4095, 4095, 4095}, bad[] = {4095, 4096, 4095, 4095};
+    int64_t why[FINDER_EXPLAIN_LEN];
+
+    /* 69 and 64 stand at columns 2 and 3 */
+    if (finder_explain(cells, 10, 2, theme, 2, FINDER_EXACT, 2, 2, sets, 4, why, FINDER_EXPLAIN_LEN) != 0
+        || !told(why, FINDER_LISTED, 0, FINDER_KEPT, 0, 0, 2, 1))
+        return 0;
+    printf("column 2, shift 2: tracks %d %d\n", (int)why[FINDER_FIRST_TRACK], (int)why[FINDER_FIRST_TRACK + 1]);
+    /* 59 does not stand at column 4, and no interval of 7 semitones leads there from column 3 */
+    if (finder_explain(cells, 10, 2, theme, 2, FINDER_EXACT, 3, -3, sets, 4, why, FINDER_EXPLAIN_LEN) != 0
+        || !told(why, FINDER_ABSENT, 2, FINDER_DISMISSED, 1, 7, 0, 0))
+        return 0;
+    printf("column 3, shift -3: note %d is absent\n", (int)why[1]);
+    /* by sets of another score the first pair's column is dismissed, though the pair is listed */
+    if (finder_explain(cells, 10, 2, theme, 2, FINDER_EXACT, 2, 2, others, 4, why, FINDER_EXPLAIN_LEN) != 0
+        || !told(why, FINDER_LISTED, 0, FINDER_DISMISSED, 1, 7, 2, 1))
+        return 0;
+    /* a bookmark's shift, column 0, and the last column */
+    if (finder_explain(cells, 10, 2, theme, 2, FINDER_OCTAVE, 2, 12, sets, 4, why, FINDER_EXPLAIN_LEN) != 0
+        || !told(why, FINDER_NO_SHIFT, 0, FINDER_KEPT, 0, 0, 0, 0)
+        || finder_explain(cells, 10, 2, theme, 2, FINDER_OCTAVE, 0, 2, sets, 4, why, FINDER_EXPLAIN_LEN) != 0
+        || !told(why, FINDER_NO_COLUMN, 0, FINDER_UNASKED, 0, 0, 0, 0)
+        || finder_explain(cells, 10, 2, theme, 2, FINDER_OCTAVE, 5, 2, sets, 4, why, FINDER_EXPLAIN_LEN) != 0
+        || !told(why, FINDER_TOO_FEW, 0, FINDER_UNASKED, 0, 0, 0, 0))
+        return 0;
+    return turned_away(cells, theme, FINDER_EXACT, sets, 3, FINDER_EXPLAIN_LEN, 6)
+        && turned_away(cells, theme, FINDER_OCTAVE, bad, 4, FINDER_EXPLAIN_LEN, 7 + 256)
+        && turned_away(cells, theme, FINDER_WRITTEN, sets, 4, FINDER_EXPLAIN_LEN, FINDER_NO_CALL)
+        && turned_away(cells, theme, FINDER_EXACT, bad, 3, FINDER_EXPLAIN_LEN - 1, FINDER_NO_CALL)
+        && turned_away(cells, theme, FINDER_EXACT, bad, 3, FINDER_EXPLAIN_LEN + 1, FINDER_NO_CALL);
+}
+
 int main(void)
 {
     /* five columns of two tracks; 255 is a rest */
@@ -43,7 +108,7 @@ int main(void)
     static uint32_t table[FINDER_TABLE_LEN];
     uint16_t sets[4], columns[2];
     int16_t shifts[2];
-    int64_t answer[FINDER_ANSWER_LEN] = {0, 1, -127, 0, 0}, summary;
+    int64_t answer[FINDER_ANSWER_LEN] = {0, 1, -127, 0, 0}, summary, why[FINDER_EXPLAIN_LEN];
     int64_t looks = 0, i;
     size_t pairs = 0;
 
@@ -75,6 +140,9 @@ int main(void)
         return 1;
     printf("as written: column %d\n", columns[0]);
 
+    if (!explanation(cells, theme, sets))
+        return 1;
+
     if (!question(cells, theme, sets, summary))
         return 1;
 
@@ -87,6 +155,10 @@ int main(void)
     if (result != 0 || answer[0] != 1 || columns[0] != 1 || shifts[0] != 0 || answer[3] != 1 || answer[4] != 1)
         return 1;
     printf("over a rest: column %d, shift %d\n", columns[0], shifts[0]);
+    result = finder_explain(gap, sizeof gap, 1, gap_theme, sizeof gap_theme, FINDER_EXACT, 1, 0, sets, 2, why,
+                            FINDER_EXPLAIN_LEN);
+    if (result != 0 || !told(why, FINDER_LISTED, 0, FINDER_KEPT, 0, 0, 1, 1))
+        return 1;
 
     /* an unknown way, and one that the quick page does not take */
     return finder_plain_page(cells, sizeof cells, 2, theme, sizeof theme, 3, 1, 0, columns, 2, shifts, 2, answer, 5)

@@ -1,9 +1,9 @@
 /* finder.h: where does a tune stand in a score?
  *
  * Link with libfinder_c.a: bindings/native-lib builds it for the processor at hand; on x86-64 so does
- * `rt staticlib finder_c`, which writes target/staticlib/libfinder_c.a. The library calls nothing but
- * `memset`: it allocates nothing, keeps nothing between calls and may be called from several threads at once, each with
- * buffers of its own.
+ * `rt staticlib finder_c`, which writes target/staticlib/libfinder_c.a. The library calls nothing but `memset` and `memcpy`:
+ * it allocates nothing, keeps nothing between calls and may be called from several threads at once, each with buffers of its
+ * own.
  *
  * A score is `cells`, column after column, `tracks` cells a column, one per track. A cell 0 to 127 is a MIDI pitch and
  * 255 is a rest. There are 1 to 16 tracks and n = 1 to 2,048 columns, numbered from 1. A theme is 2 to 32 pitches.
@@ -14,13 +14,17 @@
  *   way 0, exact:   shifts -127 to 127.
  *   way 1, octave:  shifts 0 to 11, octaves ignored.
  *   way 2, written: shift 0 alone, the tune in its own key. The pairs are those of exact with shift 0. The plain page
- *                   takes it; the quick page and the question do not.
+ *                   takes it; the quick page, the question and the explainer do not.
  * Pairs are listed by rising column, then by rising shift.
  *
- * A score's interval sets, which finder_prepare fills, serve the quick page and the question. Their summary is one number
- * of 12 bits: bit d, d = 0 to 11, is 0 exactly where some set has bit d at 0; with no sets it is 4095. So it is the `&` of
- * 4095 and all sets. finder_prepare and finder_update give it, and the question, finder_occurs, is handed it beside the
- * sets. In these three calls `answer` has 1 place, for the one number that each says.
+ * There are six calls. finder_prepare and finder_update keep a score's interval sets; finder_plain_page and
+ * finder_quick_page list pairs; finder_occurs, the question, says whether there is any; finder_explain, the explainer, says
+ * why one pair is listed or not.
+ *
+ * A score's interval sets, which finder_prepare fills, serve the quick page, the question and the explainer. Their summary
+ * is one number of 12 bits: bit d, d = 0 to 11, is 0 exactly where some set has bit d at 0; with no sets it is 4095. So it is
+ * the `&` of 4095 and all sets. finder_prepare and finder_update give it, and finder_occurs is handed it beside the sets. In
+ * these three calls `answer` has 1 place, for the one number that each says.
  *
  * A page call writes the first pairs at or after its bookmark (column, shift), as many as the buffers have places. The
  * first bookmark is (1, -127), for octave and written (1, 0). After a full page whose last pair is (j, c) the next bookmark
@@ -32,6 +36,26 @@
  *   answer[3]  1 where the list is finished, otherwise 0
  *   answer[4]  looks: how many notes after a theme's first were looked for; for written always 0
  * A page that is full is never finished: the next one, from the next bookmark, may be empty.
+ *
+ * In finder_explain `answer` has 69 places:
+ *   answer[0]  the reason: 0 where the pair is listed, and otherwise the first of these that is true:
+ *                1  the shift is not one of the way's; 128 and 12, which a bookmark may have, are not
+ *                2  the column is 0
+ *                3  from the column on, fewer columns have a pitch than the theme has notes; so it is from any above n on
+ *                4  the column has no pitch
+ *                5  the first note that fails lies, when it is moved, outside 0 to 127; exact only
+ *                6  the first note that fails is, when it is moved, absent from the column in which it is sought
+ *   answer[1]  with reason 5 or 6 the number of that note, from 1; otherwise 0
+ *   answer[2]  what the sets make of the column, whatever the shift: 1 where they keep it, 2 where they dismiss it; 0 where
+ *              the column is 0, leaves too few, or has no pitch
+ *   answer[3]  where they dismiss it, the number of the first interval of the theme that is not in its set; interval 1 leads
+ *              from note 1 to note 2. Otherwise 0
+ *   answer[4]  where they dismiss it, the size of that interval, 0 to 11 semitones upwards, octaves ignored; otherwise 0
+ *   answer[5] to answer[68]
+ *              where the pair is listed, for each note the lowest track, from 1, that holds it, and 0 behind the last note;
+ *              otherwise 0
+ * Note 1 is sought in the column itself, each further note in the next column with a pitch. An interval is looked for in the
+ * set of the column of the note from which it leads.
  *
  * Each call returns 0 where it is accepted, and otherwise the refusal, number + 256 * place, the lowest number that
  * applies; place is 0 where none is named. A refused call writes nothing.
@@ -48,8 +72,9 @@
  *       not -127 to 128 for exact, 0 to 12 for octave, 0 to 1 for written
  *   12  `summary` is not the summary of `sets`
  *   19  the changed column is not 1 to n
- *  255  before any refusal: way is above 2 in the plain page, or above 1 in the quick page or the question; or answer
- *       isn't 5 long in a page call, or 1 long in the other calls. Nothing is written then either.
+ *  255  before any refusal: way is above 2 in the plain page, or above 1 in the quick page, the question or the
+ *       explainer; or answer isn't 5 long in a page call, 69 long in the explainer, or 1 long in the other calls. Nothing
+ *       is written then either.
  *
  * What the caller owes: each pointer has its length's elements behind it (of an empty buffer it is not read), they are
  * aligned for their type, no buffer that is written (sets in finder_prepare and finder_update; table, columns, shifts,
@@ -73,7 +98,28 @@ enum {
     FINDER_NO_CALL = 255,     /* unknown way, or `answer` of the wrong length */
     FINDER_TABLE_LEN = 4096,  /* places of a theme table */
     FINDER_ANSWER_LEN = 5,    /* places of `answer` in a page call */
+    FINDER_EXPLAIN_LEN = 69,  /* places of `answer` in the explainer */
     FINDER_ONE_LEN = 1        /* places of `answer` in the other calls: one number */
+};
+
+enum {                        /* the explainer's answer[0] */
+    FINDER_LISTED = 0,
+    FINDER_NO_SHIFT = 1,
+    FINDER_NO_COLUMN = 2,
+    FINDER_TOO_FEW = 3,
+    FINDER_EMPTY = 4,
+    FINDER_OUTSIDE = 5,
+    FINDER_ABSENT = 6
+};
+
+enum {                        /* the explainer's answer[2] */
+    FINDER_UNASKED = 0,
+    FINDER_KEPT = 1,
+    FINDER_DISMISSED = 2
+};
+
+enum {
+    FINDER_FIRST_TRACK = 5    /* the place of the first note's track in the explainer's answer */
 };
 
 /* The refusal in a result other than 0 and 255. */
@@ -119,6 +165,14 @@ int64_t finder_quick_page(const uint8_t *cells, size_t cells_len, size_t tracks,
                           const uint16_t *sets, size_t sets_len, uint32_t *table, size_t table_len,
                           uint16_t *columns, size_t columns_len, int16_t *shifts, size_t shifts_len,
                           int64_t *answer, size_t answer_len);
+
+/* The explainer: why the theme is listed at `column` with `shift`, or is not, exact or octave; any column and any shift may
+ * be asked about. The sets are the score's own, or any others: then they may dismiss the column of a listed pair, or keep
+ * one where nothing is listed. A quick page with these sets lists the pair exactly where answer[0] is 0 and answer[2] is 1.
+ * Nothing but `answer` is written. Refuses 1 to 7. */
+int64_t finder_explain(const uint8_t *cells, size_t cells_len, size_t tracks,
+                       const uint8_t *theme, size_t theme_len, uint8_t way, uint16_t column, int16_t shift,
+                       const uint16_t *sets, size_t sets_len, int64_t *answer, size_t answer_len);
 
 #ifdef __cplusplus
 }

@@ -6,8 +6,9 @@
 //!
 //! There are two kinds of scores: those in which every column has a pitch, and those in which a tenth of the columns have
 //! none. `finder-bench full` times the first kind alone. Preparation and pages come first, then the question and the update,
-//! whose times are nanoseconds a call.
+//! and then the explainer, whose times are nanoseconds a call. `finder-bench explainer` times the explainer alone.
 
+mod explanations;
 mod pages;
 mod questions;
 mod rust_finder;
@@ -15,6 +16,7 @@ mod scores;
 mod timing;
 mod updates;
 
+use explanations::Explanations;
 use pages::Timed;
 use questions::Questions;
 use scores::Kind;
@@ -25,8 +27,10 @@ fn main() {
     let with_gaps = match args.iter().map(String::as_str).collect::<Vec<_>>()[..] {
         [] => true,
         ["full"] => false,
+        ["explainer"] => return say_explanations(true),
         _ => {
-            eprintln!("finder-bench [full]: times scores without and with empty columns, or those without alone");
+            eprintln!("finder-bench [full | explainer]: times scores without and with empty columns, or those without alone;");
+            eprintln!("or, for both, the explainer alone");
             std::process::exit(2);
         }
     };
@@ -48,9 +52,20 @@ fn main() {
         println!("\n## The question and the update, scores in which a tenth of the columns have none\n");
         say_questions_and_updates(Kind::Gaps);
     }
+    println!();
+    say_explanations(with_gaps);
 }
 
 fn say_questions_and_updates(kind: Kind) {
     Questions::new(kind).say();
     Updates::new(kind).say();
+}
+
+fn say_explanations(with_gaps: bool) {
+    println!("## The explainer, scores in which every column has a pitch\n");
+    Explanations::new(Kind::Full).say();
+    if with_gaps {
+        println!("\n## The explainer, scores in which a tenth of the columns have none\n");
+        Explanations::new(Kind::Gaps).say();
+    }
 }

@@ -6,14 +6,17 @@
 //! after an `and` are the starts that still follow. The looks are then counted by bits.
 //!
 //! The tune in its own key has a page of its own, by a word for each byte and a register. `question` says whether a theme
-//! occurs at all, and `update` brings the sets up to date after a column was changed.
+//! occurs at all, `update` brings the sets up to date after a column was changed, and `explanation` says why a pair is listed or
+//! not.
 //!
 //! A column without a pitch is passed over. A score in which there is none is walked along as it stands; for any other the
 //! numbers of the columns with a pitch are listed first, and the walk goes along that list.
 
+mod explanation;
 mod question;
 mod update;
 
+pub use explanation::{explain, EXPLAIN_LEN};
 use finder::{AnyWay, Bookmark, Page, Refusal, Summary, Way};
 pub use question::occurs;
 use std::ops::Range;

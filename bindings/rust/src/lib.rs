@@ -58,13 +58,34 @@
 //! # Ok::<(), finder::Refusal>(())
 //! ```
 //!
-//! [`prepare`], [`update`], [`occurs`], [`plain_page`] and [`quick_page`] are the calls themselves, for buffers of one's
-//! own. What is proved is the library behind them; this crate passes slices on, but for [`Summary::of`], which it computes. It
-//! is tested and not proved.
+//! An editor who misses a place, or wonders at one, asks why. The answer is text, or values:
+//!
+//! ```
+//! use finder::{Pair, Prepared, Reason, Way};
+//!
+//! let score = [60, 67, 62, 69, 64, 255, 65, 72, 255, 67];
+//! let prepared = Prepared::new(&score, 2)?;
+//! let why = |column, shift| prepared.explain(&score, 2, &[67, 62], Way::Exact, Pair { column, shift });
+//! assert_eq!(why(2, 2)?.to_string(), "listed: tracks 2 1\nthe sets keep column 2");
+//! let missing = why(3, -3)?;
+//! assert_eq!(missing.reason.to_string(), "note 2 is absent from column 4");
+//! assert_eq!(missing.sifted.unwrap().to_string(), "the sets dismiss column 3 by interval 1, of 7 semitones");
+//! assert_eq!(why(5, 0)?.reason, Reason::TooFew { column: 5 });
+//! # Ok::<(), finder::Refusal>(())
+//! ```
+//!
+//! [`prepare`], [`update`], [`occurs`], [`explain`], [`plain_page`] and [`quick_page`] are the calls themselves, for buffers of
+//! one's own. What is proved is the library behind them; this crate passes slices on. Two things it computes:
+//! [`Summary::of`], and the column of [`Reason::Absent`]. It is tested and not proved.
 #![warn(missing_docs)]
 
+mod explanation;
+
+use explanation::EXPLAIN_LEN;
+pub use explanation::{Explanation, Reason, Sifted};
 use std::fmt;
 use std::iter::FusedIterator;
+use std::ops::RangeInclusive;
 
 /// How many places a theme table has.
 pub const TABLE_LEN: usize = 4096;
@@ -72,7 +93,7 @@ pub const TABLE_LEN: usize = 4096;
 /// The most columns that a score may have.
 pub const MOST_COLUMNS: usize = 2048;
 
-/// When a column holds a note moved by a shift. Both searches and the question take these two ways.
+/// When a column holds a note moved by a shift. Both searches, the question and the explainer take these two ways.
 #[derive(Clone, Copy, PartialEq, Eq, Hash, Debug)]
 pub enum Way {
     /// The note moved by the shift, -127 to 127, is in the column.
@@ -82,13 +103,17 @@ pub enum Way {
 }
 
 impl Way {
+    /// The shifts that a pair may have.
+    pub fn shifts(self) -> RangeInclusive<i16> {
+        match self {
+            Way::Exact => -127..=127,
+            Way::Octave => 0..=11,
+        }
+    }
+
     /// Where a list begins: column 1, and the lowest shift.
     pub fn first(self) -> Bookmark {
-        let shift = match self {
-            Way::Exact => -127,
-            Way::Octave => 0,
-        };
-        Bookmark { column: 1, shift }
+        Bookmark { column: 1, shift: *self.shifts().start() }
     }
 
     fn number(self) -> u8 {
@@ -99,8 +124,17 @@ impl Way {
     }
 }
 
+impl fmt::Display for Way {
+    fn fmt(&self, f: &mut fmt::Formatter<'_>) -> fmt::Result {
+        f.write_str(match self {
+            Way::Exact => "exact",
+            Way::Octave => "octave",
+        })
+    }
+}
+
 /// Any of the three ways. The plain search takes them all. There is no quick search for the tune as it is written, and so
-/// [`pairs`], [`quick_page`] and [`occurs`] cannot be handed it:
+/// [`pairs`], [`quick_page`], [`occurs`] and [`explain`] cannot be handed it:
 ///
 /// ```compile_fail
 /// finder::pairs(&[60, 62], 1, &[60, 62], finder::AnyWay::Written);
@@ -136,7 +170,8 @@ impl From<Way> for AnyWay {
     }
 }
 
-/// The theme stands at this column, counted from 1, with this shift: score minus theme.
+/// The theme stands at this column, counted from 1, with this shift: score minus theme. [`explain`] takes any column and any
+/// shift, and says whether that is so.
 #[derive(Clone, Copy, PartialEq, Eq, PartialOrd, Ord, Hash, Debug)]
 pub struct Pair {
     /// The column of the theme's first note.
@@ -264,6 +299,10 @@ extern "C" {
         sets: *const u16, sets_len: usize, table: *mut u32, table_len: usize,
         columns: *mut u16, columns_len: usize, shifts: *mut i16, shifts_len: usize, answer: *mut i64, answer_len: usize,
     ) -> i64;
+    fn finder_explain(
+        cells: *const u8, cells_len: usize, tracks: usize, theme: *const u8, theme_len: usize, way: u8, column: u16, shift: i16,
+        sets: *const u16, sets_len: usize, answer: *mut i64, answer_len: usize,
+    ) -> i64;
 }
 
 /// Fills all interval sets of the score, one less than it has columns, and gives their summary.
@@ -358,6 +397,49 @@ pub fn occurs(
         )
     })?;
     Ok(answer[0] != 0)
+}
+
+/// Why the theme is listed at this column with this shift, or is not, exact or octave; and what the sets make of the column.
+///
+/// With the score's own sets a listed pair's column is always kept. Sets of another score may dismiss it, or keep a column where
+/// nothing is listed: a [`quick_page`] with the same sets has the pair exactly where it is listed and its column is kept.
+/// Refuses 1 to 7.
+///
+/// ```
+/// use finder::{explain, Pair, Reason, Sifted, Way};
+///
+/// // columns 2 and 4 have no pitch
+/// let score = [60, 255, 62, 255, 64];
+/// let why = |column, shift, sets: &[u16]| explain(&score, 1, &[60, 62], Way::Exact, Pair { column, shift }, sets);
+/// let own = [4091, 4095, 4091, 4095];
+/// assert_eq!(why(1, 0, &own)?.reason, Reason::Listed { tracks: vec![1, 1] });
+/// assert_eq!(why(1, 1, &own)?.reason, Reason::Absent { note: 1, column: 1 });
+/// assert_eq!(why(2, 0, &own)?.reason, Reason::Empty { column: 2 });
+/// assert_eq!(why(4, 0, &own)?.reason, Reason::TooFew { column: 4 });
+///
+/// // sets of another score, in which the interval of two semitones is not there
+/// let other = why(1, 0, &[4095; 4])?;
+/// assert_eq!(other.reason, Reason::Listed { tracks: vec![1, 1] });
+/// assert_eq!(other.sifted, Some(Sifted::Dismissed { column: 1, interval: 1, size: 2 }));
+/// # Ok::<(), finder::Refusal>(())
+/// ```
+pub fn explain(
+    cells: &[u8],
+    tracks: usize,
+    theme: &[u8],
+    way: Way,
+    pair: Pair,
+    sets: &[u16],
+) -> Result<Explanation, Refusal> {
+    let mut answer = [0; EXPLAIN_LEN];
+    // Safety: each pointer and length is of a slice, and those that are written are lent to this call alone.
+    Refusal::read(unsafe {
+        finder_explain(
+            cells.as_ptr(), cells.len(), tracks, theme.as_ptr(), theme.len(), way.number(), pair.column, pair.shift,
+            sets.as_ptr(), sets.len(), answer.as_mut_ptr(), answer.len(),
+        )
+    })?;
+    Ok(Explanation::read(&answer, cells, tracks, theme.len(), way, pair))
 }
 
 /// Writes the first pairs at or after the bookmark, as many as there is room for; every column with a pitch is looked at.
@@ -455,6 +537,18 @@ impl Prepared {
     /// Whether the theme occurs in the score, as by [`occurs`]. Refuses 1 to 5, and 6 for a score of another length.
     pub fn occurs(&self, cells: &[u8], tracks: usize, theme: &[u8], way: Way) -> Result<bool, Refusal> {
         occurs(cells, tracks, theme, way, &self.sets, self.summary, &mut [0; TABLE_LEN])
+    }
+
+    /// Why the pair is listed or not, as [`explain`] by these sets. Refuses 1 to 5, and 6 for a score of another length.
+    pub fn explain(
+        &self,
+        cells: &[u8],
+        tracks: usize,
+        theme: &[u8],
+        way: Way,
+        pair: Pair,
+    ) -> Result<Explanation, Refusal> {
+        explain(cells, tracks, theme, way, pair, &self.sets)
     }
 
     /// Takes the score after one of its columns, counted from 1, was changed, and brings sets and summary up to date, as

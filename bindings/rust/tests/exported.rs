@@ -1,9 +1,11 @@
 //! The exported calls themselves: what the safe functions cannot ask, and what a refused call leaves in `answer`.
 
 mod examples;
+mod raw;
 
 use examples::{K, K_SETS, K_SUMMARY};
 use finder::{Summary, TABLE_LEN};
+use raw::{unanswered, Asked, EXPLAIN_LEN};
 
 extern "C" {
     fn finder_prepare(
@@ -21,11 +23,6 @@ extern "C" {
 
 /// The result where there is no call.
 const NO_CALL: i64 = 255;
-
-/// What `answer` holds before a call, in as many places as it has.
-fn unanswered(places: usize) -> Vec<i64> {
-    vec![-77; places]
-}
 
 /// A preparation: the result, and the sets and the answer after it.
 fn prepare(cells: &[u8], tracks: usize, sets: &[u16], places: usize) -> (i64, Vec<u16>, Vec<i64>) {
@@ -112,5 +109,75 @@ fn a_way_that_the_question_does_not_take() {
         assert_eq!(occurs(2, &[67, 62], way, K_SUMMARY, 2), (NO_CALL, true, unanswered(2)));
         // before any refusal
         assert_eq!(occurs(0, &[200], way, Summary(65535), 1), (NO_CALL, true, unanswered(1)));
+    }
+}
+
+/// K with the theme 67 62 and its own sets, exact, at column 1 with shift 0.
+const ASKED: Asked = Asked { cells: &K, tracks: 2, theme: &[67, 62], way: 0, column: 1, shift: 0, sets: &K_SETS };
+
+/// The answer of the explainer: its first five numbers, the tracks, and 0 in all places behind them.
+fn explained(first: [i64; 5], tracks: &[i64]) -> (i64, Vec<i64>) {
+    let mut answer = [&first[..], tracks].concat();
+    answer.resize(EXPLAIN_LEN, 0);
+    (0, answer)
+}
+
+#[test]
+fn an_explanation_in_numbers() {
+    let explain = |asked: Asked| asked.explain(EXPLAIN_LEN);
+    assert_eq!(explain(ASKED), explained([0, 0, 1, 0, 0], &[2, 1]));
+    assert_eq!(explain(Asked { column: 4, shift: 5, ..ASKED }), explained([0, 0, 1, 0, 0], &[2, 2]));
+    assert_eq!(explain(Asked { sets: &[4095; 4], ..ASKED }), explained([0, 0, 2, 1, 7], &[2, 1]));
+    assert_eq!(explain(Asked { shift: 128, ..ASKED }), explained([1, 0, 1, 0, 0], &[]));
+    assert_eq!(explain(Asked { way: 1, shift: 12, column: 3, ..ASKED }), explained([1, 0, 2, 1, 7], &[]));
+    assert_eq!(explain(Asked { column: 0, ..ASKED }), explained([2, 0, 0, 0, 0], &[]));
+    assert_eq!(explain(Asked { column: 5, ..ASKED }), explained([3, 0, 0, 0, 0], &[]));
+    assert_eq!(explain(Asked { column: 65535, ..ASKED }), explained([3, 0, 0, 0, 0], &[]));
+    let gap = Asked { cells: &[255, 255, 60, 67, 62, 69], sets: &[4095, 3451], ..ASKED };
+    assert_eq!(explain(gap), explained([4, 0, 0, 0, 0], &[]));
+    assert_eq!(explain(Asked { shift: 61, ..ASKED }), explained([5, 1, 1, 0, 0], &[]));
+    assert_eq!(explain(Asked { column: 3, shift: -3, ..ASKED }), explained([6, 2, 2, 1, 7], &[]));
+    assert_eq!(explain(Asked { way: 1, column: 3, shift: 9, ..ASKED }), explained([6, 2, 2, 1, 7], &[]));
+    // the longest theme
+    let long = Asked { cells: &[60; 32], tracks: 1, theme: &[60; 32], sets: &[0; 31], ..ASKED };
+    assert_eq!(explain(long), explained([0, 0, 1, 0, 0], &[1; 32]));
+}
+
+#[test]
+fn a_refused_explanation() {
+    let refused = |asked: Asked| {
+        // also where the shift and the column are none
+        for (column, shift) in [(asked.column, asked.shift), (0, 500)] {
+            let (result, answer) = Asked { column, shift, ..asked }.explain(EXPLAIN_LEN);
+            assert_eq!(answer, unanswered(EXPLAIN_LEN));
+            assert_eq!(result, asked.explain(EXPLAIN_LEN).0);
+        }
+        asked.explain(EXPLAIN_LEN).0
+    };
+    assert_eq!(refused(Asked { tracks: 0, ..ASKED }), 1);
+    assert_eq!(refused(Asked { tracks: 17, theme: &[200], ..ASKED }), 1);
+    assert_eq!(refused(Asked { tracks: 3, theme: &[200], ..ASKED }), 2);
+    assert_eq!(refused(Asked { cells: &[60, 67, 128, 69], theme: &[200], ..ASKED }), 3 + 2 * 256);
+    assert_eq!(refused(Asked { theme: &[200], sets: &[], ..ASKED }), 4);
+    assert_eq!(refused(Asked { theme: &[67, 62, 200], sets: &[], ..ASKED }), 5 + 2 * 256);
+    assert_eq!(refused(Asked { sets: &[4096; 5], ..ASKED }), 6);
+    assert_eq!(refused(Asked { sets: &[4095, 4095, 4095, 4096], ..ASKED }), 7 + 3 * 256);
+    // the last cell of the longest score: the highest place that a refusal names
+    let mut cells = vec![60; 2048 * 16];
+    cells[32767] = 254;
+    assert_eq!(refused(Asked { cells: &cells, tracks: 16, ..ASKED }), 3 + 32767 * 256);
+}
+
+#[test]
+fn no_explanation() {
+    let wrong = Asked { tracks: 17, theme: &[200], sets: &[4096; 9], column: 0, shift: 500, ..ASKED };
+    for asked in [ASKED, wrong] {
+        for places in [0, 1, 5, 68, 70, 138] {
+            assert_eq!(asked.explain(places), (NO_CALL, unanswered(places)));
+        }
+        for way in [2, 3, 255] {
+            assert_eq!(Asked { way, ..asked }.explain(EXPLAIN_LEN), (NO_CALL, unanswered(EXPLAIN_LEN)));
+            assert_eq!(Asked { way, ..asked }.explain(5), (NO_CALL, unanswered(5)));
+        }
     }
 }

@@ -5,7 +5,9 @@ mod calls;
 mod third;
 
 use calls::{heard, Random};
-use finder::{occurs, pairs, plain_page, plain_pairs, prepare, quick_page, update, AnyWay, Prepared, Refusal, Summary};
+use finder::{
+    explain, occurs, pairs, plain_page, plain_pairs, prepare, quick_page, update, AnyWay, Pair, Prepared, Refusal, Summary,
+};
 use third::{summary_of, Call, Lent};
 
 /// Each call that takes the way, against the third finder. How many pairs the last page has; none where it is refused.
@@ -27,6 +29,10 @@ fn same(call: &Call) -> Option<usize> {
     let mut after = lent.clone();
     let answer = occurs(cells, *tracks, theme, way, &after.sets, *summary, &mut after.table);
     assert_eq!((answer, after), call.occurs(), "question {call:?}");
+
+    let pair = Pair { column: bookmark.column, shift: bookmark.shift };
+    let answer = explain(cells, *tracks, theme, way, pair, &lent.sets);
+    assert_eq!(answer, call.explain(pair), "explanation {call:?}");
 
     let mut after = lent.clone();
     let Lent { sets, table, columns, shifts } = &mut after;
@@ -259,7 +265,7 @@ fn change_after_change() {
 #[test]
 fn damaged_calls() {
     let mut random = Random(0x0dd0_1ead_5eed_0002);
-    let (mut refused, mut numbers) = (0, [0; 20]);
+    let (mut refused, mut numbers, mut unexplained) = (0, [0; 20], [0; 8]);
     for _ in 0..60000 {
         let mut call = random.call(4, 12, 6);
         for _ in 0..random.from(1, 3) {
@@ -272,10 +278,15 @@ fn damaged_calls() {
         for refusal in [call.check_update().err(), call.check_question().err()].into_iter().flatten() {
             numbers[usize::from(refusal.number)] += 1;
         }
+        if let Err(refusal) = call.check_explanation() {
+            unexplained[usize::from(refusal.number)] += 1;
+        }
     }
     assert!((20000..59000).contains(&refused), "{refused} refused");
     // each number of the update and of the question
     for number in [1, 2, 3, 4, 5, 6, 7, 8, 12, 19] {
         assert!(numbers[number] > 500, "{numbers:?}");
     }
+    // and of the explainer
+    assert!(unexplained[1..].iter().all(|many| *many > 500), "{unexplained:?}");
 }

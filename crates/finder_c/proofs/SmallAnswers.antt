@@ -58,7 +58,7 @@ use Rattle.explaining.specs.declared.answer.Reason.{Reason}
 use Rattle.explaining.specs.declared.answer.Reason.the-variants.{Listed, NoShift, Outside, Absent, Refused as Unexplained}
 use Rattle.explaining.specs.declared.fits.Fit.{Fit}
 use Rattle.explaining.specs.declared.fits.Fit.the-variants.{Zero, Short, NoPitch, Fits}
-use Rattle.explaining.specs.Explaining.{outside, failed, held, columnOf, reasonAt, fitOf, bare, explained, explainRows, explanation}
+use Rattle.explaining.specs.Explaining.{noteOutside, failed, held, columnOf, reasonAt, fitOf, bare, explained, explainRows, explanation}
 use Rattle.finder_c.specs.Singles.{ofPreparation, ofOccurrence, ofChange}
 use Rattle.finder_c.specs.Reasons.{ofReason}
 use Rattle.finder_c.specs.Small.{SmallPlace, SmallSingle, SmallPage, SmallReason}
@@ -160,7 +160,7 @@ module _ (way : Way) (score : List (List ℕ)) (theme : List ℕ) (pair : Pair) 
       let i = held way code theme (columnOf way score theme pair sets) in
       let p = note theme (i + 1) in
       either-small (ltb i (length theme)) (failed way code p (i + 1)) Listed
-      (either-small (outside way code p) (Outside (i + 1)) (Absent (i + 1)) (tt {0}) (tt {0})) (tt {0})
+      (either-small (noteOutside way code p) (Outside (i + 1)) (Absent (i + 1)) (tt {0}) (tt {0})) (tt {0})
 
 pub explanation-small : (cells : List ℕ) (h : ℕ) (theme : List ℕ) (way : Way) (pair : Pair) (sets : List ℕ)
     → SmallReason (ofReason (explanation cells h theme way pair sets .reason))

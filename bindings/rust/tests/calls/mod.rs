@@ -1,4 +1,5 @@
-//! Random calls: right ones, those with a changed column, and those with something wrong.
+//! Random calls: right ones, those with a changed column, and those with something wrong. Each test uses some.
+#![allow(dead_code)]
 
 use crate::third::{summary_of, Call, Lent};
 use finder::{AnyWay, Bookmark, Summary, Way};

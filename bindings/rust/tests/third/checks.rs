@@ -38,6 +38,14 @@ impl Call {
         Ok(())
     }
 
+    /// Of an explanation.
+    pub fn check_explanation(&self) -> Result<(), Refusal> {
+        self.check_score()?;
+        self.check_theme()?;
+        self.check_sets_len()?;
+        self.check_sets()
+    }
+
     /// Of a page, plain or quick.
     pub fn check_pages(&self, quick: bool) -> Result<(), Refusal> {
         self.check_score()?;

@@ -1,7 +1,9 @@
 //! A third finder, in plain Rust, straight from the definition: no codes, no register, no table but the one that is asked
-//! for. It shares nothing with the library, and is as slow as the definition reads.
+//! for. It shares nothing with the library, and is as slow as the definition reads. Each test uses some of it.
+#![allow(dead_code)]
 
 mod checks;
+mod explaining;
 
 use finder::{AnyWay, Bookmark, Page, Refusal, Summary, Way};
 

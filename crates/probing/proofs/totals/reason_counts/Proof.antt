@@ -1,0 +1,58 @@
+-- `probing::totals::reason_counts` meets its contract: it is safe, and the measure is what is left of its range. Assumes nothing.
+use Prim.Native.Nat.{_-_}
+use borrow.Author.Needs.{needs}
+use Rattle.probing.proofs.totals.reason_counts.Statement.{statement}
+use Rattle.probing.proofs.totals.reason_counts.Tie as tie
+
+abbrev Inv-loop : tie.InvT-loop
+Inv-loop counts reason₀ reason = Unit {0}
+
+abbrev μ-loop : tie.MeasureT-loop
+μ-loop counts reason₀ reason = 8 - reason
+
+loop-holds : tie.Need-loop-holds Inv-loop μ-loop
+loop-holds c = search needs
+
+reason-name-requires : tie.Need-reason-name-requires Inv-loop μ-loop
+reason-name-requires c κs = search needs
+
+size-requires : tie.Need-size-requires Inv-loop μ-loop
+size-requires c κs = search needs
+
+count-requires : tie.Need-count-requires Inv-loop μ-loop
+count-requires c κs = search needs
+
+tried-requires : tie.Need-tried-requires Inv-loop μ-loop
+tried-requires c κs = search needs
+
+add-reason : tie.Need-add-reason Inv-loop μ-loop
+add-reason c = search needs
+
+loop-less : tie.Need-loop-less Inv-loop μ-loop
+loop-less c = search needs
+
+loop-again : tie.Need-loop-again Inv-loop μ-loop
+loop-again c = search needs
+
+line-requires : tie.Need-line-requires Inv-loop μ-loop
+line-requires c κs = search needs
+
+returns : tie.Need-returns Inv-loop μ-loop
+returns c = search needs
+
+pub reason-counts-spec : {M : Type 1} → statement M
+reason-counts-spec =
+    tie.close
+    (tie.spec
+    Inv-loop
+    μ-loop
+    loop-holds
+    reason-name-requires
+    size-requires
+    count-requires
+    tried-requires
+    add-reason
+    loop-less
+    loop-again
+    line-requires
+    returns)
