@@ -86,5 +86,9 @@ pub fn second_explanation(cells: &[u8], theme: &[u8], sets: &[u16], a: Ask) -> A
     if away.number != 0 {
         return turned_away(away);
     }
-    joined(away, reason_for(cells, theme, a), screen(cells, theme, sets, a))
+    joined(
+        away,
+        reason_for(cells, theme, a),
+        screen(cells, theme, sets, a),
+    )
 }

@@ -1,15 +1,8 @@
-// What is explained in the trials: scores, themes and lent sets, and which pairs are asked for; no explanation is made here.
+// What is explained in the trials beside their jobs, and which pairs are tried; no explanation is made here.
 //
-// `probe` says what a probe is. `worked` has those that can be checked by hand, `small` every score of one track and up to four
-// columns over three cells, `drawn` pseudo-random ones of up to three tracks and six columns, and `large` some at the limits;
-// `families` has all of them by their numbers, `arranging` puts one into the lent buffers, and `tried` says which pairs of it are
-// tried. The functions promise only to be safe and to end, and a count that is divided by to be above 0.
+// `worked` has cases that can be checked by hand, `crowded` pseudo-random scores of few pitches, and `tried` the columns and
+// shifts at which a score is explained. The functions promise only to be safe and to end.
 
-pub mod arranging;
-mod drawn;
-pub mod families;
-mod large;
-pub mod probe;
-mod small;
+pub mod crowded;
 pub mod tried;
-mod worked;
+pub mod worked;

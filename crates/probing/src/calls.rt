@@ -1,11 +1,11 @@
-// The library's explanation, on the part of the lent buffers that is asked for, as plain numbers.
+// The library's explanation as plain numbers, on the part of the lent buffers that is asked for.
 
-use crate::answers::Told;
 use explaining::Explanation;
 use explaining::Reason;
 use explaining::Sifted;
 use explaining::explain;
 use grounds::answers::ABSENT;
+use grounds::answers::Answer;
 use grounds::answers::DISMISSED;
 use grounds::answers::EMPTY;
 use grounds::answers::KEPT;
@@ -20,11 +20,8 @@ use grounds::answers::UNASKED;
 use grounds::answers::Why;
 use grounds::answers::bare;
 use grounds::answers::joined;
-use grounds::answers::turned_away;
 use grounds::answers::unnamed;
-use judging::answers::Lengths;
 use judging::answers::part;
-use judging::answers::too_short;
 use score::Column;
 use second::asks::Ask;
 use second::away::Away;
@@ -32,6 +29,15 @@ use second::away::row;
 use second::totals::size;
 use ways::Pair;
 use ways::Way;
+
+// The places for tracks.
+pub type Tracks = [u8; 64];
+
+// An explanation, with its tracks.
+pub struct Told {
+    pub answer: Answer,
+    pub tracks: Tracks,
+}
 
 fn away_in(reason: Reason) -> Away {
     match reason {
@@ -43,13 +49,6 @@ fn away_in(reason: Reason) -> Away {
     }
 }
 
-fn at_note(reason: u8, note: u8) -> Why {
-    Why {
-        reason,
-        note: size(note),
-    }
-}
-
 fn why_in(reason: Reason) -> Why {
     match reason {
         Reason::Listed => bare(LISTED),
@@ -57,17 +56,15 @@ fn why_in(reason: Reason) -> Why {
         Reason::NoColumn => bare(NO_COLUMN),
         Reason::TooFew => bare(TOO_FEW),
         Reason::Empty => bare(EMPTY),
-        Reason::Outside(i) => at_note(OUTSIDE, i),
-        Reason::Absent(i) => at_note(ABSENT, i),
+        Reason::Outside(i) => Why {
+            reason: OUTSIDE,
+            note: size(i),
+        },
+        Reason::Absent(i) => Why {
+            reason: ABSENT,
+            note: size(i),
+        },
         Reason::Refused(_) => bare(REFUSED),
-    }
-}
-
-fn at_interval(number: u8, d: u8) -> Screened {
-    Screened {
-        verdict: DISMISSED,
-        interval: size(number),
-        size: d,
     }
 }
 
@@ -75,11 +72,15 @@ fn screened_in(sifted: Sifted) -> Screened {
     match sifted {
         Sifted::Unasked => unnamed(UNASKED),
         Sifted::Kept => unnamed(KEPT),
-        Sifted::Dismissed(l) => at_interval(l.number, l.size.0),
+        Sifted::Dismissed(l) => Screened {
+            verdict: DISMISSED,
+            interval: size(l.number),
+            size: l.size.0,
+        },
     }
 }
 
-fn told(e: Explanation) -> Told {
+fn plain(e: Explanation) -> Told {
     let reason = e.reason;
     let sifted = e.sifted;
     let tracks = e.tracks;
@@ -89,25 +90,12 @@ fn told(e: Explanation) -> Told {
     }
 }
 
-// No call: the buffers are too short for what is asked, or the way has no explanation.
-fn unasked() -> Told {
-    Told {
-        answer: turned_away(row(99)),
-        tracks: [0; 64],
+// Only the two ways that move a theme have explanations; no other is asked for.
+fn way_in(way: second::ways::Way) -> Way {
+    match way {
+        second::ways::Way::Exact => Way::Exact,
+        _ => Way::Octave,
     }
-}
-
-// Whether less is lent of the score, the theme or the sets than is asked. Of the other buffers nothing is lent.
-fn short_of(cells: usize, theme: usize, sets: usize, a: Ask) -> bool {
-    let lent = Lengths {
-        cells,
-        theme,
-        sets,
-        table: a.table,
-        columns: a.columns,
-        shifts: a.shifts,
-    };
-    too_short(lent, a)
 }
 
 fn pair_of(a: Ask) -> Pair {
@@ -117,24 +105,19 @@ fn pair_of(a: Ask) -> Pair {
     }
 }
 
-fn ask_moved(cells: &[u8], theme: &[u8], sets: &[u16], a: Ask, way: Way) -> Told {
+pub fn ask_explanation(cells: &[u8], theme: &[u8], sets: &[u16], a: Ask) -> Told {
     let many = part(a.cells, cells.len());
     let m = part(a.notes, theme.len());
     let last = part(a.sets, sets.len());
-    if short_of(many, m, last, a) {
-        return unasked();
-    }
-    let pair = pair_of(a);
-    let e = explain(&cells[..many], a.h, &theme[..m], way, pair, &sets[..last]);
-    told(e)
-}
-
-// An explanation, which only the ways that move a theme have.
-pub fn ask_explanation(cells: &[u8], theme: &[u8], sets: &[u16], a: Ask) -> Told {
     let way = a.way;
-    match way {
-        second::ways::Way::Exact => ask_moved(cells, theme, sets, a, Way::Exact),
-        second::ways::Way::Octave => ask_moved(cells, theme, sets, a, Way::Octave),
-        second::ways::Way::Written => unasked(),
-    }
+    let pair = pair_of(a);
+    let e = explain(
+        &cells[..many],
+        a.h,
+        &theme[..m],
+        way_in(way),
+        pair,
+        &sets[..last],
+    );
+    plain(e)
 }

@@ -1,13 +1,11 @@
 // An explanation of the library beside the second explainer's, and what is noted of it.
 //
-// `answers` are the library's as plain numbers, and `calls` asks for one on the lent buffers; `compare` holds it against the
-// second explainer's. `lines` are what is written of explanations, `notes` counts them, `turns` does all of this for one, and
-// `totals` says how many there were. The functions promise only to be safe and to end.
+// `calls` asks for the library's on the lent buffers, as plain numbers, and `compare` holds it against the second explainer's.
+// `lines` are what is written of explanations, `turns` asks for one, compares and counts it, and `totals` says how many there
+// were. The functions promise only to be safe and to end.
 
-mod answers;
 mod calls;
 mod compare;
 pub mod lines;
-pub mod notes;
 pub mod totals;
 pub mod turns;

@@ -1,7 +1,6 @@
 // What is written of explanations: those that are to be said, and one that differs with its case.
 
-use crate::answers::Tracks;
-use crate::compare::Difference;
+use crate::calls::Tracks;
 use grounds::answers::ABSENT;
 use grounds::answers::Answer;
 use grounds::answers::DISMISSED;
@@ -32,10 +31,10 @@ fn named(text: &[u8], x: usize) {
 pub fn reason_name(reason: u8) {
     match reason {
         LISTED => say(b" listed"),
-        NO_SHIFT => say(b" shift"),
+        NO_SHIFT => say(b" no-shift"),
         NO_COLUMN => say(b" column-0"),
-        TOO_FEW => say(b" too-few-columns"),
-        EMPTY => say(b" empty-column"),
+        TOO_FEW => say(b" too-few"),
+        EMPTY => say(b" empty"),
         OUTSIDE => say(b" outside"),
         ABSENT => say(b" absent"),
         _ => say(b" refused"),
@@ -46,42 +45,43 @@ pub fn verdict_name(verdict: u8) {
     match verdict {
         KEPT => say(b" kept"),
         DISMISSED => say(b" dismissed"),
-        _ => say(b" not-asked"),
+        _ => say(b" unasked"),
     }
 }
 
-// A refusal and its place.
-fn refusal_name(number_of: u8, place: usize) {
-    number(size(number_of));
-    named(b" at", place);
-}
-
-// Why, with the number of the note that fails, the tracks of a listed pair, or the refusal.
-fn why_name(tracks: &Tracks, m: usize, answer: Answer) {
+// Why: the refusal's number and place, or the note that fails, before the reason.
+fn why_told(answer: Answer) {
+    if 0 < answer.number {
+        named(b" number", size(answer.number));
+        named(b" at", answer.place);
+    }
     if 0 < answer.note {
         named(b" note", answer.note);
     }
     reason_name(answer.reason);
-    if answer.reason == LISTED {
-        bytes(tracks, m);
-    }
-    if 0 < answer.number {
-        refusal_name(answer.number, answer.place);
-    }
 }
 
-// What the sets make of the column, with the interval by which they dismiss it.
-fn sets_name(answer: Answer) {
-    say(b", sets");
+// What the sets make of the column, and the interval by which they dismiss it.
+fn verdict_told(answer: Answer) {
+    say(b", sets:");
     verdict_name(answer.verdict);
     if 0 < answer.interval {
         named(b" by interval", answer.interval);
         named(b" of size", size(answer.size));
     }
+    line();
 }
 
-// A case, whole: the score, the theme, the way, the sets, and the pair.
-fn case_name(cells: &[u8], theme: &[u8], s: &[u16], a: Ask) {
+// An explanation, with so many tracks.
+pub fn answer_told(tracks: &Tracks, many: usize, answer: Answer) {
+    why_told(answer);
+    bytes(tracks, many);
+    verdict_told(answer);
+}
+
+// What stands before the explanation of a case: all that is lent, and the pair.
+pub fn case_head(cells: &[u8], theme: &[u8], s: &[u16], a: Ask) {
+    say(b"case:");
     case(cells, theme, a);
     say(b" sets");
     sets(s, a.sets);
@@ -90,30 +90,15 @@ fn case_name(cells: &[u8], theme: &[u8], s: &[u16], a: Ask) {
     say(b":");
 }
 
-// A worked case and its explanation.
-pub fn case_explained(
-    cells: &[u8],
-    theme: &[u8],
-    s: &[u16],
-    tracks: &Tracks,
-    a: Ask,
-    answer: Answer,
-) {
-    say(b"case:");
-    case_name(cells, theme, s, a);
-    why_name(tracks, a.notes, answer);
-    sets_name(answer);
-    line();
-}
-
-fn difference_name(difference: Difference) {
-    match difference {
-        Difference::Nothing => say(b"\nDIFFERS in nothing:"),
-        Difference::Refusal => say(b"\nDIFFERS in the refusal:"),
-        Difference::Reason => say(b"\nDIFFERS in the reason:"),
-        Difference::Sets => say(b"\nDIFFERS in what the sets make of it:"),
-        Difference::Tracks => say(b"\nDIFFERS in the tracks:"),
+// What stands before that of a call with two faults, the lower 0 where there is one alone.
+pub fn due_head(low: usize, high: usize) {
+    say(b"due:");
+    if 0 < low {
+        number(low);
+        say(b" and");
     }
+    number(high);
+    say(b":");
 }
 
 // An explanation that differs: its case, the library's answer with all of its tracks, and the answer that is due.
@@ -125,33 +110,10 @@ pub fn differing(
     a: Ask,
     answer: Answer,
     due: Answer,
-    difference: Difference,
 ) {
-    difference_name(difference);
-    case_name(cells, theme, s, a);
-    why_name(tracks, 64, answer);
-    sets_name(answer);
-    say(b"; due");
-    why_name(tracks, 0, due);
-    sets_name(due);
-    line();
-}
-
-// Two refusals that are due, the lower one 0 where there is one alone, and what was answered.
-pub fn refusal_told(low: usize, high: usize, answer: Answer) {
+    say(b"\nDIFFERS, ");
+    case_head(cells, theme, s, a);
+    answer_told(tracks, 64, answer);
     say(b"due:");
-    if 0 < low {
-        number(low);
-        say(b" and");
-    }
-    number(high);
-    say(b": refused");
-    refusal_name(answer.number, answer.place);
-    line();
-}
-
-// The same where another refusal was answered than the one that is due.
-pub fn refusal_differs(low: usize, high: usize, answer: Answer) {
-    say(b"\nDIFFERS from what is ");
-    refusal_told(low, high, answer);
+    answer_told(tracks, 0, due);
 }

@@ -1,7 +1,6 @@
 // What is turned away of explanations: both ends of every range, each refusal alone, and each two together, on the calls on which
 // questions are tried. What a question is lent beside plays no part here.
 
-use grounds::answers::Answer;
 use jobs::buffers::Cells;
 use jobs::buffers::Sets;
 use jobs::buffers::Theme;
@@ -11,66 +10,10 @@ use mending::refused::Twisted;
 use mending::refused::number_of_refused;
 use mending::refused::refused_call;
 use mending::twisting::arrange_twisted;
-use probing::lines::refusal_differs;
-use probing::lines::refusal_told;
-use probing::notes::Counts;
-use probing::notes::shown;
+use probing::lines::due_head;
+use probing::turns::Counts;
 use probing::turns::turn;
-use second::totals::size;
 use second::ways::Way;
-
-// Whether explanations give a refusal of this number: 1 to 7.
-fn gives(number: usize) -> bool {
-    match number {
-        1..=7 => true,
-        _ => false,
-    }
-}
-
-// The lower of two refusals that is given, 0 where neither is.
-fn due_first(low: usize, high: usize) -> usize {
-    if gives(low) {
-        return low;
-    }
-    if gives(high) {
-        return high;
-    }
-    0
-}
-
-// Whether another number was answered than the one that is due, where that is said.
-fn undue(t: Twisted, answer: Answer) -> bool {
-    if t.high == 0 {
-        return false;
-    }
-    due_first(t.low, t.high) != size(answer.number)
-}
-
-// Whether a refusal is written out, alone or with a higher one: in exact, the first of its calls.
-fn written_out(t: Twisted, way: Way) -> bool {
-    if let Way::Exact = way {
-        if !gives(t.high) {
-            return false;
-        }
-        if t.low == t.high {
-            return false;
-        }
-        return t.loud;
-    }
-    false
-}
-
-fn told(counts: &mut Counts, t: Twisted, way: Way, answer: Answer) {
-    if undue(t, answer) {
-        if shown(counts) {
-            refusal_differs(t.low, t.high, answer);
-        }
-        return;
-    }
-    if written_out(t, way) {
-        refusal_told(t.low, t.high, answer);
-    }
-}
 
 // Whether a call is one on which a question is tried.
 fn tried_here(t: Twisted, asked: Asked) -> bool {
@@ -80,12 +23,29 @@ fn tried_here(t: Twisted, asked: Asked) -> bool {
     false
 }
 
+// Whether a refusal is written out: one of 1 to 7, alone or with a lower one, in exact, by the first of its faults.
+fn written_out(t: Twisted, way: Way) -> bool {
+    if let Way::Octave = way {
+        return false;
+    }
+    if t.low == t.high {
+        return false;
+    }
+    if 7 < t.high {
+        return false;
+    }
+    t.loud
+}
+
 // A call on the lent buffers, at the first column with shift 0.
 fn act(cells: &[u8], theme: &[u8], sets: &[u16], counts: &mut Counts, t: Twisted) {
     let a = t.a;
     let way = a.way;
-    let answer = turn(cells, theme, sets, counts, at(a, 1, 0), false);
-    told(counts, t, way, answer);
+    let loud = written_out(t, way);
+    if loud {
+        due_head(t.low, t.high);
+    }
+    turn(cells, theme, sets, counts, at(a, 1, 0), loud);
 }
 
 fn attempt(cells: &mut Cells, theme: &mut Theme, sets: &mut Sets, counts: &mut Counts, t: Twisted) {

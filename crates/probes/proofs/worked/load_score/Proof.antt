@@ -7,13 +7,10 @@ use Rattle.probes.proofs.worked.load_score.Statement.{statement}
 use Rattle.probes.proofs.worked.load_score.Tie as tie
 
 abbrev Inv-loop : tie.InvT-loop
-Inv-loop cells₀ k score i₀ cells i = length cells ≡ length cells₀
+Inv-loop cells₀ score i₀ cells i = length cells ≡ length cells₀
 
 abbrev μ-loop : tie.MeasureT-loop
-μ-loop cells₀ k score i₀ cells i = 6 - i
-
-score-of-requires : tie.Need-score-of-requires Inv-loop μ-loop
-score-of-requires c κs = search needs
+μ-loop cells₀ score i₀ cells i = 6 - i
 
 loop-holds : tie.Need-loop-holds Inv-loop μ-loop
 loop-holds c = search needs
@@ -48,7 +45,6 @@ load-score-spec =
     (tie.spec
     Inv-loop
     μ-loop
-    score-of-requires
     loop-holds
     more-requires
     score-item-requires

@@ -1,0 +1,56 @@
+-- `probes::worked::load_tune` meets its contract: it is safe, and the measure is what is left of its range. Assumes nothing.
+use Prim.Native.Nat.{_-_}
+use borrow.Author.Needs.{needs}
+use lib.ListN.{length}
+use mathlib.Core.Path.{_≡_}
+use Rattle.probes.proofs.worked.load_tune.Statement.{statement}
+use Rattle.probes.proofs.worked.load_tune.Tie as tie
+
+abbrev Inv-loop : tie.InvT-loop
+Inv-loop theme₀ tune i₀ theme i = length theme ≡ length theme₀
+
+abbrev μ-loop : tie.MeasureT-loop
+μ-loop theme₀ tune i₀ theme i = 4 - i
+
+loop-holds : tie.Need-loop-holds Inv-loop μ-loop
+loop-holds c = search needs
+
+more-requires : tie.Need-more-requires Inv-loop μ-loop
+more-requires c κs = search needs
+
+tune-item-requires : tie.Need-tune-item-requires Inv-loop μ-loop
+tune-item-requires c κs = search needs
+
+put-byte-requires : tie.Need-put-byte-requires Inv-loop μ-loop
+put-byte-requires c κs = search needs
+
+add-i : tie.Need-add-i Inv-loop μ-loop
+add-i c = search needs
+
+loop-less : tie.Need-loop-less Inv-loop μ-loop
+loop-less c = search needs
+
+loop-again : tie.Need-loop-again Inv-loop μ-loop
+loop-again c = search needs
+
+same-length : tie.Need-same-length Inv-loop μ-loop
+same-length c = search needs
+
+returns : tie.Need-returns Inv-loop μ-loop
+returns c = search needs
+
+pub load-tune-spec : {M : Type 1} → statement M
+load-tune-spec =
+    tie.close
+    (tie.spec
+    Inv-loop
+    μ-loop
+    loop-holds
+    more-requires
+    tune-item-requires
+    put-byte-requires
+    add-i
+    loop-less
+    loop-again
+    same-length
+    returns)

@@ -1,0 +1,58 @@
+-- `probing::compare::tracks_right` meets its contract: it is safe, and the measure is what is left of its range. Assumes nothing.
+use Prim.Native.Nat.{_-_}
+use borrow.Author.Needs.{needs}
+use Rattle.probing.proofs.compare.tracks_right.Statement.{statement}
+use Rattle.probing.proofs.compare.tracks_right.Tie as tie
+
+abbrev Inv-loop : tie.InvT-loop
+Inv-loop cells theme tracks a many i₀ i = Unit {0}
+
+abbrev μ-loop : tie.MeasureT-loop
+μ-loop cells theme tracks a many i₀ i = 64 - i
+
+loop-holds : tie.Need-loop-holds Inv-loop μ-loop
+loop-holds c = search needs
+
+more-requires : tie.Need-more-requires Inv-loop μ-loop
+more-requires c κs = search needs
+
+track-of-requires : tie.Need-track-of-requires Inv-loop μ-loop
+track-of-requires c κs = search needs
+
+byte-requires : tie.Need-byte-requires Inv-loop μ-loop
+byte-requires c κs = search needs
+
+size-requires : tie.Need-size-requires Inv-loop μ-loop
+size-requires c κs = search needs
+
+returns : tie.Need-returns Inv-loop μ-loop
+returns c = search needs
+
+add-i : tie.Need-add-i Inv-loop μ-loop
+add-i c = search needs
+
+loop-less : tie.Need-loop-less Inv-loop μ-loop
+loop-less c = search needs
+
+loop-again : tie.Need-loop-again Inv-loop μ-loop
+loop-again c = search needs
+
+returns-2 : tie.Need-returns-2 Inv-loop μ-loop
+returns-2 c = search needs
+
+pub tracks-right-spec : {M : Type 1} → statement M
+tracks-right-spec =
+    tie.close
+    (tie.spec
+    Inv-loop
+    μ-loop
+    loop-holds
+    more-requires
+    track-of-requires
+    byte-requires
+    size-requires
+    returns
+    add-i
+    loop-less
+    loop-again
+    returns-2)
