@@ -62,31 +62,25 @@ module _ (way : Way) (code : ℕ) (score : List (List ℕ)) (theme numbers : Lis
 
 -- ---- by the column
 
+-- no tracks and no second part, whether the shift or the column is the reason
+reason-alone : (reason : Reason) (t : Bool)
+    → bare (cond t NoShift reason) ≡ record { reason = cond t NoShift reason; tracks = cond t noTracks noTracks; sifted = Unasked }
+reason-alone reason true = refl
+reason-alone reason false = refl
+
 module _ (way : Way) (score : List (List ℕ)) (theme : List ℕ) (pair : Pair) (sets : List ℕ) where
   abbrev fit : Fit
   fit = fitOf score theme (pair .column)
 
   -- a column that does not fit
   pub at-zero : fit ≡ Zero → bare (firstOf way (pair .shift) NoColumn) ≡ explained way score theme pair sets
-  at-zero e = rw e (step (noShift way (pair .shift)))
-    where
-      step : (t : Bool) → bare (cond t NoShift NoColumn) ≡ record { reason = cond t NoShift NoColumn; tracks = cond t noTracks noTracks; sifted = Unasked }
-      step true = refl
-      step false = refl
+  at-zero e = rw e (reason-alone NoColumn (noShift way (pair .shift)))
 
   pub at-short : fit ≡ Short → bare (firstOf way (pair .shift) TooFew) ≡ explained way score theme pair sets
-  at-short e = rw e (step (noShift way (pair .shift)))
-    where
-      step : (t : Bool) → bare (cond t NoShift TooFew) ≡ record { reason = cond t NoShift TooFew; tracks = cond t noTracks noTracks; sifted = Unasked }
-      step true = refl
-      step false = refl
+  at-short e = rw e (reason-alone TooFew (noShift way (pair .shift)))
 
   pub at-no-pitch : fit ≡ NoPitch → bare (firstOf way (pair .shift) Empty) ≡ explained way score theme pair sets
-  at-no-pitch e = rw e (step (noShift way (pair .shift)))
-    where
-      step : (t : Bool) → bare (cond t NoShift Empty) ≡ record { reason = cond t NoShift Empty; tracks = cond t noTracks noTracks; sifted = Unasked }
-      step true = refl
-      step false = refl
+  at-no-pitch e = rw e (reason-alone Empty (noShift way (pair .shift)))
 
   -- one that does
   pub at-fits : length theme ≤ mostSought → fit ≡ Fits
