@@ -9,4 +9,5 @@ pub mod track;
 
 pub use columns::sought;
 pub use limits::MOST_SOUGHT;
+pub use track::cell_holds;
 pub use track::lowest_track;

@@ -8,7 +8,7 @@ ghost use Rattle.theory.specs.Lists.{first};
 ghost use Rattle.seeking.specs.Track.{cellHolds, lowestTrack};
 
 // Whether the cell is the note p moved by the code's shift; in octave, whether it is of that class. A rest is not.
-fn cell_holds(cell: u8, way: Way, code: u16, p: Pitch) -> bool
+pub fn cell_holds(cell: u8, way: Way, code: u16, p: Pitch) -> bool
     ensures { λ r. ⌜ r ≡ cellHolds way code p cell ⌝ }
 {
     if HIGHEST_PITCH < cell {

@@ -1,0 +1,56 @@
+// The notes of a theme along the columns in which they are sought: whether each is held there, and by which tracks.
+
+use crate::holders::holders;
+use asking::MOST_NOTES;
+use passing::is_empty;
+use score::Pitch;
+use score::columns_in;
+use ways::Way;
+ghost use Prim.Native.Nat.{_≤_};
+ghost use lib.ListN.{length, drop};
+ghost use Rattle.score.specs.Limits.{mostTracks};
+ghost use Rattle.score.specs.Score.{scoreOf, heardOf};
+ghost use Rattle.asking.specs.Limits.{mostNotes};
+ghost use Rattle.routing.specs.Routing.{heldAlong};
+ghost use Rattle.routing.specs.Sets.{Held, holdersAlong};
+
+// Whether every note is held; and if so, the set of the tracks that hold each, from the front.
+pub struct Holding {
+    pub all: bool,
+    pub sets: [u32; MOST_NOTES],
+}
+
+// The notes moved by the code's shift, in the columns with a pitch behind so many. A column in which a track holds the note has a
+// pitch, so only the others are asked for one. It ends at the first note that its column does not hold.
+pub fn held_behind(
+    cells: &[u8],
+    tracks: usize,
+    theme: &[u8],
+    way: Way,
+    code: u16,
+    passed: usize,
+) -> Holding
+    requires { ⌜ (tracks ≤ mostTracks) × (length (now theme) ≤ mostNotes) ⌝ }
+    ensures { λ r. ⌜ Held (heldAlong way code (now (theme .entry)) (heardOf (drop passed (scoreOf (now (cells .entry)) tracks)))) (holdersAlong way code (now (theme .entry)) (heardOf (drop passed (scoreOf (now (cells .entry)) tracks)))) (r .all) (r .sets) ⌝ }
+{
+    let n = columns_in(cells, tracks);
+    let mut sets = [0u32; MOST_NOTES];
+    let mut k = passed;
+    let mut q: usize = 0;
+    while (k < n) & (q < theme.len()) {
+        let base = k * tracks;
+        let end = base + tracks;
+        let set = holders(&cells[base..end], way, code, Pitch(theme[q]));
+        k += 1;
+        if set != 0 {
+            sets[q] = set;
+            q += 1;
+        } else if !is_empty(&cells[base..end]) {
+            return Holding { all: false, sets };
+        }
+    }
+    Holding {
+        all: q == theme.len(),
+        sets,
+    }
+}

@@ -1,0 +1,90 @@
+// Whether a pair is listed, and by which tracks each of its notes is then held.
+
+use crate::along::Holding;
+use crate::along::held_behind;
+use asking::MOST_NOTES;
+use passing::is_empty;
+use score::columns_in;
+use ways::AnyWay;
+use ways::Pair;
+use ways::Way;
+use ways::code_of;
+use ways::no_shift;
+ghost use mathlib.Core.Path.{_≡_};
+ghost use mathlib.Core.Bool.{false, _&&_};
+ghost use Prim.Native.Nat.{_≤_};
+ghost use lib.Dec.{ltb};
+ghost use lib.IntN.{pos};
+ghost use lib.ListN.{length};
+ghost use Rattle.score.specs.Limits.{mostTracks};
+ghost use Rattle.score.specs.Score.{columnAt, column, scoreOf, heard};
+ghost use Rattle.ways.specs.Codes.{outside};
+ghost use Rattle.asking.specs.Limits.{mostNotes};
+ghost use Rattle.routing.specs.Routes.{wayAs};
+ghost use Rattle.routing.specs.Routing.{listed, listedBy};
+ghost use Rattle.routing.specs.Sets.{Held, holdersAt};
+
+// At a pair of any way. A written pair is an exact one with shift 0.
+pub fn held_at(cells: &[u8], tracks: usize, theme: &[u8], way: AnyWay, pair: Pair) -> Holding
+    requires { ⌜ (tracks ≤ mostTracks) × (length (now theme) ≤ mostNotes) ⌝ }
+    ensures { λ r. ⌜ Held (listed way (scoreOf (now (cells .entry)) tracks) (now (theme .entry)) pair) (holdersAt (wayAs way) (scoreOf (now (cells .entry)) tracks) (now (theme .entry)) pair) (r .all) (r .sets) ⌝ }
+{
+    match way {
+        AnyWay::Moved(w) => held_moved(cells, tracks, theme, w, pair),
+        AnyWay::Written => {
+            if not_zero(pair.shift) {
+                return none_held();
+            }
+            held_moved(cells, tracks, theme, Way::Exact, pair)
+        }
+    }
+}
+
+// Whether a shift is none of written's, which has 0 alone.
+fn not_zero(shift: i16) -> bool
+    ensures { λ r. ⌜ r ≡ outside shift (pos 0) (pos 0) ⌝ }
+{
+    if shift < 0 {
+        return true;
+    }
+    0 < shift
+}
+
+// Some note is not held.
+fn none_held() -> Holding
+    ensures { λ r. ⌜ r .all ≡ false ⌝ }
+{
+    Holding {
+        all: false,
+        sets: [0; MOST_NOTES],
+    }
+}
+
+// Whether the score has a column of this number, and this column a pitch.
+fn heard_at(cells: &[u8], tracks: usize, j: usize) -> bool
+    ensures { λ r. ⌜ r ≡ (ltb 0 j && heard (column (scoreOf (now (cells .entry)) tracks) (columnAt j))) ⌝ }
+{
+    if (j == 0) | (columns_in(cells, tracks) < j) {
+        return false;
+    }
+    let base = (j - 1) * tracks;
+    let end = base + tracks;
+    !is_empty(&cells[base..end])
+}
+
+// At a pair of a way that moves the theme: its shift, its column, its notes.
+fn held_moved(cells: &[u8], tracks: usize, theme: &[u8], way: Way, pair: Pair) -> Holding
+    requires { ⌜ (tracks ≤ mostTracks) × (length (now theme) ≤ mostNotes) ⌝ }
+    ensures { λ r. ⌜ Held (listedBy way (scoreOf (now (cells .entry)) tracks) (now (theme .entry)) pair) (holdersAt way (scoreOf (now (cells .entry)) tracks) (now (theme .entry)) pair) (r .all) (r .sets) ⌝ }
+{
+    let column = pair.column;
+    let shift = pair.shift;
+    let j = column.0 as usize;
+    if no_shift(way, shift) {
+        return none_held();
+    }
+    if !heard_at(cells, tracks, j) {
+        return none_held();
+    }
+    held_behind(cells, tracks, theme, way, code_of(way, shift), j - 1)
+}
