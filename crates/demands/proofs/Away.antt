@@ -1,13 +1,16 @@
 -- Demand 1: each call, over its promise. The idea: an answer that meets the promise is the defined one, whose refusals are
 -- known. Assumes nothing.
 use mathlib.Core.Path.{_≡_, refl, sym, ap, _∙_}
+use mathlib.Core.Bool.{true}
 use mathlib.Core.Logic.{_↔_, _⊎_}
 use mathlib.Core.List.{List, [], _∷_}
 use Prim.Native.Nat.{ℕ}
+use native.Mathlib.Omega.{arith}
 use Rattle.score.specs.declared.quantities.Column.{Column}
 use Rattle.score.specs.declared.refusals.Refusal.{Refusal}
+use Rattle.score.specs.declared.refusals.Verdict.{Verdict}
 use Rattle.score.specs.declared.refusals.Verdict.the-variants.{Accepted as Passed, Refused as Away}
-use Rattle.score.specs.Refusals.{Row, verdict}
+use Rattle.score.specs.Refusals.{Row, verdict, distinct, GivenBy, placeBy}
 use Rattle.score.specs.Score.{scoreOf}
 use Rattle.score.proofs.Judged.{Clear, judge-clear, verdict-clear, answer-refused, answer-accepted, answer-kept}
 use Rattle.summing.specs.declared.summary.Summary.{Summary}
@@ -35,6 +38,9 @@ use Rattle.updating.specs.declared.changes.Change.{Change}
 use Rattle.updating.specs.declared.changes.Change.the-variants.{Updated, Refused as Unchanged}
 use Rattle.updating.specs.Updating.{updateRows, Updates}
 use Rattle.updating.proofs.Updated.{update-accepted, update-refused, update-kept}
+use Rattle.routing.specs.declared.answer.Routed.{Routed}
+use Rattle.routing.specs.declared.answer.Routed.the-variants.{Changes, Refused as Unrouted}
+use Rattle.routing.specs.Routing.{routeRows, Routes}
 use Rattle.explaining.specs.declared.answer.Explanation.{Explanation}
 use Rattle.explaining.specs.declared.answer.Reason.{Reason}
 use Rattle.explaining.specs.declared.answer.Reason.the-variants.{Listed, NoShift, NoColumn, TooFew, Empty, Outside, Absent, Refused as Unexplained}
@@ -42,10 +48,22 @@ use Rattle.explaining.specs.declared.answer.Sifted.the-variants.{Unasked}
 use Rattle.explaining.specs.Explaining.{noTracks, bare, explained, explainRows, explanation}
 use Rattle.demands.specs.Demands.{TurnsAway}
 use Rattle.demands.proofs.Explanations.{never-refused}
+use Rattle.demands.proofs.Routings.{routed-refused, routed-changes}
 
 -- no row applies exactly where the verdict accepts
 clear-verdict : (rows : List Row) → Clear rows ↔ (verdict rows ≡ Passed)
 clear-verdict rows = (λ c. judge-clear Away Passed rows c, λ e. verdict-clear rows e)
+
+-- a refusal is given exactly where the verdict is that refusal
+given-verdict : (rows : List Row) → distinct rows ≡ true → (k p : ℕ)
+    → (verdict rows ≡ Away (record { number = k; place = p })) ↔ (GivenBy rows k × (p ≡ placeBy rows k))
+given-verdict rows = answer-refused (λ (v : Verdict). v) Away same Away Passed (λ r. refl) never rows
+  where
+    same : (r s : Refusal) → Away r ≡ Away s → r ≡ s
+    same r s e = cc
+
+    never : (r : Refusal) → Passed ≡ Away r → ⊥
+    never r e = let z : _≡_ {A = ℕ} 0 1 = cc in omega arith
 
 pub prepares-away : (cells : List ℕ) (h : ℕ) (lent : List ℕ) {answer : Preparation} {after : List ℕ} → Prepares cells h lent answer after
     → TurnsAway (1 ∷ 2 ∷ 3 ∷ 6 ∷ []) (prepareRows cells h lent) (λ r. answer ≡ Unprepared r)
@@ -117,6 +135,24 @@ updates-away cells h c lent u =
       exactly = λ k q. let e = update-refused cells h c lent k q in (λ x. e .0 (sym (u .answers) ∙ x), λ x. u .answers ∙ e .1 x);
       otherwise = (λ x. v .0 (a .0 (x .0, sym (u .answers) ∙ x .1)), λ x. let t = a .1 (v .1 x) in (t .0, u .answers ∙ t .1));
       unwritten = λ r x. u .writes ∙ update-kept cells h c lent r (sym (u .answers) ∙ x);
+    }
+
+-- ---- the router: its promise is over the verdict itself
+
+pub routes-away : (cells : List ℕ) (h : ℕ) (theme : List ℕ) (way : AnyWay) (pair : Pair) (lent : List ℕ)
+    {answer : Routed} {after : List ℕ} → Routes cells h theme way pair lent answer after
+    → TurnsAway (1 ∷ 2 ∷ 3 ∷ 4 ∷ 5 ∷ 13 ∷ 14 ∷ []) (routeRows cells h theme way pair lent) (λ r. answer ≡ Unrouted r)
+    ((n : ℕ) × (answer ≡ Changes n)) (after ≡ lent)
+routes-away cells h theme way pair lent p =
+    let a = routed-refused cells h theme way pair lent p in
+    record {
+      order = refl;
+      exactly = λ k q.
+          let f = a (record { number = k; place = q }) in
+          let g = given-verdict (routeRows cells h theme way pair lent) refl k q in
+          (λ x. g .0 (f .0 x), λ x. f .1 (g .1 x));
+      otherwise = routed-changes cells h theme way pair lent p;
+      unwritten = λ r x. p .refused r (a r .0 x) .1;
     }
 
 -- ---- the explainer

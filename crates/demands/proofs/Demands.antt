@@ -1,4 +1,4 @@
--- The three demands hold, and what is wanted of the question, of the update and of the explainer. Assumes nothing.
+-- The three demands hold, and what is wanted of the question, of the update, of the explainer and of the router. Assumes nothing.
 use mathlib.Core.Path.{_≡_, refl, subst}
 use mathlib.Core.List.{List}
 use Prim.Native.Nat.{ℕ}
@@ -26,8 +26,11 @@ use Rattle.occurring.specs.Occurring.{quickList, byList, occursRows}
 use Rattle.updating.specs.Updating.{renewed}
 use Rattle.explaining.specs.Explaining.{explanation}
 use Rattle.explaining.proofs.Refusing.{passed-asks}
-use Rattle.demands.specs.Demands.{RightRequest, Demand1, Demand2, Demand3, Question, Update, Explainer}
+use Rattle.routing.proofs.MeantRoute.{meant-there, meant-unique}
+use Rattle.routing.proofs.RouteAnswers.{routes-there}
+use Rattle.demands.specs.Demands.{RightRequest, Demand1, Demand2, Demand3, Question, Update, Explainer, Router}
 use Rattle.demands.proofs.Away.{prepares-away, plain-away, quick-away, occurs-away, updates-away, explains-away}
+use Rattle.demands.proofs.Away.{routes-away}
 use Rattle.demands.proofs.True.{own-sets-left, plain-stands, written-free, quick-stands, prepared-intervals, prepared-summary, updated-summary}
 use Rattle.demands.proofs.Whole.{plainly, plain-all, quick-own, own-call}
 use Rattle.demands.proofs.Alike.{reading-same, one-page}
@@ -35,6 +38,8 @@ use Rattle.demands.proofs.Questions.{asked-pages, asked-table, asked-la
 use Rattle.demands.proofs.Explanations.{explained-listed, explained-first, explained-tracks, explained-bare, explained-sifted}
 use Rattle.demands.proofs.Explanations.{explained-dismissed, explained-unasked, explained-places, explained-by-column}
 use Rattle.demands.proofs.Updates.{renewed-fresh, renewed-length, renewed-own, renewed-other}
+use Rattle.demands.proofs.Routings.{routed-unlisted, routed-listed, routed-written, routed-length, routed-tail}
+use Rattle.demands.proofs.Routings.{routed-count, routed-least, meant-as-exact}
 
 -- a right score and theme are accepted
 accepted : {cells : List ℕ} {h : ℕ} {theme : List ℕ} → RightRequest cells h theme → Accepted mostNotes cells h theme
@@ -58,6 +63,7 @@ demand1 =
             (judge rows (λ r. table) (themeTable wordBits theme), record { answers = refl; fills-table = refl }),
           );
       explainer-answers = λ cells h theme way pair sets. (explanation cells h theme way pair sets, refl);
+      router-answers = routes-there;
       update-answers = λ cells h c lent.
           let f = renewed cells h c lent in
           (f .answer, (f .sets, record { answers = refl; writes = refl }));
@@ -66,6 +72,7 @@ demand1 =
       quick = quick-away;
       question = occurs-away;
       update = updates-away;
+      router = routes-away;
       explainer = explains-away;
     }
 
@@ -126,4 +133,24 @@ explainer =
       unasked = λ cells h theme way pair sets e v f. explained-unasked cells h theme way pair sets e v f;
       places = λ cells h theme way pair sets e. explained-places cells h theme sets way pair e;
       by-column = λ cells h theme way way′ pair pair′ sets e e′ same. explained-by-column cells h theme sets way way′ pair pair′ e e′ same;
+    }
+
+pub router : Router
+router =
+    record {
+      unlisted = λ cells h theme way pair lent p a. routed-unlisted cells h theme way pair lent p a;
+      in-list = λ cells h theme way pair lent p a long r room q reading.
+          let l = routed-listed cells h theme way pair lent p a long in
+          let i = plain-all cells h theme (accepted a) r room way q .exactly reading pair in
+          (λ x. i .1 (l .0 x), λ x. l .1 (i .0 x));
+      exactly-one = λ cells h theme way pair a s.
+          let right : Accepted mostNotes cells h theme = accepted a in
+          let (route, meant) = meant-there way cells h theme pair (right .tracks-few) s in
+          (route, (meant, λ other m. meant-unique way (scoreOf cells h) theme pair m meant));
+      written = λ cells h theme way pair lent p. routed-written cells h theme way pair lent p;
+      tail-kept = λ cells h theme way pair lent p.
+          (routed-length cells h theme way pair lent p, routed-tail cells h theme way pair lent p);
+      least = λ cells h theme way pair lent p.
+          (routed-count cells h theme way pair lent p, routed-least cells h theme way pair lent p);
+      as-exact = meant-as-exact;
     }

@@ -1,6 +1,6 @@
 -- That the demands hold: `Away` (what is turned away), `True` (what is listed and prepared is true), `Whole` (pages joined are
 -- the whole list), `Alike` (quick pages are the plain ones), `Questions` (the question), `Updates` (the update),
--- `Explanations` (the explainer). What it comes to: `Demands`.
+-- `Explanations` (the explainer), `Routings` (the router). What it comes to: `Demands`.
 mod Away
 mod True
 mod Whole
@@ -8,4 +8,5 @@ mod Alike
 mod Questions
 mod Updates
 mod Explanations
+mod Routings
 pub mod Demands

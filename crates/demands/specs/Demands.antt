@@ -1,17 +1,17 @@
 -- When a list is trusted: three demands, each a record over what the calls promise and over no method. `Demand1`: what is turned
 -- away, and that nothing is then written. `Demand2`: what is listed and what is prepared is true. `Demand3`: pages joined are
--- the whole list, and quick pages hold the same. Beside them what is wanted of three further calls: `Question`, whether a theme
--- occurs at all, `Update`, of the sets after one column was changed, and `Explainer`, why a pair is listed or not. That all of
--- them hold is `proofs/Demands`. The calls are the six on which the others rest; `docs/CONTRACTS.md` has them all. That every
--- call ends is no field: the check proves of every function that it is safe and ends, and no public call has a `requires`. Assumes
--- nothing.
+-- the whole list, and quick pages hold the same. Beside them what is wanted of four further calls: `Question`, whether a theme
+-- occurs at all, `Update`, of the sets after one column was changed, `Explainer`, why a pair is listed or not, and `Router`, in
+-- which tracks a listed pair is. That all of them hold is `proofs/Demands`. The calls are the seven on which the others rest;
+-- `docs/CONTRACTS.md` has them all. That every call ends is no field: the check proves of every function that it is safe and
+-- ends, and no public call has a `requires`. Assumes nothing.
 use mathlib.Core.Path.{_≡_}
 use mathlib.Core.Bool.{Bool, true, false}
 use mathlib.Core.Logic.{_↔_, _⊎_}
 use mathlib.Core.List.{List, [], _∷_, _++_, map, List·Memᴰ as In}
 use Prim.Native.Nat.{ℕ, _+_, _-_, _/_, _≤_, _<_}
 use lib.IntN.{ℤ, pos, _+ℤ_}
-use lib.ListN.{length, getD}
+use lib.ListN.{length, getD, take, drop}
 use lib.Signed.{_≤ℤ_}
 use Rattle.theory.specs.Lists.{sum, join}
 use Rattle.theory.specs.Bits.{bit}
@@ -63,6 +63,10 @@ use Rattle.explaining.specs.declared.answer.Reason.the-variants.{Listed, NoShif
 use Rattle.explaining.specs.declared.answer.Lacking.{Lacking}
 use Rattle.explaining.specs.declared.answer.Sifted.the-variants.{Unasked, Kept, Dismissed}
 use Rattle.explaining.specs.Explaining.{noTracks, Fitting, explainRows, explanation}
+use Rattle.routing.specs.declared.answer.Routed.{Routed}
+use Rattle.routing.specs.declared.answer.Routed.the-variants.{Changes, Refused as Unrouted}
+use Rattle.routing.specs.Routes.{changes, Route, TheRoute}
+use Rattle.routing.specs.Routing.{routeRows, Routes}
 use Rattle.updating.specs.declared.changes.Change.{Change}
 use Rattle.updating.specs.declared.changes.Change.the-variants.{Updated, Refused as Unchanged}
 use Rattle.updating.specs.Updating.{heardBefore, updateRows, Updates, OneChanged}
@@ -71,9 +75,10 @@ use Rattle.updating.specs.Updating.{heardBefore, updateRows, Updates, OneChange
 -- no buffer is written that is lent for writing
 
 -- a call that is judged by these rows, which have these numbers in this order (rows 1 to 3, 6 and 7 are in
--- `score/specs/Refusals`, 4, 5 and 8 to 10 in `asking/specs/Refusals`, 12 in `occurring/specs/Occurring`, 19 in
--- `updating/specs/Updating`). `Refuses r` says that its answer is refusal r, `Accepts` that it is none, and `Untouched` that the
--- buffers that it may write are what they were, or, of a call that is lent none, that its answer holds nothing else
+-- `score/specs/Refusals`, 4, 5 and 8 to 10 in `asking/specs/Refusals`, 12 in `occurring/specs/Occurring`, 13 and 14 in
+-- `routing/specs/Routing`, 19 in `updating/specs/Updating`). `Refuses r` says that its answer is refusal r, `Accepts` that it is
+-- none, and `Untouched` that the buffers that it may write are what they were, or, of a call that is lent none, that its answer
+-- holds nothing else
 pub record TurnsAway (numbers : List ℕ) (rows : List Row) (Refuses : Refusal → Type 0) (Accepts Untouched : Type 0) : Type 0 where
   pub order : map (λ (row : Row). row .given .number) rows ≡ numbers
   -- number k and place p are given exactly where row k is the first that applies, and p is the place that it names
@@ -93,6 +98,8 @@ pub record Demand1 : Type 0 where
       → (a : Occurrence) × ((table′ : List ℕ) × Occurs cells h theme way sets summary table a table′)
   pub explainer-answers : (cells : List ℕ) (h : ℕ) (theme : List ℕ) (way : Way) (pair : Pair) (sets : List ℕ)
       → (a : Explanation) × (a ≡ explanation cells h theme way pair sets)
+  pub router-answers : (cells : List ℕ) (h : ℕ) (theme : List ℕ) (way : AnyWay) (pair : Pair) (lent : List ℕ)
+      → (a : Routed) × ((after : List ℕ) × Routes cells h theme way pair lent a after)
   pub update-answers : (cells : List ℕ) (h : ℕ) (c : Column) (lent : List ℕ) → (a : Change) × ((after : List ℕ) × Updates cells h c lent a after)
   -- and it is a refusal exactly on a row
   pub preparation : (cells : List ℕ) (h : ℕ) (lent : List ℕ) {answer : Preparation} {after : List ℕ} → Prepares cells h lent answer after
@@ -113,6 +120,10 @@ pub record Demand1 : Type 0 where
   pub update : (cells : List ℕ) (h : ℕ) (c : Column) (lent : List ℕ) {answer : Change} {after : List ℕ} → Updates cells h c lent answer after
       → TurnsAway (1 ∷ 2 ∷ 3 ∷ 6 ∷ 7 ∷ 19 ∷ []) (updateRows cells h c lent) (λ r. answer ≡ Unchanged r)
       ((s : Summary) × (answer ≡ Updated s)) (after ≡ lent)
+  pub router : (cells : List ℕ) (h : ℕ) (theme : List ℕ) (way : AnyWay) (pair : Pair) (lent : List ℕ)
+      {answer : Routed} {after : List ℕ} → Routes cells h theme way pair lent answer after
+      → TurnsAway (1 ∷ 2 ∷ 3 ∷ 4 ∷ 5 ∷ 13 ∷ 14 ∷ []) (routeRows cells h theme way pair lent) (λ r. answer ≡ Unrouted r)
+      ((n : ℕ) × (answer ≡ Changes n)) (after ≡ lent)
   -- the explainer is lent nothing for writing: a refused answer has no track and no second part
   pub explainer : (cells : List ℕ) (h : ℕ) (theme : List ℕ) (way : Way) (pair : Pair) (sets : List ℕ) {answer : Explanation}
       → answer ≡ explanation cells h theme way pair sets
@@ -370,3 +381,41 @@ pub record Explainer : Type 0 where
   pub by-column : (cells : List ℕ) (h : ℕ) (theme : List ℕ) (way way′ : Way) (pair pair′ : Pair) (sets : List ℕ)
       {answer answer′ : Explanation} → answer ≡ explanation cells h theme way pair sets → answer′ ≡ explanation cells h theme way′ pair′ sets
       → pair′ .column ≡ pair .column → answer′ .sifted ≡ answer .sifted
+
+-- ---- the router: of a listed pair the one route that is meant, which is `TheRoute` of `routing/specs/Routes`, and of no other
+-- pair any
+
+pub record Router : Type 0 where
+  -- refusal 13, exactly where the pair does not stand, in each of the three ways and whatever is lent
+  pub unlisted : (cells : List ℕ) (h : ℕ) (theme : List ℕ) (way : AnyWay) (pair : Pair) (lent : List ℕ)
+      {answer : Routed} {after : List ℕ} → Routes cells h theme way pair lent answer after → RightRequest cells h theme
+      → (answer ≡ Unrouted (record { number = 13; place = 0 })) ↔ (StandsAs way (scoreOf cells h) theme pair → ⊥)
+  -- and so, with a place for each note, a route is answered exactly where the full list has the pair, read by plain pages of any
+  -- room
+  pub in-list : (cells : List ℕ) (h : ℕ) (theme : List ℕ) (way : AnyWay) (pair : Pair) (lent : List ℕ)
+      {answer : Routed} {after : List ℕ} → Routes cells h theme way pair lent answer after → RightRequest cells h theme
+      → length theme ≤ length lent
+      → (r : ℕ) → 1 ≤ r → {call : Bookmark → Lent → Leaf} → PlainCall cells h theme way call
+      → {pages : List (List Pair)} {turns : List Turn} → Reading call r (firstBookmark (rangeAs way)) pages turns
+      → ((n : ℕ) × (answer ≡ Changes n)) ↔ In pair (join pages)
+  -- every pair that stands in an accepted score has a route that is meant, and only one
+  pub exactly-one : (cells : List ℕ) (h : ℕ) (theme : List ℕ) (way : AnyWay) (pair : Pair) → RightRequest cells h theme
+      → StandsAs way (scoreOf cells h) theme pair
+      → (route : List ℕ) × (TheRoute way (scoreOf cells h) theme pair route
+      × ((other : List ℕ) → TheRoute way (scoreOf cells h) theme pair other → other ≡ route))
+  -- an accepted call writes it, a track for each note from the front of the buffer
+  pub written : (cells : List ℕ) (h : ℕ) (theme : List ℕ) (way : AnyWay) (pair : Pair) (lent : List ℕ) {n : ℕ} {after : List ℕ}
+      → Routes cells h theme way pair lent (Changes n) after
+      → TheRoute way (scoreOf cells h) theme pair (take (length theme) after)
+  -- and nothing behind it
+  pub tail-kept : (cells : List ℕ) (h : ℕ) (theme : List ℕ) (way : AnyWay) (pair : Pair) (lent : List ℕ) {n : ℕ} {after : List ℕ}
+      → Routes cells h theme way pair lent (Changes n) after
+      → (length after ≡ length lent) × (drop (length theme) after ≡ drop (length theme) lent)
+  -- it answers how many changes that route has, and no route of the pair has fewer
+  pub least : (cells : List ℕ) (h : ℕ) (theme : List ℕ) (way : AnyWay) (pair : Pair) (lent : List ℕ) {n : ℕ} {after : List ℕ}
+      → Routes cells h theme way pair lent (Changes n) after
+      → (n ≡ changes (take (length theme) after))
+      × ((other : List ℕ) → Route way (scoreOf cells h) theme pair other → n ≤ changes other)
+  -- the route of a pair of the tune as it is written is that of the same pair in exact
+  pub as-exact : (score : List (List ℕ)) (theme : List ℕ) (pair : Pair) (route : List ℕ)
+      → TheRoute Written score theme pair route ↔ TheRoute (Moved Exact) score theme pair route

@@ -16,8 +16,10 @@ use Rattle.theory.proofs.Lists.{some-first, count-length}
 use Rattle.theory.proofs.Pages.{hits-le, page-le}
 use Rattle.score.specs.Limits.{mostTracks, mostColumns, mostCells}
 use Rattle.score.specs.declared.refusals.Refusal.{Refusal}
+use Rattle.score.specs.declared.refusals.Verdict.{Verdict}
+use Rattle.score.specs.declared.refusals.Verdict.the-variants.{Accepted as Passed, Refused as Away}
 use Rattle.score.specs.Score.{columnsIn, scoreOf, heardOf, note}
-use Rattle.score.specs.Refusals.{Row, judge, row1, row2, row3, row6, row7, badCell, badSet}
+use Rattle.score.specs.Refusals.{Row, judge, verdict, row1, row2, row3, row6, row7, badCell, badSet}
 use Rattle.score.specs.declared.quantities.Column.{Column}
 use Rattle.score.specs.Sets.{sets as setsOf}
 use Rattle.score.proofs.Columns.{columns-whole, score-length}
@@ -59,7 +61,9 @@ use Rattle.explaining.specs.declared.answer.Reason.the-variants.{Listed, NoShif
 use Rattle.explaining.specs.declared.fits.Fit.{Fit}
 use Rattle.explaining.specs.declared.fits.Fit.the-variants.{Zero, Short, NoPitch, Fits}
 use Rattle.explaining.specs.Explaining.{noteOutside, failed, held, columnOf, reasonAt, fitOf, bare, explained, explainRows, explanation}
-use Rattle.finder_c.specs.Singles.{ofPreparation, ofOccurrence, ofChange}
+use Rattle.routing.specs.declared.answer.Routed.{Routed}
+use Rattle.routing.specs.Routing.{row13, row14, routeRows, Routes}
+use Rattle.finder_c.specs.Singles.{ofPreparation, ofOccurrence, ofChange, ofRouted}
 use Rattle.finder_c.specs.Reasons.{ofReason}
 use Rattle.finder_c.specs.Small.{SmallPlace, SmallSingle, SmallPage, SmallReason}
 
@@ -143,6 +147,26 @@ module _ (cells : List ℕ) (h : ℕ) (sets : List ℕ) where
       judge-small (λ (o : Occurrence). SmallSingle (ofOccurrence o)) Unanswered (byList list) (λ r s. s) (occursRows cells h theme sets summary table)
       (score-small cells h (row4 mostNotes theme ∷ row5 theme ∷ rows)
       (λ b. theme-small theme rows (sets-small cells h sets last b (λ e. nowhere, λ d. (λ e. nowhere, λ d. tt {0}))))) (λ c. list-small list)
+
+-- the verdict of rows, and so what a route says
+abbrev SmallVerdict : Verdict → Type 0
+SmallVerdict Passed = Unit {0}
+SmallVerdict (Away r) = SmallPlace r
+
+pub routed-small : (cells : List ℕ) (h : ℕ) (theme : List ℕ) (way : AnyWay) (pair : Pair) (lent : List ℕ) {said : Routed} {after : List ℕ}
+    → Routes cells h theme way pair lent said after → SmallSingle (ofRouted said)
+routed-small cells h theme way pair lent {said} a = step (verdict (routeRows cells h theme way pair lent)) refl small
+  where
+    small : SmallVerdict (verdict (routeRows cells h theme way pair lent))
+    small =
+        let last = row13 way (scoreOf cells h) theme pair ∷ row14 theme lent ∷ [] in
+        judge-small SmallVerdict Away Passed (λ r s. s) (routeRows cells h theme way pair lent)
+        (score-small cells h (row4 mostNotes theme ∷ row5 theme ∷ last)
+        (λ b. theme-small theme last (λ e. nowhere, λ d. (λ e. nowhere, λ d. tt {0})))) (λ c. tt {0})
+
+    step : (v : Verdict) → verdict (routeRows cells h theme way pair lent) ≡ v → SmallVerdict v → SmallSingle (ofRouted said)
+    step Passed e s = rw (a .accepted e .counted) (tt {0})
+    step (Away r) e s = rw (a .refused r e .0) s
 
 -- ---- the explanation: no reason is a refusal but that of a row
 

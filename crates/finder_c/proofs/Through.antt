@@ -25,15 +25,18 @@ use Rattle.occurring.specs.declared.question.Occurrence.{Occurrence}
 use Rattle.occurring.specs.Occurring.{Occurs}
 use Rattle.explaining.specs.declared.answer.Explanation.{Explanation}
 use Rattle.explaining.specs.Explaining.{explanation}
+use Rattle.routing.specs.declared.answer.Routed.{Routed}
+use Rattle.routing.specs.Routing.{Routes}
+use Rattle.routing.proofs.RouteAnswers.{routes-there}
 use Rattle.finder_c.specs.declared.single.Single.{Single}
 use Rattle.finder_c.specs.Limits.{octave, written, answerNumbers, oneNumber, explainNumbers, notCalled}
-use Rattle.finder_c.specs.Singles.{ofPreparation, ofOccurrence, ofChange}
+use Rattle.finder_c.specs.Singles.{ofPreparation, ofOccurrence, ofChange, ofRouted}
 use Rattle.finder_c.specs.Numbers.{wayOf, anyWayOf, noAnswer, noCall, singleNumber, singleNumbers, pageNumber, pageNumbers}
 use Rattle.finder_c.specs.Reasons.{ofReason, explanationNumber, explanationNumbers}
 use Rattle.finder_c.specs.Small.{SmallSingle, SmallPage, SmallReason}
 use Rattle.finder_c.specs.Calls.{CLeft, CLeaves, singleLeft, CPrepares, CUpdates, COccurs, summaryAt}
-use Rattle.finder_c.specs.Calls.{CPlainPages, CQuickPages, CExplains, bookmark, pairTold, leafLeft}
-use Rattle.finder_c.proofs.SmallAnswers.{prepared-small, renewed-small, occurrence-small, plain-small, quick-small, explanation-small}
+use Rattle.finder_c.specs.Calls.{CPlainPages, CQuickPages, CExplains, CRoutes, bookmark, pairTold, leafLeft}
+use Rattle.finder_c.proofs.SmallAnswers.{prepared-small, renewed-small, occurrence-small, plain-small, quick-small, explanation-small, routed-small}
 
 -- ---- whether it is a call
 
@@ -173,3 +176,27 @@ module _ {cells : List ℕ} {h : ℕ} {theme sets : List ℕ} {column : ℕ} whe
   explains-through {answer = answer} k v m a n ns =
       let b = a ∙ ap₂ (λ (w : Way) (z : ℤ). explanation cells h theme w (pairTold column z) sets) v m in
       record { leaves = leaves-through k (n ∙ ap explanationNumber b) refl (ns ∙ ap (λ (e : Explanation). explanationNumbers e answer) b) }
+
+-- ---- finder_route
+
+pub routes-small : {cells : List ℕ} {h : ℕ} {theme places places′ : List ℕ} {w : AnyWay} {pair : Pair} {a : Routed} {s : Single}
+    → Routes cells h theme w pair places a places′ → s ≡ ofRouted a → SmallSingle s
+routes-small routes e = subst SmallSingle (sym e) (routed-small _ _ _ _ _ _ routes)
+
+module _ {cells : List ℕ} {h : ℕ} {theme places : List ℕ} {way column : ℕ} {shift : ℤ} where
+  pub routes-none : {answer : List ℤ} → noCall written way oneNumber (length answer) ≡ true
+      → CRoutes cells h theme way column shift places answer (pos notCalled) places answer
+  routes-none k =
+      let (said, (after, routes)) = routes-there cells h theme (anyWayOf way) (pairTold column shift) places in
+      record { said = said; after = after; routes = routes; leaves = leaves-none k }
+
+  pub routes-through : {answer answer′ : List ℤ} {w : AnyWay} {z : ℤ} {a : Routed} {s : Single} {places′ : List ℕ} {r : ℤ}
+      → noCall written way oneNumber (length answer) ≡ false → w ≡ anyWayOf way → z ≡ shift
+      → Routes cells h theme w (pairTold column z) places a places′ → s ≡ ofRouted a → r ≡ singleNumber s → answer′ ≡ singleNumbers s answer
+      → CRoutes cells h theme way column shift places answer r places′ answer′
+  routes-through {a = a} {places′ = places′} k v m routes e n ns = record {
+    said = a;
+    after = places′;
+    routes = subst₂ (λ (w : AnyWay) (z : ℤ). Routes cells h theme w (pairTold column z) places a places′) v m routes;
+    leaves = single-through k e refl n ns;
+  }

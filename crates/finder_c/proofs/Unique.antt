@@ -1,21 +1,28 @@
 -- Each exported call's contract settles it: one theorem a call, over what the `ensures` in the source says. Above them the same
--- of each record by which a call promises: all is said by equations. Assumes nothing.
-use mathlib.Core.Path.{_≡_, refl, sym, _∙_}
+-- of each record by which a call promises: all is said by equations, or by what the router promises. Assumes nothing.
+use mathlib.Core.Path.{_≡_, refl, sym, ap₂, _∙_, subst}
 use mathlib.Core.Bool.{Bool}
 use mathlib.Core.List.{List}
 use Prim.Native.Nat.{ℕ}
 use lib.IntN.{ℤ}
+use lib.ListN.{length}
 use Rattle.theory.specs.Settled.{Settles}
 use Rattle.theory.proofs.Unique.{_beside_}
 use Rattle.paging.specs.Lent.{Lent}
 use Rattle.paging.proofs.Buffers.{same-columns, same-shifts}
-use Rattle.finder_c.specs.Calls.{CLeft, CLeaves, CPrepares, CUpdates, COccurs, CPlainPages, CQuickPages, CExplains}
+use Rattle.routing.specs.declared.answer.Routed.{Routed}
+use Rattle.routing.proofs.RouteAnswers.{routes-unique}
+use Rattle.finder_c.specs.Limits.{written, oneNumber}
+use Rattle.finder_c.specs.Singles.{ofRouted}
+use Rattle.finder_c.specs.Numbers.{noCall}
+use Rattle.finder_c.specs.Calls.{CLeft, CLeaves, CPrepares, CUpdates, COccurs, CPlainPages, CQuickPages, CExplains, CRoutes, singleLeft}
 use Rattle.finder_c.proofs.calls.finder_prepare
 use Rattle.finder_c.proofs.calls.finder_update
 use Rattle.finder_c.proofs.calls.finder_occurs
 use Rattle.finder_c.proofs.calls.finder_plain_page
 use Rattle.finder_c.proofs.calls.finder_quick_page
 use Rattle.finder_c.proofs.calls.finder_explain
+use Rattle.finder_c.proofs.calls.finder_route
 
 c-leaves-unique : {Buffers : Type 0} {none : Bool} {buffers : Buffers} {answer : List ℤ} {left : CLeft Buffers} {r r′ : ℤ} {b b′ : Buffers} {a a′ : List ℤ}
     → CLeaves none buffers answer left r b a → CLeaves none buffers answer left r′ b′ a′ → (r ≡ r′) × (b ≡ b′) × (a ≡ a′)
@@ -51,6 +58,16 @@ pub c-explains-unique : {cells : List ℕ} {h : ℕ} {theme : List ℕ} {way col
     {r r′ : ℤ} {a a′ : List ℤ} → CExplains cells h theme way column shift sets answer r a
     → CExplains cells h theme way column shift sets answer r′ a′ → (r ≡ r′) × (a ≡ a′)
 c-explains-unique p q = let (result, nothing, answer) = c-leaves-unique (p .leaves) (q .leaves) in (result, answer)
+
+-- the router settles what it says and the places that it leaves, and so both are the same
+pub c-routes-unique : {cells : List ℕ} {h : ℕ} {theme : List ℕ} {way column : ℕ} {shift : ℤ} {places : List ℕ} {answer : List ℤ}
+    {r r′ : ℤ} {p p′ : List ℕ} {a a′ : List ℤ} → CRoutes cells h theme way column shift places answer r p a
+    → CRoutes cells h theme way column shift places answer r′ p′ a′ → (r ≡ r′) × (p ≡ p′) × (a ≡ a′)
+c-routes-unique {way = way} {places = places} {answer = answer} {r = r} {p = p} {a = a} x y =
+    let (said, after) = routes-unique _ _ _ _ _ _ (x .routes) (y .routes) in
+    let both = ap₂ (λ (s : Routed) (l : List ℕ). singleLeft (ofRouted s) l answer) said after in
+    let none = noCall written way oneNumber (length answer) in
+    c-leaves-unique (subst (λ (left : CLeft (List ℕ)). CLeaves none places answer left r p a) both (x .leaves)) (y .leaves)
 
 -- ---- the calls
 
@@ -90,4 +107,11 @@ finder-explain-unique κs args x y =
     let (result, answer) = c-explains-unique (x .meets) (y .meets) in (
       result,
       refl beside refl beside refl beside refl beside refl beside refl beside refl beside answer beside refl,
+    )
+
+pub finder-route-unique : Settles finder_route.Kinds.ps finder_route.Kinds.r finder_route.Reads.Post
+finder-route-unique κs args x y =
+    let (result, places, answer) = c-routes-unique (x .meets) (y .meets) in (
+      result,
+      refl beside refl beside refl beside refl beside refl beside refl beside places beside answer beside refl,
     )

@@ -1,5 +1,5 @@
 -- What each exported call leaves: its result, and every lent buffer. All is said by the definitions of the crates that answer, by
--- `Numbers` and by `Reasons`; equations settle it, so there is one answer. Where there is no call, everything is as it was.
+-- `Numbers` and by `Reasons`; there is one answer. Where there is no call, everything is as it was.
 -- Assumes nothing.
 use mathlib.Core.Path.{_≡_}
 use mathlib.Core.Bool.{Bool, cond}
@@ -24,9 +24,11 @@ use Rattle.occurring.specs.declared.question.Occurrence.the-variants.{Refused}
 use Rattle.occurring.specs.Occurring.{occursRows, quickList, byList}
 use Rattle.explaining.specs.declared.answer.Explanation.{Explanation}
 use Rattle.explaining.specs.Explaining.{explanation}
+use Rattle.routing.specs.declared.answer.Routed.{Routed}
+use Rattle.routing.specs.Routing.{Routes}
 use Rattle.finder_c.specs.declared.single.Single.{Single}
 use Rattle.finder_c.specs.Limits.{octave, written, answerNumbers, oneNumber, explainNumbers, notCalled}
-use Rattle.finder_c.specs.Singles.{ofPreparation, ofOccurrence, ofChange}
+use Rattle.finder_c.specs.Singles.{ofPreparation, ofOccurrence, ofChange, ofRouted}
 use Rattle.finder_c.specs.Numbers.{wayOf, anyWayOf, noAnswer, noCall, singleNumber, singleNumbers, pageNumber, pageNumbers}
 use Rattle.finder_c.specs.Reasons.{explanationNumber, explanationNumbers}
 
@@ -119,3 +121,13 @@ pub record CExplains (cells : List ℕ) (h : ℕ) (theme : List ℕ) (way column
   pub leaves : CLeaves (noCall octave way explainNumbers (length answer)) (tt {0}) answer
       (explanationLeft (explanation cells h theme (wayOf way) (pairTold column shift) sets) answer)
       result (tt {0}) answer′
+
+-- ---- the route, a call that says one number: what the router says, and the lent places after it, are what it promises
+
+pub record CRoutes (cells : List ℕ) (h : ℕ) (theme : List ℕ) (way column : ℕ) (shift : ℤ) (places : List ℕ) (answer : List ℤ)
+    (result : ℤ) (places′ : List ℕ) (answer′ : List ℤ) : Type 0 where
+  pub said : Routed
+  pub after : List ℕ
+  pub routes : Routes cells h theme (anyWayOf way) (pairTold column shift) places said after
+  pub leaves : CLeaves (noCall written way oneNumber (length answer)) places answer (singleLeft (ofRouted said) after answer)
+      result places′ answer′

@@ -1,7 +1,8 @@
 -- How an answer is told in numbers, each a constant of the code, in `src/limits`, by the same name. Assumes nothing.
 use Prim.Native.Nat.{ℕ}
 
--- the numbers of ways: the plain page's go up to written, those of the quick page, the question and the explanation to octave
+-- the numbers of ways: those of the plain page and the route go up to written, those of the quick page, the question and the
+-- explanation to octave
 abbrev pub octave : ℕ
 octave = 1
 
@@ -12,7 +13,7 @@ written = 2
 abbrev pub answerNumbers : ℕ
 answerNumbers = 5
 
--- how many numbers the answer of a preparation, an update or the question has
+-- how many numbers the answer of a preparation, an update, the question or a route has
 abbrev pub oneNumber : ℕ
 oneNumber = 1
 

@@ -11,6 +11,7 @@ use crate::reasons::told_explanation;
 use crate::single::of_change;
 use crate::single::of_occurrence;
 use crate::single::of_preparation;
+use crate::single::of_routed;
 use crate::told::any_way_of;
 use crate::told::no_answer;
 use crate::told::no_call;
@@ -20,6 +21,7 @@ use crate::told::way_of;
 use explaining::explain;
 use occurring::occurs;
 use preparing::prepare;
+use routing::route;
 use score::Column;
 use search::Bookmark;
 use search::Pair;
@@ -28,7 +30,7 @@ use search::quick_page;
 use summing::Summary;
 use updating::update;
 ghost use Rattle.paging.specs.Lent.{lent};
-ghost use Rattle.finder_c.specs.Calls.{CPrepares, CUpdates, COccurs, CPlainPages, CQuickPages, CExplains};
+ghost use Rattle.finder_c.specs.Calls.{CPrepares, CUpdates, COccurs, CPlainPages, CQuickPages, CExplains, CRoutes};
 
 // Fills all n - 1 sets of the score: 0, and their summary in `answer`. Otherwise the refusal, 1, 2, 3 or 6, as number +
 // 256 * place; or 255 where `answer` is not 1 long.
@@ -201,4 +203,31 @@ pub extern "C" fn finder_explain(
     };
     let e = explain(cells, tracks, theme, way_of(way), pair, sets);
     told_explanation(e, answer)
+}
+
+// The route of the pair (column, shift), in exact, octave or written: 0, the number of its changes in `answer`, and a track from 1 for
+// each note in the first places of `places`, which keep what stands behind them. Otherwise the refusal, 1 to 5, 13 or 14, as
+// number + 256 * place; or 255 where `way` is above 2 or `answer` is not 1 long.
+#[no_mangle]
+pub extern "C" fn finder_route(
+    cells: &[u8],
+    tracks: usize,
+    theme: &[u8],
+    way: u8,
+    column: u16,
+    shift: i16,
+    places: &mut [u8],
+    answer: &mut [i64],
+) -> i64
+    ensures { λ r. ⌜ CRoutes (now (cells .entry)) tracks (now (theme .entry)) way column shift (now (places .entry)) (now (answer .entry)) r (now (places .exit)) (now (answer .exit)) ⌝ }
+{
+    if no_call(WRITTEN, way, ONE_NUMBER, answer.len()) {
+        return NOT_CALLED;
+    }
+    let pair = Pair {
+        column: Column(column),
+        shift,
+    };
+    let a = route(cells, tracks, theme, any_way_of(way), pair, places);
+    told_single(of_routed(a), answer)
 }

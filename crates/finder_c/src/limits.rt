@@ -1,6 +1,7 @@
 // How a way and an answer are told in numbers.
 
-// The numbers of ways: the plain page's go up to written, those of the quick page, the question and the explanation to octave.
+// The numbers of ways: those of the plain page and the route go up to written, those of the quick page, the question and the
+// explanation to octave.
 pub const OCTAVE: u8 = 1;
 
 pub const WRITTEN: u8 = 2;
@@ -8,7 +9,7 @@ pub const WRITTEN: u8 = 2;
 // How many numbers the answer of a page has.
 pub const ANSWER_NUMBERS: usize = 5;
 
-// How many numbers the answer of a preparation, an update or the question has.
+// How many numbers the answer of a preparation, an update, the question or a route has.
 pub const ONE_NUMBER: usize = 1;
 
 // How many numbers an explanation has: five in front, and a track for each of 64 notes.

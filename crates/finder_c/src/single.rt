@@ -1,12 +1,13 @@
-// Answers of one number. A preparation and an update say a summary, and the question says yes or no: each is the number that an
-// accepted call says, or a refusal, and so one function tells them all.
+// Answers of one number. A preparation and an update say a summary, the question says yes or no, and a route says its changes: each
+// is the number that an accepted call says, or a refusal, and so one function tells them all.
 
 use occurring::Occurrence;
 use preparing::Preparation;
+use routing::Routed;
 use score::Refusal;
 use updating::Change;
 ghost use mathlib.Core.Path.{_≡_};
-ghost use Rattle.finder_c.specs.Singles.{ofPreparation, ofOccurrence, ofChange};
+ghost use Rattle.finder_c.specs.Singles.{ofPreparation, ofOccurrence, ofChange, ofRouted};
 
 // The number that an accepted call says, or a refusal.
 pub enum Single {
@@ -42,5 +43,15 @@ pub fn of_change(c: Change) -> Single
     match c {
         Change::Updated(s) => Single::Said(s.0),
         Change::Refused(e) => Single::Refused(e),
+    }
+}
+
+// A route says how often its track changes.
+pub fn of_routed(a: Routed) -> Single
+    ensures { λ r. ⌜ r ≡ ofRouted a ⌝ }
+{
+    match a {
+        Routed::Changes(n) => Single::Said(n as u16),
+        Routed::Refused(e) => Single::Refused(e),
     }
 }
