@@ -1,7 +1,8 @@
 /* How C calls the finder: prepares a small score, lists a theme's pairs page by page, explains why some are listed and
- * others are not, asks whether themes occur at all, and changes a column. */
+ * others are not, asks who plays one, asks whether themes occur at all, and changes a column. */
 #include <finder.h>
 #include <stdio.h>
+#include <string.h>
 
 /* Whether a theme of two notes occurs, octaves ignored, in a score of five columns and two tracks: 1 or 0, or -1 where the
  * call was refused. */
@@ -98,6 +99,41 @@ static int explanation(const uint8_t *cells, const uint8_t *theme, const uint16_
         && turned_away(cells, theme, FINDER_EXACT, bad, 3, FINDER_EXPLAIN_LEN + 1, FINDER_NO_CALL);
 }
 
+/* Whether a call for the route of 60 62 64 gives this result, and leaves these bytes in a buffer of which so many places
+ * are lent, and this answer; each was 99 and -77 before. */
+static int routed(uint8_t way, uint16_t column, int16_t shift, size_t lent, size_t places, int64_t expected,
+                  const uint8_t *left, int64_t changes)
+{
+    /* three tracks: 60 in the third, 62 in the first and the third, 64 in the first; octaves lower in the second */
+    static const uint8_t cells[] = {255, 24, 60, 62, 26, 62, 255, 255, 255, 64, 28, 255};
+    static const uint8_t theme[] = {60, 62, 64};
+    uint8_t route[4] = {99, 99, 99, 99};
+    int64_t answer[2] = {-77, -77};
+
+    return finder_route(cells, sizeof cells, 3, theme, sizeof theme, way, column, shift, route, lent, answer, places)
+            == expected
+        && memcmp(route, left, sizeof route) == 0 && answer[0] == changes && answer[1] == -77;
+}
+
+/* Who plays the theme, with the fewest changes of track; whether all went well. */
+static int tracks(void)
+{
+    static const uint8_t exact[] = {3, 1, 1, 99}, octave[] = {2, 2, 2, 99}, as_it_was[] = {99, 99, 99, 99};
+
+    if (!routed(FINDER_EXACT, 1, 0, 4, FINDER_ONE_LEN, 0, exact, 1)
+        || !routed(FINDER_WRITTEN, 1, 0, 3, FINDER_ONE_LEN, 0, exact, 1)
+        || !routed(FINDER_OCTAVE, 1, 0, 4, FINDER_ONE_LEN, 0, octave, 0))
+        return 0;
+    printf("60 62 64: tracks %d %d %d\n", exact[0], exact[1], exact[2]);
+    /* a pair that is not listed, whatever is lent; then a buffer that is too short; and what is no call */
+    return routed(FINDER_EXACT, 1, 1, 2, FINDER_ONE_LEN, 13, as_it_was, -77)
+        && routed(FINDER_WRITTEN, 0, 0, 4, FINDER_ONE_LEN, 13, as_it_was, -77)
+        && routed(FINDER_EXACT, 1, 0, 2, FINDER_ONE_LEN, 14, as_it_was, -77)
+        && routed(3, 1, 0, 4, FINDER_ONE_LEN, FINDER_NO_CALL, as_it_was, -77)
+        && routed(FINDER_EXACT, 1, 0, 4, 2, FINDER_NO_CALL, as_it_was, -77)
+        && routed(FINDER_EXACT, 1, 0, 4, 0, FINDER_NO_CALL, as_it_was, -77);
+}
+
 int main(void)
 {
     /* five columns of two tracks; 255 is a rest */
@@ -141,6 +177,9 @@ int main(void)
     printf("as written: column %d\n", columns[0]);
 
     if (!explanation(cells, theme, sets))
+        return 1;
+
+    if (!tracks())
         return 1;
 
     if (!question(cells, theme, sets, summary))

@@ -14,17 +14,17 @@
  *   way 0, exact:   shifts -127 to 127.
  *   way 1, octave:  shifts 0 to 11, octaves ignored.
  *   way 2, written: shift 0 alone, the tune in its own key. The pairs are those of exact with shift 0. The plain page
- *                   takes it; the quick page, the question and the explainer do not.
+ *                   and the router take it; the quick page, the question and the explainer do not.
  * Pairs are listed by rising column, then by rising shift.
  *
- * There are six calls. finder_prepare and finder_update keep a score's interval sets; finder_plain_page and
+ * There are seven calls. finder_prepare and finder_update keep a score's interval sets; finder_plain_page and
  * finder_quick_page list pairs; finder_occurs, the question, says whether there is any; finder_explain, the explainer, says
- * why one pair is listed or not.
+ * why one pair is listed or not; finder_route, the router, says who plays a listed pair, with the fewest changes of track.
  *
  * A score's interval sets, which finder_prepare fills, serve the quick page, the question and the explainer. Their summary
  * is one number of 12 bits: bit d, d = 0 to 11, is 0 exactly where some set has bit d at 0; with no sets it is 4095. So it is
  * the `&` of 4095 and all sets. finder_prepare and finder_update give it, and finder_occurs is handed it beside the sets. In
- * these three calls `answer` has 1 place, for the one number that each says.
+ * these three calls `answer` has 1 place, for the one number that each says; so it has in finder_route.
  *
  * A page call writes the first pairs at or after its bookmark (column, shift), as many as the buffers have places. The
  * first bookmark is (1, -127), for octave and written (1, 0). After a full page whose last pair is (j, c) the next bookmark
@@ -71,15 +71,17 @@
  *   10  the bookmark's column is not 1 to n + 1, or its shift is below the lowest or more than one above the highest:
  *       not -127 to 128 for exact, 0 to 12 for octave, 0 to 1 for written
  *   12  `summary` is not the summary of `sets`
+ *   13  the pair is not listed; finder_explain says why, exact or octave
+ *   14  `route` has fewer places than the theme has notes
  *   19  the changed column is not 1 to n
- *  255  before any refusal: way is above 2 in the plain page, or above 1 in the quick page, the question or the
- *       explainer; or answer isn't 5 long in a page call, 69 long in the explainer, or 1 long in the other calls. Nothing
- *       is written then either.
+ *  255  before any refusal: way is above 2 in the plain page or the router, or above 1 in the quick page, the question or
+ *       the explainer; or answer isn't 5 long in a page call, 69 long in the explainer, or 1 long in the other calls.
+ *       Nothing is written then either.
  *
  * What the caller owes: each pointer has its length's elements behind it (of an empty buffer it is not read), they are
  * aligned for their type, no buffer that is written (sets in finder_prepare and finder_update; table, columns, shifts,
- * answer) overlaps another buffer of the call, and no other thread writes any of them meanwhile. All else is answered or
- * refused. Lengths count elements, not bytes.
+ * route, answer) overlaps another buffer of the call, and no other thread writes any of them meanwhile. All else is answered
+ * or refused. Lengths count elements, not bytes.
  */
 #ifndef FINDER_H
 #define FINDER_H
@@ -94,7 +96,7 @@ extern "C" {
 enum {
     FINDER_EXACT = 0,         /* ways */
     FINDER_OCTAVE = 1,
-    FINDER_WRITTEN = 2,       /* in the plain page only */
+    FINDER_WRITTEN = 2,       /* in the plain page and the router only */
     FINDER_NO_CALL = 255,     /* unknown way, or `answer` of the wrong length */
     FINDER_TABLE_LEN = 4096,  /* places of a theme table */
     FINDER_ANSWER_LEN = 5,    /* places of `answer` in a page call */
@@ -173,6 +175,17 @@ int64_t finder_quick_page(const uint8_t *cells, size_t cells_len, size_t tracks,
 int64_t finder_explain(const uint8_t *cells, size_t cells_len, size_t tracks,
                        const uint8_t *theme, size_t theme_len, uint8_t way, uint16_t column, int16_t shift,
                        const uint16_t *sets, size_t sets_len, int64_t *answer, size_t answer_len);
+
+/* The router: who plays the theme at a listed pair, of any way. A route is a track, from 1, for each note, whose own cell
+ * holds the note moved by the shift, in octave any cell of its class; note 1 in the pair's column, each further note in the
+ * next column with a pitch. A change is two neighbouring notes in different tracks. Of all routes of the pair the one is
+ * meant that has the fewest changes, and among those the one whose track numbers come first, compared from the first note.
+ * So notes that stand in track 3, in 1 and 3, and in 1 have the route 3 1 1.
+ * It is written into the first theme_len places of `route`; places behind them keep their contents. answer[0] is its
+ * number of changes, 0 to theme_len - 1. Refuses 1 to 5, 13, 14. */
+int64_t finder_route(const uint8_t *cells, size_t cells_len, size_t tracks,
+                     const uint8_t *theme, size_t theme_len, uint8_t way, uint16_t column, int16_t shift,
+                     uint8_t *route, size_t route_len, int64_t *answer, size_t answer_len);
 
 #ifdef __cplusplus
 }

@@ -6,11 +6,13 @@
 //!
 //! There are two kinds of scores: those in which every column has a pitch, and those in which a tenth of the columns have
 //! none. `finder-bench full` times the first kind alone. Preparation and pages come first, then the question and the update,
-//! and then the explainer, whose times are nanoseconds a call. `finder-bench explainer` times the explainer alone.
+//! and then the explainer and the router, whose times are nanoseconds a call. `finder-bench explainer` times the explainer alone,
+//! `finder-bench router` the router.
 
 mod explanations;
 mod pages;
 mod questions;
+mod routes;
 mod rust_finder;
 mod scores;
 mod timing;
@@ -19,6 +21,7 @@ mod updates;
 use explanations::Explanations;
 use pages::Timed;
 use questions::Questions;
+use routes::Routes;
 use scores::Kind;
 use updates::Updates;
 
@@ -28,9 +31,10 @@ fn main() {
         [] => true,
         ["full"] => false,
         ["explainer"] => return say_explanations(true),
+        ["router"] => return say_routes(true),
         _ => {
-            eprintln!("finder-bench [full | explainer]: times scores without and with empty columns, or those without alone;");
-            eprintln!("or, for both, the explainer alone");
+            eprintln!("finder-bench [full | explainer | router]: times scores without and with empty columns, or those without");
+            eprintln!("alone; or, for both, the explainer or the router alone");
             std::process::exit(2);
         }
     };
@@ -54,6 +58,8 @@ fn main() {
     }
     println!();
     say_explanations(with_gaps);
+    println!();
+    say_routes(with_gaps);
 }
 
 fn say_questions_and_updates(kind: Kind) {
@@ -67,5 +73,14 @@ fn say_explanations(with_gaps: bool) {
     if with_gaps {
         println!("\n## The explainer, scores in which a tenth of the columns have none\n");
         Explanations::new(Kind::Gaps).say();
+    }
+}
+
+fn say_routes(with_gaps: bool) {
+    println!("## The router, scores in which every column has a pitch\n");
+    Routes::new(Kind::Full).say();
+    if with_gaps {
+        println!("\n## The router, scores in which a tenth of the columns have none\n");
+        Routes::new(Kind::Gaps).say();
     }
 }

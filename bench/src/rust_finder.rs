@@ -6,19 +6,21 @@
 //! after an `and` are the starts that still follow. The looks are then counted by bits.
 //!
 //! The tune in its own key has a page of its own, by a word for each byte and a register. `question` says whether a theme
-//! occurs at all, `update` brings the sets up to date after a column was changed, and `explanation` says why a pair is listed or
-//! not.
+//! occurs at all, `update` brings the sets up to date after a column was changed, `explanation` says why a pair is listed or not,
+//! and `route` who plays it.
 //!
 //! A column without a pitch is passed over. A score in which there is none is walked along as it stands; for any other the
 //! numbers of the columns with a pitch are listed first, and the walk goes along that list.
 
 mod explanation;
 mod question;
+mod route;
 mod update;
 
 pub use explanation::{explain, EXPLAIN_LEN};
 use finder::{AnyWay, Bookmark, Page, Refusal, Summary, Way};
 pub use question::occurs;
+pub use route::route;
 use std::ops::Range;
 pub use update::update;
 

@@ -1,10 +1,11 @@
 //! `why FILE COLUMN SHIFT`: why the theme of a lister input is listed at a column with a shift, or is not, in one line of text
 //! or two. `bin/why` builds it and runs it.
 
-use finder::{AnyWay, Explanation, Pair, Prepared, Way, MOST_COLUMNS};
-use std::ffi::{OsStr, OsString};
+mod input;
+
+use finder::{AnyWay, Explanation, Pair, Prepared, Way};
+use input::Input;
 use std::process::ExitCode;
-use std::{env, fs};
 
 const USAGE: &str = "usage: why FILE COLUMN SHIFT
 
@@ -12,105 +13,20 @@ FILE is an input of the lister: a theme line and then a line for each column of 
 COLUMN is counted from 1; SHIFT is score minus theme, -127 to 127 for exact and 0 to 11 for octave.";
 
 fn main() -> ExitCode {
-    let args: Vec<OsString> = env::args_os().skip(1).collect();
-    let [file, column, shift] = &args[..] else {
-        if matches!(&args[..], [arg] if arg == "-h" || arg == "--help") {
-            println!("{USAGE}");
-            return ExitCode::SUCCESS;
-        }
-        eprintln!("{USAGE}");
-        return ExitCode::from(2);
-    };
-    match explain(file, column, shift) {
-        Ok(explanation) => {
-            println!("{explanation}");
-            ExitCode::SUCCESS
-        }
-        Err(wrong) => {
-            eprintln!("why: {wrong}");
-            ExitCode::from(2)
-        }
-    }
+    input::run("why", USAGE, explain)
 }
 
-/// The explanation by the score's own sets, or what is wrong with the arguments or with the input.
-fn explain(file: &OsStr, column: &OsStr, shift: &OsStr) -> Result<Explanation, String> {
-    let pair = Pair { column: number(column, "COLUMN", "0 to 65535")?, shift: number(shift, "SHIFT", "-32768 to 32767")? };
-    let name = file.to_string_lossy();
-    let text = fs::read(file).map_err(|error| format!("{name}: {error}"))?;
-    let input = read(&text).map_err(|line| format!("{name}: refused 11 {line}: line {line} is its first faulty line"))?;
+/// The explanation by the score's own sets.
+fn explain(input: &Input, pair: Pair) -> Result<Explanation, String> {
     let way = match input.way {
         AnyWay::Moved(way) => way,
         // the tune in its own key: the exact pairs with shift 0
         AnyWay::Written if pair.shift == 0 => Way::Exact,
         AnyWay::Written => {
-            return Err(format!("{name}: its theme is written, which has shift 0 alone; only exact and octave can be explained"));
+            let why = "its theme is written, which has shift 0 alone; only exact and octave can be explained";
+            return Err(format!("{}: {why}", input.name));
         }
     };
     let prepared = Prepared::new(&input.cells, input.tracks).map_err(|refusal| refusal.to_string())?;
     prepared.explain(&input.cells, input.tracks, &input.theme, way, pair).map_err(|refusal| refusal.to_string())
-}
-
-fn number<N: std::str::FromStr>(arg: &OsStr, what: &str, range: &str) -> Result<N, String> {
-    let number = arg.to_str().and_then(|text| text.parse().ok());
-    number.ok_or_else(|| format!("{what} must be a number, {range}, and not `{}`", arg.to_string_lossy()))
-}
-
-// ---- the input
-
-/// A right input of the lister.
-struct Input {
-    way: AnyWay,
-    theme: Vec<u8>,
-    cells: Vec<u8>,
-    tracks: usize,
-}
-
-/// Reads an input as the lister does, or gives the number of its first faulty line, from 1. That no line may have more than
-/// 160 bytes needs no check of its own: no right line is as long.
-fn read(text: &[u8]) -> Result<Input, usize> {
-    let mut lines = text.split_inclusive(|byte| *byte == b'\n');
-    let (way, theme) = lines.next().and_then(theme_line).ok_or(1usize)?;
-    let (mut cells, mut tracks) = (Vec::new(), 0);
-    for (before, line) in lines.enumerate() {
-        let fits = |chord: &Vec<u8>| before < MOST_COLUMNS && (before == 0 || chord.len() == tracks);
-        let chord = chord_line(line).filter(fits).ok_or(before + 2)?;
-        tracks = chord.len();
-        cells.extend(chord);
-    }
-    // a theme without a chord: the line after it is missing
-    if tracks == 0 { Err(2) } else { Ok(Input { way, theme, cells, tracks }) }
-}
-
-/// The way and the notes of a theme line.
-fn theme_line(line: &[u8]) -> Option<(AnyWay, Vec<u8>)> {
-    let mut fields = fields(line, "theme")?;
-    let way = match fields.next()? {
-        b"exact" => Way::Exact.into(),
-        b"octave" => Way::Octave.into(),
-        b"written" => AnyWay::Written,
-        _ => return None,
-    };
-    let notes: Vec<u8> = fields.map(pitch).collect::<Option<_>>()?;
-    (2..=32).contains(&notes.len()).then_some((way, notes))
-}
-
-/// The cells of a chord line.
-fn chord_line(line: &[u8]) -> Option<Vec<u8>> {
-    let cell = |field: &[u8]| if field == b"-" { Some(255) } else { pitch(field) };
-    let cells: Vec<u8> = fields(line, "chord")?.map(cell).collect::<Option<_>>()?;
-    (1..=16).contains(&cells.len()).then_some(cells)
-}
-
-/// The fields of a line behind the word with which it begins. A line that no line feed closes is none.
-fn fields<'a>(line: &'a [u8], word: &str) -> Option<impl Iterator<Item = &'a [u8]>> {
-    let mut fields = line.strip_suffix(b"\n")?.split(|byte| *byte == b'\t');
-    (fields.next()? == word.as_bytes()).then_some(fields)
-}
-
-/// A number 0 to 127 in decimal digits, without a needless 0 in front.
-fn pitch(field: &[u8]) -> Option<u8> {
-    let digits = field.iter().all(u8::is_ascii_digit) && (field.len() == 1 || field.first() != Some(&b'0'));
-    let number = std::str::from_utf8(field).ok()?.parse().ok()?;
-    (digits && number <= 127).then_some(number)
 }

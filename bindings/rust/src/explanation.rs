@@ -24,7 +24,7 @@ const FIRST_TRACK: usize = 5;
 pub enum Reason {
     /// The pair is listed.
     Listed {
-        /// For each note the lowest track, counted from 1, that holds it.
+        /// For each note the lowest track, counted from 1, that holds it. [`route`](crate::route) has the fewest changes.
         tracks: Vec<u8>,
     },
     /// The shift is not one of the way. The shift above the highest, which a [`Bookmark`](crate::Bookmark) may have, is not.

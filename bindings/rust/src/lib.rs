@@ -74,15 +74,29 @@
 //! # Ok::<(), finder::Refusal>(())
 //! ```
 //!
-//! [`prepare`], [`update`], [`occurs`], [`explain`], [`plain_page`] and [`quick_page`] are the calls themselves, for buffers of
-//! one's own. What is proved is the library behind them; this crate passes slices on. Two things it computes:
-//! [`Summary::of`], and the column of [`Reason::Absent`]. It is tested and not proved.
+//! Who plays a tune that wanders through the instruments? [`route`] names a track for each note, with the fewest changes:
+//!
+//! ```
+//! use finder::{route, AnyWay, Pair};
+//!
+//! // violin, viola, cello; the tune begins in the first, goes on in the second and ends in the third
+//! let score = [59, 55, 255, 62, 255, 50, 255, 64, 48, 65, 255, 66, 72, 60, 255];
+//! let played = route(&score, 3, &[62, 64, 66], AnyWay::Written, Pair { column: 2, shift: 0 })?;
+//! assert_eq!((&played.tracks[..], played.changes), (&[1, 2, 3][..], 2));
+//! # Ok::<(), finder::Refusal>(())
+//! ```
+//!
+//! [`prepare`], [`update`], [`occurs`], [`explain`], [`route_into`], [`plain_page`] and [`quick_page`] are the calls
+//! themselves, for buffers of one's own. What is proved is the library behind them; this crate passes slices on. Two things
+//! it computes: [`Summary::of`], and the column of [`Reason::Absent`]. It is tested and not proved.
 #![warn(missing_docs)]
 
 mod explanation;
+mod route;
 
 use explanation::EXPLAIN_LEN;
 pub use explanation::{Explanation, Reason, Sifted};
+pub use route::{route, route_into, Route};
 use std::fmt;
 use std::iter::FusedIterator;
 use std::ops::RangeInclusive;
@@ -93,7 +107,10 @@ pub const TABLE_LEN: usize = 4096;
 /// The most columns that a score may have.
 pub const MOST_COLUMNS: usize = 2048;
 
-/// When a column holds a note moved by a shift. Both searches, the question and the explainer take these two ways.
+/// The most notes that a theme may have.
+pub const MOST_NOTES: usize = 32;
+
+/// When a column holds a note moved by a shift. Both searches, the question, the explainer and the router take these two ways.
 #[derive(Clone, Copy, PartialEq, Eq, Hash, Debug)]
 pub enum Way {
     /// The note moved by the shift, -127 to 127, is in the column.
@@ -133,8 +150,8 @@ impl fmt::Display for Way {
     }
 }
 
-/// Any of the three ways. The plain search takes them all. There is no quick search for the tune as it is written, and so
-/// [`pairs`], [`quick_page`], [`occurs`] and [`explain`] cannot be handed it:
+/// Any of the three ways. The plain search and the router take them all. There is no quick search for the tune as it is
+/// written, and so [`pairs`], [`quick_page`], [`occurs`] and [`explain`] cannot be handed it:
 ///
 /// ```compile_fail
 /// finder::pairs(&[60, 62], 1, &[60, 62], finder::AnyWay::Written);
@@ -171,7 +188,7 @@ impl From<Way> for AnyWay {
 }
 
 /// The theme stands at this column, counted from 1, with this shift: score minus theme. [`explain`] takes any column and any
-/// shift, and says whether that is so.
+/// shift, and says whether that is so; [`route`] refuses 13 where it is not.
 #[derive(Clone, Copy, PartialEq, Eq, PartialOrd, Ord, Hash, Debug)]
 pub struct Pair {
     /// The column of the theme's first note.
@@ -240,7 +257,7 @@ impl Summary {
 /// Why a call was turned away. Nothing lent was written.
 #[derive(Clone, Copy, PartialEq, Eq, Hash, Debug)]
 pub struct Refusal {
-    /// 1 to 10, 12 or 19: the lowest that applies.
+    /// 1 to 10, 12, 13, 14 or 19: the lowest that applies.
     pub number: u8,
     /// The first bad cell, note or set, from 0; 0 where no place is named.
     pub place: usize,
@@ -270,6 +287,8 @@ impl fmt::Display for Refusal {
             9 => write!(f, "9: the two buffers must be equally long and not empty"),
             10 => write!(f, "10: the bookmark is out of range"),
             12 => write!(f, "12: the summary is not that of the sets"),
+            13 => write!(f, "13: the pair is not listed"),
+            14 => write!(f, "14: the route must have a place for each note"),
             19 => write!(f, "19: the score has no such column"),
             n => write!(f, "{n}: refused at {place}"),
         }
@@ -302,6 +321,10 @@ extern "C" {
     fn finder_explain(
         cells: *const u8, cells_len: usize, tracks: usize, theme: *const u8, theme_len: usize, way: u8, column: u16, shift: i16,
         sets: *const u16, sets_len: usize, answer: *mut i64, answer_len: usize,
+    ) -> i64;
+    fn finder_route(
+        cells: *const u8, cells_len: usize, tracks: usize, theme: *const u8, theme_len: usize, way: u8, column: u16, shift: i16,
+        route: *mut u8, route_len: usize, answer: *mut i64, answer_len: usize,
     ) -> i64;
 }
 

@@ -181,3 +181,90 @@ fn no_explanation() {
         }
     }
 }
+
+/// Three tracks: 60 in the third, 62 in the first and the third, 64 in the first; and three octaves lower in the second.
+const DOUBLED: [u8; 9] = [255, 24, 60, 62, 26, 62, 64, 28, 255];
+
+/// DOUBLED with the theme 60 62 64, exact, at column 1 with shift 0.
+const WANDERS: Asked = Asked { cells: &DOUBLED, tracks: 3, theme: &[60, 62, 64], ..ASKED };
+
+#[test]
+fn a_route_in_numbers() {
+    let route = |asked: Asked, places: usize| asked.route(&vec![99; places], 1);
+    assert_eq!(route(WANDERS, 3), (0, vec![3, 1, 1], vec![1]));
+    // places behind the theme's keep their contents
+    assert_eq!(route(WANDERS, 4), (0, vec![3, 1, 1, 99], vec![1]));
+    assert_eq!(route(WANDERS, 9), (0, vec![3, 1, 1, 99, 99, 99, 99, 99, 99], vec![1]));
+    assert_eq!(route(Asked { way: 1, ..WANDERS }, 4), (0, vec![2, 2, 2, 99], vec![0]));
+    assert_eq!(route(Asked { way: 2, ..WANDERS }, 4), (0, vec![3, 1, 1, 99], vec![1]));
+    assert_eq!(route(ASKED, 2), (0, vec![2, 1], vec![1]));
+    assert_eq!(route(Asked { column: 4, shift: 5, ..ASKED }, 2), (0, vec![2, 2], vec![0]));
+    // the longest theme, and the most changes
+    let long = Asked { cells: &[60; 32], tracks: 1, theme: &[60; 32], ..ASKED };
+    assert_eq!(route(long, 33), (0, [vec![1; 32], vec![99]].concat(), vec![0]));
+    let turns: Vec<u8> = (0..32).flat_map(|i| if i % 2 == 0 { [60, 255] } else { [255, 60] }).collect();
+    let long = Asked { cells: &turns, tracks: 2, theme: &[60; 32], ..ASKED };
+    assert_eq!(route(long, 32), (0, [1, 2].repeat(16), vec![31]));
+}
+
+#[test]
+fn a_refused_route() {
+    // the buffer has places for the route, or too few; refusals 1 to 5 and 13 come before
+    let refused = |asked: Asked| {
+        let results = [0, 1, asked.theme.len(), 40].map(|places| {
+            let before = vec![99; places];
+            let (result, route, answer) = asked.route(&before, 1);
+            assert_eq!((route, answer), (before, unanswered(1)));
+            result
+        });
+        assert!(results.iter().all(|result| *result == results[0]), "{results:?}");
+        results[0]
+    };
+    assert_eq!(refused(Asked { tracks: 0, ..WANDERS }), 1);
+    assert_eq!(refused(Asked { tracks: 17, theme: &[200], column: 0, ..WANDERS }), 1);
+    assert_eq!(refused(Asked { tracks: 2, theme: &[200], column: 0, ..WANDERS }), 2);
+    assert_eq!(refused(Asked { cells: &[60, 67, 128], theme: &[200], column: 0, ..WANDERS }), 3 + 2 * 256);
+    assert_eq!(refused(Asked { theme: &[200], column: 0, ..WANDERS }), 4);
+    assert_eq!(refused(Asked { theme: &[60; 33], column: 0, ..WANDERS }), 4);
+    assert_eq!(refused(Asked { theme: &[60, 62, 200], column: 0, ..WANDERS }), 5 + 2 * 256);
+    for column in [0, 2, 3, 4, 5, 2048, 65535] {
+        assert_eq!(refused(Asked { column, ..WANDERS }), 13);
+    }
+    for shift in [-32768, -256, -128, -1, 1, 12, 128, 256, 32767] {
+        for way in [0, 1, 2] {
+            assert_eq!(refused(Asked { way, shift, ..WANDERS }), 13);
+        }
+    }
+    // one place is missing
+    for way in [0, 1, 2] {
+        for places in [0, 1, 2] {
+            assert_eq!(Asked { way, ..WANDERS }.route(&vec![99; places], 1), (14, vec![99; places], unanswered(1)));
+        }
+    }
+    // the last cell of the longest score: the highest place that a refusal names
+    let mut cells = vec![60; 2048 * 16];
+    cells[32767] = 254;
+    assert_eq!(refused(Asked { cells: &cells, tracks: 16, ..WANDERS }), 3 + 32767 * 256);
+}
+
+#[test]
+fn no_route() {
+    let wrong = Asked { tracks: 17, theme: &[200], column: 0, shift: 500, ..WANDERS };
+    for asked in [WANDERS, wrong] {
+        for room in [0, 3, 9] {
+            let before = vec![99; room];
+            for places in [0, 2, 5, 69] {
+                for way in [0, 1, 2] {
+                    let left = (NO_CALL, before.clone(), unanswered(places));
+                    assert_eq!(Asked { way, ..asked }.route(&before, places), left);
+                }
+            }
+            for way in [3, 4, 127, 128, 255] {
+                for places in [1, 2] {
+                    let left = (NO_CALL, before.clone(), unanswered(places));
+                    assert_eq!(Asked { way, ..asked }.route(&before, places), left);
+                }
+            }
+        }
+    }
+}

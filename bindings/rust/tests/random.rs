@@ -6,7 +6,8 @@ mod third;
 
 use calls::{heard, Random};
 use finder::{
-    explain, occurs, pairs, plain_page, plain_pairs, prepare, quick_page, update, AnyWay, Pair, Prepared, Refusal, Summary,
+    explain, occurs, pairs, plain_page, plain_pairs, prepare, quick_page, route, route_into, update, AnyWay, Bookmark, Pair,
+    Prepared, Refusal, Summary,
 };
 use third::{summary_of, Call, Lent};
 
@@ -24,24 +25,29 @@ fn same(call: &Call) -> Option<usize> {
     let mut after = lent.clone();
     let answer = plain_page(cells, *tracks, theme, *way, *bookmark, &mut after.columns, &mut after.shifts);
     assert_eq!((answer, after), call.page(false), "plain {call:?}");
-    let AnyWay::Moved(way) = *way else { return answer.ok().map(|page| page.written) };
+    let written = answer.ok().map(|page| page.written);
+
+    let pair = Pair { column: bookmark.column, shift: bookmark.shift };
+    let mut after = lent.route.clone();
+    let answer = route_into(cells, *tracks, theme, *way, pair, &mut after);
+    assert_eq!((answer, after), call.route(pair), "route {call:?}");
+    let AnyWay::Moved(way) = *way else { return written };
 
     let mut after = lent.clone();
     let answer = occurs(cells, *tracks, theme, way, &after.sets, *summary, &mut after.table);
     assert_eq!((answer, after), call.occurs(), "question {call:?}");
 
-    let pair = Pair { column: bookmark.column, shift: bookmark.shift };
     let answer = explain(cells, *tracks, theme, way, pair, &lent.sets);
     assert_eq!(answer, call.explain(pair), "explanation {call:?}");
 
     let mut after = lent.clone();
-    let Lent { sets, table, columns, shifts } = &mut after;
+    let Lent { sets, table, columns, shifts, .. } = &mut after;
     let answer = quick_page(cells, *tracks, theme, way, *bookmark, sets, table, columns, shifts);
     assert_eq!((answer, after), call.page(true), "quick {call:?}");
     answer.ok().map(|page| page.written)
 }
 
-/// Page after page, and the iterators: the whole list.
+/// Page after page, and the iterators: the whole list, and the routes of some of its pairs.
 fn same_list(call: &Call) -> Vec<(u16, i16)> {
     let Call { cells, tracks, theme, way, .. } = call;
     let mut whole = call.clone();
@@ -65,6 +71,11 @@ fn same_list(call: &Call) -> Vec<(u16, i16)> {
         let prepared = Prepared::new(cells, *tracks).unwrap();
         assert_eq!((Ok(prepared.summary()), prepared.sets().to_vec()), whole.prepare());
         assert_eq!(prepared.occurs(cells, *tracks, theme, way), Ok(!list.is_empty()));
+    }
+
+    for (column, shift) in list.iter().take(20) {
+        let pair = Pair { column: *column, shift: *shift };
+        assert_eq!(route(cells, *tracks, theme, *way, pair), Ok(call.routed(pair)), "{pair:?} {call:?}");
     }
 
     let room = call.lent.columns.len().min(3);
@@ -265,7 +276,7 @@ fn change_after_change() {
 #[test]
 fn damaged_calls() {
     let mut random = Random(0x0dd0_1ead_5eed_0002);
-    let (mut refused, mut numbers, mut unexplained) = (0, [0; 20], [0; 8]);
+    let (mut refused, mut numbers, mut unexplained, mut unrouted) = (0, [0; 20], [0; 8], [0; 15]);
     for _ in 0..60000 {
         let mut call = random.call(4, 12, 6);
         for _ in 0..random.from(1, 3) {
@@ -281,6 +292,10 @@ fn damaged_calls() {
         if let Err(refusal) = call.check_explanation() {
             unexplained[usize::from(refusal.number)] += 1;
         }
+        let Bookmark { column, shift } = call.bookmark;
+        if let Err(refusal) = call.check_route(Pair { column, shift }) {
+            unrouted[usize::from(refusal.number)] += 1;
+        }
     }
     assert!((20000..59000).contains(&refused), "{refused} refused");
     // each number of the update and of the question
@@ -289,4 +304,6 @@ fn damaged_calls() {
     }
     // and of the explainer
     assert!(unexplained[1..].iter().all(|many| *many > 500), "{unexplained:?}");
+    // and of the router; of the damaged calls few have a bookmark that is a listed pair
+    assert!(unrouted[1..6].iter().all(|many| *many > 500) && unrouted[13] > 10000 && unrouted[14] > 20, "{unrouted:?}");
 }

@@ -1,43 +1,21 @@
 //! The example `why` as it is run: what it prints, and the code with which it ends.
 
-use std::fs;
-use std::path::{Path, PathBuf};
-use std::process::Command;
+mod program;
+
+use program::{example, file_with, hits_of_examples, Ended};
 
 /// The chords of a score of five columns and two tracks, in which 67 62 stands at columns 1, 2 and 4.
 const CHORDS: &str = "chord\t60\t67\nchord\t62\t69\nchord\t64\t-\nchord\t65\t72\nchord\t-\t67\n";
 
-/// The code, what is printed, and what is said of an error.
-type Ended = (Option<i32>, String, String);
-
-/// Runs the example, which `cargo test` builds beside the tests.
 fn run(args: &[&str]) -> Ended {
-    let test = std::env::current_exe().unwrap();
-    let program = test.ancestors().nth(2).unwrap().join("examples/why");
-    let ended = Command::new(&program).args(args).output().unwrap_or_else(|error| {
-        panic!("{}: {error}; `cargo build --example why` builds it", program.display());
-    });
-    let text = |bytes| String::from_utf8(bytes).unwrap();
-    (ended.status.code(), text(ended.stdout), text(ended.stderr))
-}
-
-/// The path of a bundled example.
-fn example(name: &str) -> PathBuf {
-    Path::new(env!("CARGO_MANIFEST_DIR")).join("../../examples").join(name)
+    program::run("why", args)
 }
 
 /// What is printed of a pair of a bundled example.
 fn printed(name: &str, column: &str, shift: &str) -> String {
-    let (code, printed, said) = run(&[example(name).to_str().unwrap(), column, shift]);
+    let (code, printed, said) = run(&[&example(name), column, shift]);
     assert_eq!((code, said.as_str()), (Some(0), ""));
     printed
-}
-
-/// The path of a file of this name, which holds this text from now on.
-fn file_with(name: &str, text: &str) -> String {
-    let path = Path::new(env!("CARGO_TARGET_TMPDIR")).join(name);
-    fs::write(&path, text).unwrap();
-    path.to_str().unwrap().to_string()
 }
 
 #[test]
@@ -61,7 +39,7 @@ fn pairs_of_examples() {
 fn a_tune_in_its_own_key() {
     assert_eq!(printed("k-written.txt", "1", "0"), "listed: tracks 2 1\nthe sets keep column 1\n");
     assert_eq!(printed("k-written.txt", "2", "0"), "note 1 is absent from column 2\nthe sets keep column 2\n");
-    let (code, printed, said) = run(&[example("k-written.txt").to_str().unwrap(), "2", "2"]);
+    let (code, printed, said) = run(&[&example("k-written.txt"), "2", "2"]);
     assert_eq!((code, printed.as_str()), (Some(2), ""));
     let why = "its theme is written, which has shift 0 alone; only exact and octave can be explained\n";
     assert!(said.starts_with("why: ") && said.ends_with(why), "{said}");
@@ -69,22 +47,12 @@ fn a_tune_in_its_own_key() {
 
 #[test]
 fn every_hit_of_the_examples_is_listed() {
-    let mut hits = 0;
-    for entry in fs::read_dir(example("")).unwrap() {
-        let path = entry.unwrap().path();
-        if path.extension().is_some_and(|end| end == "expected") {
-            let input = path.with_extension("txt");
-            for hit in fs::read_to_string(&path).unwrap().lines().filter(|line| line.starts_with("hit")) {
-                let fields: Vec<&str> = hit.split('\t').collect();
-                let (code, printed, _) = run(&[input.to_str().unwrap(), fields[1], fields[2]]);
-                let kept = format!("\nthe sets keep column {}\n", fields[1]);
-                assert_eq!(code, Some(0));
-                assert!(printed.starts_with("listed: tracks ") && printed.ends_with(&kept), "{hit}: {printed}");
-                hits += 1;
-            }
-        }
+    for (input, column, shift) in hits_of_examples() {
+        let (code, printed, _) = run(&[&input, &column, &shift]);
+        let kept = format!("\nthe sets keep column {column}\n");
+        assert_eq!(code, Some(0));
+        assert!(printed.starts_with("listed: tracks ") && printed.ends_with(&kept), "{input}: {printed}");
     }
-    assert!(hits > 10, "{hits}");
 }
 
 #[test]

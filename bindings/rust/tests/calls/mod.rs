@@ -51,7 +51,8 @@ impl Random {
     }
 
     /// A call with nothing wrong: few or many pitches, with or without empty columns, a theme picked from the score or of its
-    /// own, sets of this score, of another or of none, with their summary, any bookmark, any column as the changed one.
+    /// own, sets of this score, of another or of none, with their summary, any bookmark, any column as the changed one, and a
+    /// route that is long enough.
     pub fn call(&mut self, most_tracks: usize, most_columns: usize, most_notes: usize) -> Call {
         let tracks = self.from(1, most_tracks);
         let n = self.from(1, most_columns);
@@ -85,6 +86,7 @@ impl Random {
             table: vec![self.next() as u32; 4096],
             columns: vec![self.next() as u16; room],
             shifts: vec![self.next() as i16; room],
+            route: vec![self.next() as u8; m + [0, 0, 1, 40][self.from(0, 3)]],
         };
         let changed = self.from(1, n) as u16;
         let mut call = Call { cells, tracks, theme, way, bookmark, summary: Summary(0), changed, lent };
@@ -139,7 +141,7 @@ impl Random {
     /// Something wrong, or near to it.
     pub fn damage(&mut self, call: &mut Call) {
         let lent = &mut call.lent;
-        match self.from(1, 14) {
+        match self.from(1, 15) {
             1 => call.tracks = [0, 15, 16, 17, usize::MAX][self.from(0, 4)],
             2 => call.cells.push(60),
             3 => call.cells.clear(),
@@ -168,7 +170,8 @@ impl Random {
                 let near = [right, right ^ 1 << self.from(0, 11), right | 4096, 4095, 65535, 0];
                 call.summary = Summary(near[self.from(0, 5)]);
             }
-            13 => {
+            13 => lent.route.truncate([0, 1, call.theme.len().max(1) - 1, call.theme.len()][self.from(0, 3)]),
+            14 => {
                 let n = call.cells.len().checked_div(call.tracks).unwrap_or(0);
                 call.changed = [0, 1, n as u16, (n + 1) as u16, 65535][self.from(0, 4)];
             }

@@ -1,7 +1,7 @@
 //! What each call refuses, and in which order.
 
 use super::{summary_of, Call};
-use finder::Refusal;
+use finder::{Pair, Refusal};
 
 fn refuse<T>(number: u8, place: usize) -> Result<T, Refusal> {
     Err(Refusal { number, place })
@@ -44,6 +44,19 @@ impl Call {
         self.check_theme()?;
         self.check_sets_len()?;
         self.check_sets()
+    }
+
+    /// Of a route.
+    pub fn check_route(&self, pair: Pair) -> Result<(), Refusal> {
+        self.check_score()?;
+        self.check_theme()?;
+        if self.holders(pair).is_none() {
+            return refuse(13, 0);
+        }
+        if self.lent.route.len() < self.theme.len() {
+            return refuse(14, 0);
+        }
+        Ok(())
     }
 
     /// Of a page, plain or quick.

@@ -55,7 +55,7 @@ impl Call {
     }
 
     /// Whether column k has, in this track, a pitch that is taken for this one.
-    fn sounds(&self, k: usize, track: usize, pitch: i32) -> bool {
+    pub fn sounds(&self, k: usize, track: usize, pitch: i32) -> bool {
         let cell = i32::from(self.cells[(k - 1) * self.tracks + track - 1]);
         let octaves_apart = (cell - pitch) % 12 == 0;
         cell != 255 && (cell == pitch || self.way == AnyWay::Moved(Way::Octave) && octaves_apart)

@@ -4,6 +4,7 @@
 
 mod checks;
 mod explaining;
+pub mod routing;
 
 use finder::{AnyWay, Bookmark, Page, Refusal, Summary, Way};
 
@@ -14,6 +15,7 @@ pub struct Lent {
     pub table: Vec<u32>,
     pub columns: Vec<u16>,
     pub shifts: Vec<i16>,
+    pub route: Vec<u8>,
 }
 
 #[derive(Clone, Debug)]
