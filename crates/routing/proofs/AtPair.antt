@@ -71,10 +71,9 @@ column-some j b e = ltb-true 0 j (both-left (ltb 0 j) b e)
 
 -- ---- by shift, column and notes
 
-module _ {said : Bool} {found : List ℕ} {all : Bool} {sets : List ℕ} where
-  -- a pair that is not listed
-  pub held-none : all ≡ false → said ≡ false → Held said found all sets
-  held-none a s = record { told = a ∙ sym s; found-all = λ w. absurd (false≢true (sym a ∙ w)) }
+-- a pair that is not listed
+pub held-none : {said : Bool} {found lent sets : List ℕ} → said ≡ false → Held said found lent false sets
+held-none s = record { told = sym s; found-all = λ w. absurd (false≢true w) }
 
 module _ (way : Way) (score : List (List ℕ)) (theme : List ℕ) (pair : Pair) where
   pub by-shift : noShift way (pair .shift) ≡ true → listedBy way score theme pair ≡ false
@@ -85,10 +84,11 @@ module _ (way : Way) (score : List (List ℕ)) (theme : List ℕ) (pair : Pair) 
     by-column e = rw (shift, e)
 
     pub by-notes : (ltb 0 (pair .column .0) && heard (column score (pair .column))) ≡ true → {code : ℕ} → code ≡ codeGiven way (pair .shift)
-        → {all : Bool} {sets : List ℕ}
-        → Held (heldAlong way code theme (onward score (pair .column))) (holdersAlong way code theme (onward score (pair .column))) all sets
-        → Held (listedBy way score theme pair) (holdersAt way score theme pair) all sets
-    by-notes e {code} c {all} {sets} a =
+        → {lent sets : List ℕ} {all : Bool}
+        → Held (heldAlong way code theme (onward score (pair .column))) (holdersAlong way code theme (onward score (pair .column)))
+        lent all sets
+        → Held (listedBy way score theme pair) (holdersAt way score theme pair) lent all sets
+    by-notes e {code} c {lent} {sets} {all} a =
         let own : code ≡ codeOf way (pair .shift) = c ∙ code-of-shift way (pair .shift) shift in
         rw (shift, e) (rw own at a)
 
@@ -98,7 +98,7 @@ module _ (score : List (List ℕ)) (theme : List ℕ) (pair : Pair) where
   pub written-shift : outside (pair .shift) (pos 0) (pos 0) ≡ true → listed Written score theme pair ≡ false
   written-shift e = rw e
 
-  pub written-exact : outside (pair .shift) (pos 0) (pos 0) ≡ false → {all : Bool} {sets : List ℕ}
-      → Held (listedBy Exact score theme pair) (holdersAt Exact score theme pair) all sets
-      → Held (listed Written score theme pair) (holdersAt Exact score theme pair) all sets
+  pub written-exact : outside (pair .shift) (pos 0) (pos 0) ≡ false → {lent sets : List ℕ} {all : Bool}
+      → Held (listedBy Exact score theme pair) (holdersAt Exact score theme pair) lent all sets
+      → Held (listed Written score theme pair) (holdersAt Exact score theme pair) lent all sets
   written-exact e a = rw e a

@@ -7,7 +7,7 @@ use Prim.Native.Nat.{ℕ, suc, _+_, _-_, _*_, _≤_, _<_, zero-le}
 use native.Mathlib.Nat.{lt-irrefl}
 use native.Mathlib.Omega.{arith}
 use lib.Dec.{ltb, eqb}
-use lib.ListN.{length, getD, take, drop, set, replicate, length-set, length-append, drop-of-length-le}
+use lib.ListN.{length, getD, take, drop, set, length-set, length-append, drop-of-length-le}
 use lib.Seq.{drop-cons}
 use borrow.Author.Tests.{ltb-true, ltb-false, not-true, not-false, eq-eqb, ne-eqb}
 use Rattle.theory.specs.Lists.{over, some}
@@ -20,13 +20,9 @@ use Rattle.ways.specs.declared.way.Way.{Way}
 use Rattle.ways.specs.declared.way.Way.the-variants.{Exact, Octave}
 use Rattle.ways.specs.Way.{holds}
 use Rattle.score.specs.declared.quantities.Pitch.{Pitch}
-use Rattle.asking.specs.Limits.{mostNotes}
 use Rattle.routing.specs.Routing.{heldAlong}
 use Rattle.routing.specs.Sets.{holders, holdersAlong, Held}
 use Rattle.routing.proofs.TrackSets.{holders-none}
-
-abbrev zeros : List ℕ
-zeros = replicate mostNotes 0
 
 -- ---- one column
 
@@ -47,7 +43,7 @@ holds-heard way code p column e = pick (heard column) refl
 pub column-few : (cells : List ℕ) (h k : ℕ) → k < columnsIn cells h → length (take (k * h + h - k * h) (drop (k * h) cells)) ≤ h
 column-few cells h k l = rw (column-cells cells h k (k * h) refl l) (column-le (columnsIn cells h) h cells k)
 
-module _ (way : Way) (code : ℕ) (cells : List ℕ) (h : ℕ) (theme : List ℕ) (passed : ℕ) where
+module _ (way : Way) (code : ℕ) (cells : List ℕ) (h : ℕ) (theme : List ℕ) (passed : ℕ) (lent : List ℕ) where
   abbrev score : List (List ℕ)
   score = scoreOf cells h
 
@@ -56,14 +52,14 @@ module _ (way : Way) (code : ℕ) (cells : List ℕ) (h : ℕ) (theme : List ℕ
 
   pub record Following (sets : List ℕ) (k q : ℕ) : Type 0 where
     pub done : List ℕ
-    pub so-far : sets ≡ over zeros done
+    pub so-far : sets ≡ over lent done
     pub many : length done ≡ q
     pub held-left : heldAlong way code (drop q theme) (left k) ≡ heldAlong way code theme (left passed)
     pub sets-left : done ++ holdersAlong way code (drop q theme) (left k) ≡ holdersAlong way code theme (left passed)
     pub within : q ≤ length theme
-    pub long : length sets ≡ mostNotes
+    pub long : length sets ≡ length lent
 
-  pub following-start : Following zeros passed 0
+  pub following-start : Following lent passed 0
   following-start = record { done = []; so-far = refl; many = refl; held-left = refl; sets-left = refl; within = zero-le; long = refl }
 
   module _ {sets : List ℕ} {k q : ℕ} (f : Following sets k q) where
@@ -105,14 +101,14 @@ module _ (way : Way) (code : ℕ) (cells : List ℕ) (h : ℕ) (theme : List ℕ
         not-here z = not-true (holds way code p here) (sym (holders-none way code p here) ∙ eq-eqb _ _ (sym own ∙ z))
 
         -- a track holds the note
-        pub following-took : length theme ≤ mostNotes → (s ≡ 0 → ⊥) → Following (set sets q s) (k + 1) (q + 1)
+        pub following-took : length theme ≤ length lent → (s ≡ 0 → ⊥) → Following (set sets q s) (k + 1) (q + 1)
         unfolding heldAlong holdersAlong
         following-took few z =
             let there = held-here z in
             let l = left-heard (holds-heard way code p here there) in
             record {
               done = f .done ++ (s ∷ []);
-              so-far = ap (λ (d : List ℕ). set d q s) (f .so-far) ∙ over-more zeros (f .done) 0 q s (f .many) (omega (arith, more, few));
+              so-far = ap (λ (d : List ℕ). set d q s) (f .so-far) ∙ over-more lent (f .done) 0 q s (f .many) (omega (arith, more, few));
               many = length-append (f .done) (s ∷ []) ∙ ap (λ (m : ℕ). m + 1) (f .many);
               held-left = rw there at (rw (notes-split, l) at (f .held-left));
               sets-left = append-assoc (f .done) (s ∷ []) _ ∙ rw own (rw (notes-split, l) at (f .sets-left));
@@ -136,7 +132,7 @@ module _ (way : Way) (code : ℕ) (cells : List ℕ) (h : ℕ) (theme : List ℕ
 
         -- none does, and the column has a pitch
         pub following-failed : s ≡ 0 → {b : Bool} → b ≡ not (heard column) → not b ≡ true
-            → Held (heldAlong way code theme (left passed)) (holdersAlong way code theme (left passed)) false sets
+            → Held (heldAlong way code theme (left passed)) (holdersAlong way code theme (left passed)) lent false sets
         unfolding heldAlong
         following-failed z {b} g t =
             let l = left-heard (not-false _ (ap (λ (c : List ℕ). not (heard c)) (sym same) ∙ sym g ∙ not-true b t)) in
@@ -144,7 +140,7 @@ module _ (way : Way) (code : ℕ) (cells : List ℕ) (h : ℕ) (theme : List ℕ
 
     -- the columns or the notes are at an end
     pub following-end : {n : ℕ} → n ≡ columnsIn cells h → (ltb k n && ltb q (length theme)) ≡ false
-        → Held (heldAlong way code theme (left passed)) (holdersAlong way code theme (left passed)) (eqb q (length theme)) sets
+        → Held (heldAlong way code theme (left passed)) (holdersAlong way code theme (left passed)) lent (eqb q (length theme)) sets
     unfolding heldAlong holdersAlong
     following-end {n} e z = pick (ltb q (length theme)) refl
       where
@@ -153,7 +149,7 @@ module _ (way : Way) (code : ℕ) (cells : List ℕ) (h : ℕ) (theme : List ℕ
         first-false false w = refl
 
         pick : (t : Bool) → ltb q (length theme) ≡ t
-            → Held (heldAlong way code theme (left passed)) (holdersAlong way code theme (left passed)) (eqb q (length theme)) sets
+            → Held (heldAlong way code theme (left passed)) (holdersAlong way code theme (left passed)) lent (eqb q (length theme)) sets
         pick true g =
             let l : q < length theme = ltb-true q (length theme) g in
             let past : n ≤ k = ltb-false k n (first-false (ltb k n) (rw g at z)) in
@@ -168,5 +164,5 @@ module _ (way : Way) (code : ℕ) (cells : List ℕ) (h : ℕ) (theme : List ℕ
             let none : drop q theme ≡ [] = drop-of-length-le theme {i = q} (omega (arith, all)) in
             record {
               told = eq-eqb q (length theme) all ∙ (rw none at (f .held-left));
-              found-all = λ w. f .so-far ∙ ap (over zeros) (sym (append-nil (f .done)) ∙ (rw none at (f .sets-left)));
+              found-all = λ w. f .so-far ∙ ap (over lent) (sym (append-nil (f .done)) ∙ (rw none at (f .sets-left)));
             }

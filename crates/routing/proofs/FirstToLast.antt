@@ -13,7 +13,7 @@ use Rattle.theory.specs.Bits.{bit}
 use Rattle.theory.specs.Lists.{over}
 use Rattle.theory.proofs.Lists.{over-more}
 use Rattle.score.specs.Limits.{mostTracks}
-use Rattle.routing.specs.Sets.{bestOf, leastOf, nextTrack, chosen, Tracks, Playable, SetsThere, Fewest}
+use Rattle.routing.specs.Sets.{bestOf, nextTrack, chosen, Tracks, Playable, SetsThere, Best}
 use Rattle.routing.proofs.FewestChanges.{playable-head, best-tracks}
 use Rattle.routing.proofs.NextTrack.{next-few}
 
@@ -39,7 +39,7 @@ module _ (sets : List ℕ) (m : ℕ) (lent : List ℕ) where
     notes-length : length (take m sets) ≡ m
     notes-length = omega (arith, length-take m sets, there .room)
 
-    module _ {best : List ℕ} (few : Fewest (take m sets) (leastOf (take m sets)) best) {route : List ℕ} {t i : ℕ} (s : Choosing route t i)
+    module _ {best : List ℕ} (few : Best (take m sets) best) {route : List ℕ} {t i : ℕ} (s : Choosing route t i)
         (l : i < m) where
       split : drop i (take m sets) ≡ getD sets i 0 ∷ drop (i + 1) (take m sets)
       split =

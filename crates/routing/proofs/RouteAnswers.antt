@@ -89,7 +89,7 @@ module _ (cells : List ℕ) (h : ℕ) (theme : List ℕ) (way : AnyWay) (pair : 
       goes : {w : Verdict} → w ≡ verdict more → verdict rows ≡ w
       goes e = sym (gone-on (requestRows mostNotes cells h theme) more checked passed e)
 
-      module _ {all : Bool} {sets : List ℕ} (held : Held (listed way score theme pair) (holdersAt (wayAs way) score theme pair) all sets) where
+      module _ {all : Bool} {sets : List ℕ} (held : Held (listed way score theme pair) (holdersAt (wayAs way) score theme pair) zeros all sets) where
         pub answer-unlisted : not all ≡ true → Routes cells h theme way pair lent (Refused thirteen) lent
         answer-unlisted z = routes-away (goes (rw (← held .told, z)))
 

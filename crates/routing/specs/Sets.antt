@@ -8,7 +8,7 @@ use Prim.Native.Nat.{ℕ, _+_, _-_, _*_, _^_, _≤_, _<_}
 use lib.Bits.{bitAnd, bitOr}
 use lib.Count.{trailingZeros}
 use lib.Dec.{eqb}
-use lib.ListN.{length, getD, take, drop, replicate}
+use lib.ListN.{length, getD, take, drop}
 use Rattle.theory.specs.Bits.{bit}
 use Rattle.theory.specs.Lists.{over}
 use Rattle.score.specs.declared.quantities.Pitch.{Pitch}
@@ -40,10 +40,10 @@ holdersAlong way code (p ∷ theme) (c ∷ columns) = holders way code (pitch p)
 abbrev pub holdersAt : Way → (score : List (List ℕ)) (theme : List ℕ) → Pair → List ℕ
 holdersAt way score theme pair = holdersAlong way (codeOf way (pair .shift)) theme (onward score (pair .column))
 
--- what is told of a pair: whether it is listed, and if so, the sets of its notes, from the front of the array
-pub record Held (said : Bool) (found : List ℕ) (all : Bool) (sets : List ℕ) : Type 0 where
+-- what is told of a pair: whether it is listed, and if so, the sets of its notes, over the front of what was lent
+pub record Held (said : Bool) (found lent : List ℕ) (all : Bool) (sets : List ℕ) : Type 0 where
   pub told : all ≡ said
-  pub found-all : all ≡ true → sets ≡ over (replicate mostNotes 0) found
+  pub found-all : all ≡ true → sets ≡ over lent found
 
 -- ---- the fewest changes, from the last note to the first
 
@@ -94,8 +94,7 @@ pub record SetsThere (sets : List ℕ) (m : ℕ) : Type 0 where
   pub room : m ≤ length sets
   pub playable : Playable (take m sets)
 
--- what goes from the last note to the first leaves: the fewest changes, and of each note the best tracks
-pub record Fewest (sets : List ℕ) (changes : ℕ) (best : List ℕ) : Type 0 where
-  pub least : changes ≡ leastOf sets
+-- what goes from the last note to the first leaves: of each note the best tracks
+pub record Best (sets best : List ℕ) : Type 0 where
   pub room : length sets ≤ length best
   pub each : (k : ℕ) → k < length sets → getD best k 0 ≡ bestOf (drop k sets)

@@ -1,7 +1,6 @@
 // The notes of a theme along the columns in which they are sought: whether each is held there, and by which tracks.
 
 use crate::holders::holders;
-use asking::MOST_NOTES;
 use passing::is_empty;
 use score::Pitch;
 use score::columns_in;
@@ -14,14 +13,9 @@ ghost use Rattle.asking.specs.Limits.{mostNotes};
 ghost use Rattle.routing.specs.Routing.{heldAlong};
 ghost use Rattle.routing.specs.Sets.{Held, holdersAlong};
 
-// Whether every note is held; and if so, the set of the tracks that hold each, from the front.
-pub struct Holding {
-    pub all: bool,
-    pub sets: [u32; MOST_NOTES],
-}
-
-// The notes moved by the code's shift, in the columns with a pitch behind so many. A column in which a track holds the note has a
-// pitch, so only the others are asked for one. It ends at the first note that its column does not hold.
+// Whether every note is held, moved by the code's shift, in the columns with a pitch behind so many; if so, the set of the tracks that
+// hold each is left over the front of `sets`. A column in which a track holds the note has a pitch, so only the others are asked for
+// one. It ends at the first note that its column does not hold.
 pub fn held_behind(
     cells: &[u8],
     tracks: usize,
@@ -29,12 +23,12 @@ pub fn held_behind(
     way: Way,
     code: u16,
     passed: usize,
-) -> Holding
-    requires { ⌜ (tracks ≤ mostTracks) × (length (now theme) ≤ mostNotes) ⌝ }
-    ensures { λ r. ⌜ Held (heldAlong way code (now (theme .entry)) (heardOf (drop passed (scoreOf (now (cells .entry)) tracks)))) (holdersAlong way code (now (theme .entry)) (heardOf (drop passed (scoreOf (now (cells .entry)) tracks)))) (r .all) (r .sets) ⌝ }
+    sets: &mut [u32],
+) -> bool
+    requires { ⌜ (tracks ≤ mostTracks) × (length (now theme) ≤ mostNotes) × (length (now theme) ≤ length (now sets)) ⌝ }
+    ensures { λ r. ⌜ Held (heldAlong way code (now (theme .entry)) (heardOf (drop passed (scoreOf (now (cells .entry)) tracks)))) (holdersAlong way code (now (theme .entry)) (heardOf (drop passed (scoreOf (now (cells .entry)) tracks)))) (now (sets .entry)) r (now (sets .exit)) ⌝ }
 {
     let n = columns_in(cells, tracks);
-    let mut sets = [0u32; MOST_NOTES];
     let mut k = passed;
     let mut q: usize = 0;
     while (k < n) & (q < theme.len()) {
@@ -46,11 +40,8 @@ pub fn held_behind(
             sets[q] = set;
             q += 1;
         } else if !is_empty(&cells[base..end]) {
-            return Holding { all: false, sets };
+            return false;
         }
     }
-    Holding {
-        all: q == theme.len(),
-        sets,
-    }
+    q == theme.len()
 }

@@ -1,11 +1,12 @@
 // The tracks of the route, chosen from the first note to the last.
 
 use crate::fewest::backward;
+use asking::MOST_NOTES;
 ghost use mathlib.Core.Path.{_≡_};
 ghost use Prim.Native.Nat.{_≤_, _<_};
 ghost use lib.ListN.{length, take};
 ghost use Rattle.theory.specs.Lists.{over};
-ghost use Rattle.routing.specs.Sets.{SetsThere, Fewest, leastOf, nextTrack, chosen};
+ghost use Rattle.routing.specs.Sets.{SetsThere, Best, leastOf, nextTrack, chosen};
 
 // The track after track t, for a note that the tracks of the set hold, with the best of them. Where t is best it stays. Otherwise it
 // has to change here or later: the lowest track that is best, or t itself where that is lower and holds the note.
@@ -21,7 +22,7 @@ fn next_track(t: u32, set: u32, best: u32) -> u32
 
 // Writes the tracks of the first m notes. No track is number 0, so the first note's is the lowest of its best.
 fn choose(sets: &[u32], best: &[u32], m: usize, route: &mut [u8])
-    requires { ⌜ SetsThere (now sets) m × Fewest (take m (now sets)) (leastOf (take m (now sets))) (now best) × (m ≤ length (now route)) ⌝ }
+    requires { ⌜ SetsThere (now sets) m × Best (take m (now sets)) (now best) × (m ≤ length (now route)) ⌝ }
     ensures { λ _. ⌜ now (route .exit) ≡ over (now (route .entry)) (chosen 0 (take m (now (sets .entry)))) ⌝ }
 {
     let mut t: u32 = 0;
@@ -38,7 +39,8 @@ pub fn write_route(sets: &[u32], m: usize, route: &mut [u8]) -> u8
     requires { ⌜ SetsThere (now sets) m × (m ≤ length (now route)) ⌝ }
     ensures { λ r. ⌜ (r ≡ leastOf (take m (now (sets .entry)))) × (now (route .exit) ≡ over (now (route .entry)) (chosen 0 (take m (now (sets .entry))))) ⌝ }
 {
-    let b = backward(sets, m);
-    choose(sets, &b.best, m, route);
-    b.changes
+    let mut best = [0u32; MOST_NOTES];
+    let changes = backward(sets, m, &mut best);
+    choose(sets, &best, m, route);
+    changes
 }

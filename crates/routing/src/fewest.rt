@@ -1,26 +1,20 @@
 // The fewest changes that are left from each note on, and the tracks from which they are so few.
 
-use asking::MOST_NOTES;
-ghost use lib.ListN.{take};
-ghost use Rattle.routing.specs.Sets.{SetsThere, Fewest};
+ghost use mathlib.Core.Path.{_≡_};
+ghost use Prim.Native.Nat.{_≤_};
+ghost use lib.ListN.{length, take};
+ghost use Rattle.routing.specs.Sets.{SetsThere, Best, leastOf};
 
 // The set that stands for the note behind the last, which any track may have.
 const EVERY_TRACK: u32 = 0xffff_ffff;
 
-// How many changes the whole theme has at least, and for each note the best of the tracks that hold it: those from which the fewest
-// changes are left.
-pub struct Ahead {
-    pub changes: u8,
-    pub best: [u32; MOST_NOTES],
-}
-
-// From the last note to the first. A track that is best for the next note is best for this one if it holds it. Where there is no
-// such track the route changes, and every track that holds this note is as good as any other.
-pub fn backward(sets: &[u32], m: usize) -> Ahead
-    requires { ⌜ SetsThere (now sets) m ⌝ }
-    ensures { λ r. ⌜ Fewest (take m (now (sets .entry))) (r .changes) (r .best) ⌝ }
+// How many changes the first m notes have at least; `best` has then for each note the best of the tracks that hold it: those from
+// which the fewest changes are left. It goes from the last note to the first. A track that is best for the next note is best for this
+// one if it holds it. Where there is no such track the route changes, and every track that holds this note is as good as any other.
+pub fn backward(sets: &[u32], m: usize, best: &mut [u32]) -> u8
+    requires { ⌜ SetsThere (now sets) m × (m ≤ length (now best)) ⌝ }
+    ensures { λ r. ⌜ (r ≡ leastOf (take m (now (sets .entry)))) × Best (take m (now (sets .entry))) (now (best .exit)) ⌝ }
 {
-    let mut best = [0u32; MOST_NOTES];
     let mut changes: u8 = 0;
     let mut next = EVERY_TRACK;
     let mut i = m;
@@ -36,5 +30,5 @@ pub fn backward(sets: &[u32], m: usize) -> Ahead
         }
         best[i] = next;
     }
-    Ahead { changes, best }
+    changes
 }

@@ -1,34 +1,85 @@
-// The tracks of a column that hold a note, as a set: bit t of its number is 1 where track t, from 1, holds the note.
+// The tracks of a column that hold a note, as a set: bit t of its number is 1 where track t, from 1, holds the note. A loop goes from
+// the last cell to the first, so that each turn doubles what it has.
 
+use score::HIGHEST_PITCH;
 use score::Pitch;
 use seeking::cell_holds;
 use ways::Way;
 ghost use mathlib.Core.Path.{_≡_};
 ghost use mathlib.Core.Bool.{cond};
 ghost use Prim.Native.Nat.{_≤_};
+ghost use lib.Dec.{eqb};
 ghost use lib.ListN.{length};
 ghost use Rattle.score.specs.Limits.{mostTracks};
 ghost use Rattle.seeking.specs.Track.{cellHolds};
-ghost use Rattle.routing.specs.Sets.{holders};
+ghost use Rattle.routing.specs.Sets.{setOf, holders};
 
-// The bit of a cell: 1 where it holds the note.
-fn bit_for(cell: u8, way: Way, code: u16, p: Pitch) -> u32
-    ensures { λ r. ⌜ r ≡ cond (cellHolds way code p cell) 1 0 ⌝ }
-{
-    if cell_holds(cell, way, code, p) { 1 } else { 0 }
-}
+// The code of exact's shift 0.
+const UNMOVED: u32 = 127;
 
-// The set of the tracks whose cell holds the note p moved by the code's shift; 0 where none does. It goes from the last cell to the
-// first, so that each turn doubles what it has.
+// The set of the tracks whose cell holds the note p moved by the code's shift; 0 where none does.
 pub fn holders(column: &[u8], way: Way, code: u16, p: Pitch) -> u32
     requires { ⌜ length (now column) ≤ mostTracks ⌝ }
     ensures { λ r. ⌜ r ≡ holders way code p (now (column .entry)) ⌝ }
+{
+    match way {
+        Way::Exact => exact_set(column, code, p) * 2,
+        Way::Octave => class_set(column, code, p) * 2,
+    }
+}
+
+// In exact each cell is asked for one pitch, the first cell as bit 0; where the moved note is no pitch, none is.
+fn exact_set(column: &[u8], code: u16, p: Pitch) -> u32
+    requires { ⌜ length (now column) ≤ mostTracks ⌝ }
+    ensures { λ r. ⌜ r ≡ setOf (cellHolds Way.Exact code p) (now (column .entry)) ⌝ }
+{
+    let moved = p.0 as u32 + code as u32;
+    if (moved < UNMOVED) | (HIGHEST_PITCH as u32 + UNMOVED < moved) {
+        return 0;
+    }
+    pitch_set(column, (moved - UNMOVED) as u8)
+}
+
+// The cells that are this pitch, in the same way.
+fn pitch_set(column: &[u8], wanted: u8) -> u32
+    requires { ⌜ length (now column) ≤ mostTracks ⌝ }
+    ensures { λ r. ⌜ r ≡ setOf (λ cell. eqb cell wanted) (now (column .entry)) ⌝ }
 {
     let mut set: u32 = 0;
     let mut i = column.len();
     while 0 < i {
         i -= 1;
-        set = set * 2 + bit_for(column[i], way, code, p);
+        set = set * 2 + pitch_bit(column[i], wanted);
     }
-    set * 2
+    set
+}
+
+fn pitch_bit(cell: u8, wanted: u8) -> u32
+    ensures { λ r. ⌜ r ≡ cond (eqb cell wanted) 1 0 ⌝ }
+{
+    if cell == wanted { 1 } else { 0 }
+}
+
+// In octave each cell is asked for the class of the moved note.
+fn class_set(column: &[u8], code: u16, p: Pitch) -> u32
+    requires { ⌜ length (now column) ≤ mostTracks ⌝ }
+    ensures { λ r. ⌜ r ≡ setOf (cellHolds Way.Octave code p) (now (column .entry)) ⌝ }
+{
+    let mut set: u32 = 0;
+    let mut i = column.len();
+    while 0 < i {
+        i -= 1;
+        set = set * 2 + class_bit(column[i], code, p);
+    }
+    set
+}
+
+fn class_bit(cell: u8, code: u16, p: Pitch) -> u32
+    ensures { λ r. ⌜ r ≡ cond (cellHolds Way.Octave code p cell) 1 0 ⌝ }
+{
+    if cell_holds(cell, Way::Octave, code, p) {
+        1
+    } else {
+        0
+    }
 }

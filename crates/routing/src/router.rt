@@ -28,8 +28,8 @@ pub fn route(
     if let Verdict::Refused(e) = check_request(cells, tracks, theme, MOST_NOTES) {
         return Routed::Refused(e);
     }
-    let held = held_at(cells, tracks, theme, way, pair);
-    if !held.all {
+    let mut sets = [0u32; MOST_NOTES];
+    if !held_at(cells, tracks, theme, way, pair, &mut sets) {
         return Routed::Refused(Refusal {
             number: 13,
             place: 0,
@@ -42,5 +42,5 @@ pub fn route(
             place: 0,
         });
     }
-    Routed::Changes(write_route(&held.sets, m, route))
+    Routed::Changes(write_route(&sets, m, route))
 }

@@ -1,8 +1,6 @@
 // Whether a pair is listed, and by which tracks each of its notes is then held.
 
-use crate::along::Holding;
 use crate::along::held_behind;
-use asking::MOST_NOTES;
 use passing::is_empty;
 use score::columns_in;
 use ways::AnyWay;
@@ -11,7 +9,7 @@ use ways::Way;
 use ways::code_of;
 use ways::no_shift;
 ghost use mathlib.Core.Path.{_≡_};
-ghost use mathlib.Core.Bool.{false, _&&_};
+ghost use mathlib.Core.Bool.{_&&_};
 ghost use Prim.Native.Nat.{_≤_};
 ghost use lib.Dec.{ltb};
 ghost use lib.IntN.{pos};
@@ -24,18 +22,26 @@ ghost use Rattle.routing.specs.Routes.{wayAs};
 ghost use Rattle.routing.specs.Routing.{listed, listedBy};
 ghost use Rattle.routing.specs.Sets.{Held, holdersAt};
 
-// At a pair of any way. A written pair is an exact one with shift 0.
-pub fn held_at(cells: &[u8], tracks: usize, theme: &[u8], way: AnyWay, pair: Pair) -> Holding
-    requires { ⌜ (tracks ≤ mostTracks) × (length (now theme) ≤ mostNotes) ⌝ }
-    ensures { λ r. ⌜ Held (listed way (scoreOf (now (cells .entry)) tracks) (now (theme .entry)) pair) (holdersAt (wayAs way) (scoreOf (now (cells .entry)) tracks) (now (theme .entry)) pair) (r .all) (r .sets) ⌝ }
+// Whether the pair is listed, of any way; if so, the set of the tracks that hold each note is left over the front of `sets`. A written
+// pair is an exact one with shift 0.
+pub fn held_at(
+    cells: &[u8],
+    tracks: usize,
+    theme: &[u8],
+    way: AnyWay,
+    pair: Pair,
+    sets: &mut [u32],
+) -> bool
+    requires { ⌜ (tracks ≤ mostTracks) × (length (now theme) ≤ mostNotes) × (length (now theme) ≤ length (now sets)) ⌝ }
+    ensures { λ r. ⌜ Held (listed way (scoreOf (now (cells .entry)) tracks) (now (theme .entry)) pair) (holdersAt (wayAs way) (scoreOf (now (cells .entry)) tracks) (now (theme .entry)) pair) (now (sets .entry)) r (now (sets .exit)) ⌝ }
 {
     match way {
-        AnyWay::Moved(w) => held_moved(cells, tracks, theme, w, pair),
+        AnyWay::Moved(w) => held_moved(cells, tracks, theme, w, pair, sets),
         AnyWay::Written => {
             if not_zero(pair.shift) {
-                return none_held();
+                return false;
             }
-            held_moved(cells, tracks, theme, Way::Exact, pair)
+            held_moved(cells, tracks, theme, Way::Exact, pair, sets)
         }
     }
 }
@@ -50,16 +56,6 @@ fn not_zero(shift: i16) -> bool
     0 < shift
 }
 
-// Some note is not held.
-fn none_held() -> Holding
-    ensures { λ r. ⌜ r .all ≡ false ⌝ }
-{
-    Holding {
-        all: false,
-        sets: [0; MOST_NOTES],
-    }
-}
-
 // Whether the score has a column of this number, and this column a pitch.
 fn heard_at(cells: &[u8], tracks: usize, j: usize) -> bool
     ensures { λ r. ⌜ r ≡ (ltb 0 j && heard (column (scoreOf (now (cells .entry)) tracks) (columnAt j))) ⌝ }
@@ -72,19 +68,26 @@ fn heard_at(cells: &[u8], tracks: usize, j: usize) -> bool
     !is_empty(&cells[base..end])
 }
 
-// At a pair of a way that moves the theme: its shift, its column, its notes.
-fn held_moved(cells: &[u8], tracks: usize, theme: &[u8], way: Way, pair: Pair) -> Holding
-    requires { ⌜ (tracks ≤ mostTracks) × (length (now theme) ≤ mostNotes) ⌝ }
-    ensures { λ r. ⌜ Held (listedBy way (scoreOf (now (cells .entry)) tracks) (now (theme .entry)) pair) (holdersAt way (scoreOf (now (cells .entry)) tracks) (now (theme .entry)) pair) (r .all) (r .sets) ⌝ }
+// The same at a pair of a way that moves the theme: its shift, its column, its notes.
+fn held_moved(
+    cells: &[u8],
+    tracks: usize,
+    theme: &[u8],
+    way: Way,
+    pair: Pair,
+    sets: &mut [u32],
+) -> bool
+    requires { ⌜ (tracks ≤ mostTracks) × (length (now theme) ≤ mostNotes) × (length (now theme) ≤ length (now sets)) ⌝ }
+    ensures { λ r. ⌜ Held (listedBy way (scoreOf (now (cells .entry)) tracks) (now (theme .entry)) pair) (holdersAt way (scoreOf (now (cells .entry)) tracks) (now (theme .entry)) pair) (now (sets .entry)) r (now (sets .exit)) ⌝ }
 {
     let column = pair.column;
     let shift = pair.shift;
     let j = column.0 as usize;
     if no_shift(way, shift) {
-        return none_held();
+        return false;
     }
     if !heard_at(cells, tracks, j) {
-        return none_held();
+        return false;
     }
-    held_behind(cells, tracks, theme, way, code_of(way, shift), j - 1)
+    held_behind(cells, tracks, theme, way, code_of(way, shift), j - 1, sets)
 }

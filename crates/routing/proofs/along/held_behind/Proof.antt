@@ -14,18 +14,18 @@ use Rattle.routing.proofs.along.held_behind.Statement.{statement}
 use Rattle.routing.proofs.along.held_behind.Tie as tie
 
 abbrev Inv-loop : tie.InvT-loop
-Inv-loop cells tracks theme way code passed n sets₀ k₀ q₀ sets k q = Following way code cells tracks theme passed sets k q
+Inv-loop cells tracks theme way code passed sets₀ n k₀ q₀ sets k q = Following way code cells tracks theme passed sets₀ sets k q
 
 abbrev μ-loop : tie.MeasureT-loop
-μ-loop cells tracks theme way code passed n sets₀ k₀ q₀ sets k q = columnsIn cells tracks - k
+μ-loop cells tracks theme way code passed sets₀ n k₀ q₀ sets k q = columnsIn cells tracks - k
 
 -- the start, and what is known at a turn: there is a next column and a next note, and the column has room
 abbrev start : tie.In-loop Inv-loop μ-loop → tie.Start Inv-loop μ-loop
-start c = c .before .before .before .before .before
+start c = c .before .before .before .before .before .before
 
 turns : (c : tie.In-loop Inv-loop μ-loop) → let a = start c .args in
     (c .before .loop .k < columnsIn (a .cells .now) (a .tracks)) × (c .before .loop .q < length (a .theme .now))
-turns c = goes-on _ _ _ _ _ _ (c .before .loop .inv) (c .before .before .columns-in .ensures) (c .loop-test .taken)
+turns c = goes-on _ _ _ _ _ _ _ (c .before .loop .inv) (c .before .before .columns-in .ensures) (c .loop-test .taken)
 
 fits : (c : tie.In-loop Inv-loop μ-loop) → let a = start c .args in
     c .before .loop .k * a .tracks + a .tracks ≤ length (a .cells .now)
@@ -39,7 +39,7 @@ columns-in-requires : tie.Need-columns-in-requires Inv-loop μ-loop
 columns-in-requires c κs = search needs
 
 loop-holds : tie.Need-loop-holds Inv-loop μ-loop
-loop-holds c = following-start _ _ _ _ _ _
+loop-holds c = following-start _ _ _ _ _ _ _
 
 mul-base : tie.Need-mul-base Inv-loop μ-loop
 mul-base c = omega (arith, fits c)
@@ -71,8 +71,8 @@ add-k c = omega (arith, turns (c .before .before .before) .0)
 mul-sets : tie.Need-mul-sets Inv-loop μ-loop
 mul-sets c = let l = c .before .before .before .before in omega (arith, turns l .1, start l .pre .1)
 
-array-write-sets : tie.Need-array-write-sets Inv-loop μ-loop
-array-write-sets c = let l = c .before .before .before .before in omega (arith, turns l .1, start l .pre .1)
+slice-write-sets : tie.Need-slice-write-sets Inv-loop μ-loop
+slice-write-sets c = let l = c .before .before .before .before in omega (arith, turns l .1, start l .pre .2, l .before .loop .inv .long)
 
 add-q : tie.Need-add-q Inv-loop μ-loop
 add-q c = let l = c .before .before .before .before in omega (arith, turns l .1, start l .pre .1)
@@ -83,7 +83,7 @@ loop-less c = omega (arith, turns (c .before .before .before .before) .0)
 loop-again : tie.Need-loop-again Inv-loop μ-loop
 loop-again c =
     let l = c .before .before .before .before in
-    following-took _ _ _ _ _ _ (l .before .loop .inv) (turns l .0) (turns l .1) (here l) (c .before .holders .ensures) (start l .pre .1) (c .if1 .taken)
+    following-took _ _ _ _ _ _ _ (l .before .loop .inv) (turns l .0) (turns l .1) (here l) (c .before .holders .ensures) (start l .pre .2) (c .if1 .taken)
 
 sub-is-empty : tie.Need-sub-is-empty Inv-loop μ-loop
 sub-is-empty c = search needs
@@ -97,11 +97,14 @@ part-is-empty-end c = fits (c .before .before .before .before)
 is-empty-requires : tie.Need-is-empty-requires Inv-loop μ-loop
 is-empty-requires c κs = search needs
 
+same-length : tie.Need-same-length Inv-loop μ-loop
+same-length c = c .before .before .before .before .before .before .before .before .loop .inv .long
+
 returns : tie.Need-returns Inv-loop μ-loop
 returns c =
     let e = c .before .before .before in
     let l = e .before .before .before .before in
-    following-failed _ _ _ _ _ _ (l .before .loop .inv) (turns l .0) (turns l .1) (here l) (e .before .holders .ensures) (e .if1 .left)
+    following-failed _ _ _ _ _ _ _ (l .before .loop .inv) (turns l .0) (turns l .1) (here l) (e .before .holders .ensures) (e .if1 .left)
     (c .before .is-empty .ensures) (c .if2 .taken)
 
 loop-less-2 : tie.Need-loop-less-2 Inv-loop μ-loop
@@ -111,11 +114,14 @@ loop-again-2 : tie.Need-loop-again-2 Inv-loop μ-loop
 loop-again-2 c =
     let e = c .before .before .before in
     let l = e .before .before .before .before in
-    following-skipped _ _ _ _ _ _ (l .before .loop .inv) (turns l .0) (turns l .1) (here l) (e .before .holders .ensures)
+    following-skipped _ _ _ _ _ _ _ (l .before .loop .inv) (turns l .0) (turns l .1) (here l) (e .before .holders .ensures)
     (c .before .is-empty .ensures) (c .if2 .left)
 
+same-length-2 : tie.Need-same-length-2 Inv-loop μ-loop
+same-length-2 c = c .before .loop .inv .long
+
 returns-2 : tie.Need-returns-2 Inv-loop μ-loop
-returns-2 c = following-end _ _ _ _ _ _ (c .before .loop .inv) (c .before .before .columns-in .ensures) (c .loop-test .left)
+returns-2 c = following-end _ _ _ _ _ _ _ (c .before .loop .inv) (c .before .before .columns-in .ensures) (c .loop-test .left)
 
 pub held-behind-spec : {M : Type 1} → statement M
 held-behind-spec =
@@ -134,7 +140,7 @@ held-behind-spec =
     holders-requires
     add-k
     mul-sets
-    array-write-sets
+    slice-write-sets
     add-q
     loop-less
     loop-again
@@ -142,7 +148,9 @@ held-behind-spec =
     part-is-empty-start
     part-is-empty-end
     is-empty-requires
+    same-length
     returns
     loop-less-2
     loop-again-2
+    same-length-2
     returns-2)

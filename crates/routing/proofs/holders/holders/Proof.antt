@@ -1,74 +1,52 @@
--- `routing::holders::holders` meets its contract. The invariant: the set of the cells gone through is made. The measure is the cells
--- left. Assumes nothing.
+-- `routing::holders::holders` meets its contract, by cases of the way. Assumes nothing.
 use borrow.Author.Needs.{needs}
-use mathlib.Core.Path.{refl, ap}
-use Prim.Native.Nat.{ℕ, _-_, _*_}
+use mathlib.Core.Path.{ap}
+use Prim.Native.Nat.{ℕ, _*_}
 use native.Mathlib.Omega.{arith}
-use lib.ListN.{getD}
+use Rattle.score.specs.Limits.{mostTracks}
+use Rattle.ways.specs.declared.way.Way.the-variants.{Exact, Octave}
 use Rattle.seeking.specs.Track.{cellHolds}
-use Rattle.routing.proofs.Doubling.{bit-le, Doubled, doubled-start, doubled-lt, doubled-more, doubled-end}
+use Rattle.routing.proofs.Doubling.{set-lt}
 use Rattle.routing.proofs.holders.holders.Statement.{statement}
 use Rattle.routing.proofs.holders.holders.Tie as tie
 
-abbrev Inv-loop : tie.InvT-loop
-Inv-loop column way code p set₀ i₀ set i = Doubled (cellHolds way code p) column i set
+enum-told : tie.Need-enum-told
+enum-told c = search needs
 
-abbrev μ-loop : tie.MeasureT-loop
-μ-loop column way code p set₀ i₀ set i = i
+exact-set-requires : tie.Need-exact-set-requires
+exact-set-requires c κs = search needs
 
-loop-holds : tie.Need-loop-holds Inv-loop μ-loop
-loop-holds c = doubled-start _ _ refl
+mul-result : tie.Need-mul-result
+mul-result c =
+    let s = c .before .before .before .before in
+    omega (arith, c .exact-set .ensures, set-lt (cellHolds Exact (s .args .code) (s .args .p)) (s .args .column .now) mostTracks (s .pre))
 
-sub-i : tie.Need-sub-i Inv-loop μ-loop
-sub-i c = search needs
+enum-told-2 : tie.Need-enum-told-2
+enum-told-2 c = search needs
 
-mul-set : tie.Need-mul-set Inv-loop μ-loop
-mul-set c = let l = c .before in omega (arith, doubled-lt _ _ (l .loop .inv) (l .before .before .pre))
+class-set-requires : tie.Need-class-set-requires
+class-set-requires c κs = search needs
 
-shared-slice-read-bit-for : tie.Need-shared-slice-read-bit-for Inv-loop μ-loop
-shared-slice-read-bit-for c = let l = c .before in omega (arith, l .loop-test .taken, l .before .loop .inv .within)
+mul-result-2 : tie.Need-mul-result-2
+mul-result-2 c =
+    let s = c .before .before .before .before in
+    omega (arith, c .class-set .ensures, set-lt (cellHolds Octave (s .args .code) (s .args .p)) (s .args .column .now) mostTracks (s .pre))
 
-bit-for-requires : tie.Need-bit-for-requires Inv-loop μ-loop
-bit-for-requires c κs = search needs
+returns : tie.Need-returns
+returns c = rw (c .before .enum-told .given .1) (ap (λ (n : ℕ). n * 2) (c .exact-set .ensures))
 
-add-set : tie.Need-add-set Inv-loop μ-loop
-add-set c =
-    let l = c .before .before .before in
-    let a = l .before .before .args in
-    omega (
-      arith,
-      doubled-lt _ _ (l .loop .inv) (l .before .before .pre),
-      c .bit-for .ensures,
-      bit-le (cellHolds (a .way) (a .code) (a .p) (getD (a .column .now) (l .loop .i - 1) 0)),
-    )
-
-loop-less : tie.Need-loop-less Inv-loop μ-loop
-loop-less c = search needs
-
-loop-again : tie.Need-loop-again Inv-loop μ-loop
-loop-again c =
-    let t = c .before .before in
-    doubled-more _ _ (t .before .loop .inv) (t .loop-test .taken) (c .bit-for .ensures)
-
-mul-result : tie.Need-mul-result Inv-loop μ-loop
-mul-result c = let l = c .before in omega (arith, doubled-lt _ _ (l .loop .inv) (l .before .before .pre))
-
-returns : tie.Need-returns Inv-loop μ-loop
-returns c = ap (λ (s : ℕ). s * 2) (doubled-end _ _ (c .before .loop .inv) (c .loop-test .left))
+returns-2 : tie.Need-returns-2
+returns-2 c = rw (c .before .enum-told2 .given .1) (ap (λ (n : ℕ). n * 2) (c .class-set .ensures))
 
 pub holders-spec : {M : Type 1} → statement M
 holders-spec =
     tie.close
     (tie.spec
-    Inv-loop
-    μ-loop
-    loop-holds
-    sub-i
-    mul-set
-    shared-slice-read-bit-for
-    bit-for-requires
-    add-set
-    loop-less
-    loop-again
+    enum-told
+    exact-set-requires
     mul-result
-    returns)
+    enum-told-2
+    class-set-requires
+    mul-result-2
+    returns
+    returns-2)

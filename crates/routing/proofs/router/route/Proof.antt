@@ -24,39 +24,49 @@ returns c =
 enum-told : tie.Need-enum-told
 enum-told c = search needs
 
+slice-aggregate-held-at : tie.Need-slice-aggregate-held-at
+slice-aggregate-held-at c = search needs
+
 held-at-requires : tie.Need-held-at-requires
 held-at-requires c κs =
-    let k = c .before .before in
+    let t = c .before in
+    let k = t .before .before in
     let a = start k .args in
-    let p = accepted (a .cells .now) (a .tracks) (a .theme .now) (a .way) (a .pair) (a .route .now) (k .check-request .ensures) (c .enum-told .given .1) in
-    (p .tracks-few, p .notes-few)
+    let p = accepted (a .cells .now) (a .tracks) (a .theme .now) (a .way) (a .pair) (a .route .now) (k .check-request .ensures) (t .enum-told .given .1) in
+    (p .tracks-few, p .notes-few, p .notes-few)
 
 returns-2 : tie.Need-returns-2
 returns-2 c =
-    let t = c .before .before in
+    let d = c .before .before in
+    let t = d .before .before in
     let k = t .before .before in
     let a = start k .args in
     answer-unlisted (a .cells .now) (a .tracks) (a .theme .now) (a .way) (a .pair) (a .route .now)
-    (k .check-request .ensures) (t .enum-told .given .1) (c .before .held-at .ensures) (c .if1 .taken)
+    (k .check-request .ensures) (t .enum-told .given .1) (d .held-at .ensures) (c .if1 .taken)
 
 returns-3 : tie.Need-returns-3
 returns-3 c =
     let e = c .before in
-    let t = e .before .before in
+    let d = e .before .before in
+    let t = d .before .before in
     let k = t .before .before in
     let a = start k .args in
     answer-short (a .cells .now) (a .tracks) (a .theme .now) (a .way) (a .pair) (a .route .now)
-    (k .check-request .ensures) (t .enum-told .given .1) (e .before .held-at .ensures) (e .if1 .left) (c .if2 .taken)
+    (k .check-request .ensures) (t .enum-told .given .1) (d .held-at .ensures) (e .if1 .left) (c .if2 .taken)
+
+slice-aggregate-write-route : tie.Need-slice-aggregate-write-route
+slice-aggregate-write-route c = search needs
 
 write-route-requires : tie.Need-write-route-requires
 write-route-requires c κs =
-    let o = c .before .before .before .before in
+    let o = c .before .before in
     let e = o .before in
-    let t = e .before .before in
+    let d = e .before .before in
+    let t = d .before .before in
     let k = t .before .before in
     let a = start k .args in
     route-asked (a .cells .now) (a .tracks) (a .theme .now) (a .way) (a .pair) (a .route .now)
-    (k .check-request .ensures) (t .enum-told .given .1) (e .before .held-at .ensures) (e .if1 .left) (o .if2 .left)
+    (k .check-request .ensures) (t .enum-told .given .1) (d .held-at .ensures) (e .if1 .left) (o .if2 .left)
 
 same-length : tie.Need-same-length
 same-length c = search needs
@@ -64,13 +74,14 @@ same-length c = search needs
 returns-4 : tie.Need-returns-4
 returns-4 c =
     let w = c .before .before in
-    let o = w .before .before .before .before .before in
+    let o = w .before .before .before in
     let e = o .before in
-    let t = e .before .before in
+    let d = e .before .before in
+    let t = d .before .before in
     let k = t .before .before in
     let a = start k .args in
     answer-routed (a .cells .now) (a .tracks) (a .theme .now) (a .way) (a .pair) (a .route .now)
-    (k .check-request .ensures) (t .enum-told .given .1) (e .before .held-at .ensures) (e .if1 .left) (o .if2 .left) (w .write-route .ensures)
+    (k .check-request .ensures) (t .enum-told .given .1) (d .held-at .ensures) (e .if1 .left) (o .if2 .left) (w .write-route .ensures)
 
 pub route-spec : {M : Type 1} → statement M
 route-spec =
@@ -80,9 +91,11 @@ route-spec =
     enum-known-e
     returns
     enum-told
+    slice-aggregate-held-at
     held-at-requires
     returns-2
     returns-3
+    slice-aggregate-write-route
     write-route-requires
     same-length
     returns-4)

@@ -12,7 +12,7 @@ use Rattle.routing.proofs.standing.held_at.Statement.{statement}
 use Rattle.routing.proofs.standing.held_at.Tie as tie
 
 abbrev start : tie.After-not-zero → tie.Start
-start c = c .before .before .before .before .before .before
+start c = c .before .before .before .before .before .before .before
 
 -- whether the shift, read back from its bits, is one of written's
 not-zero-is : (c : tie.After-not-zero) → c .not-zero .result ≡ outside (start c .args .pair .shift) (pos 0) (pos 0)
@@ -30,28 +30,31 @@ enum-told c = search needs
 not-zero-requires : tie.Need-not-zero-requires
 not-zero-requires c κs = search needs
 
-none-held-requires : tie.Need-none-held-requires
-none-held-requires c κs = search needs
-
 returns : tie.Need-returns
 returns c =
-    let t = c .before in
-    let a = start (t .before) .args in
-    rw (c .before .before .before .before .enum-told .given .1) (held-none (c .none-held .ensures)
-    (written-shift (scoreOf (a .cells .now) (a .tracks)) (a .theme .now) (a .pair) (sym (not-zero-is (t .before)) ∙ t .if1 .taken)))
+    let a = start (c .before) .args in
+    rw (c .before .before .before .enum-told .given .1)
+    (held-none (written-shift (scoreOf (a .cells .now) (a .tracks)) (a .theme .now) (a .pair) (sym (not-zero-is (c .before)) ∙ c .if1 .taken)))
 
 held-moved-requires-2 : tie.Need-held-moved-requires-2
 held-moved-requires-2 c κs = search needs
 
+same-length : tie.Need-same-length
+same-length c = search needs
+
 returns-2 : tie.Need-returns-2
-returns-2 c = rw (c .before .before .way .given .1) (c .held-moved .ensures)
+returns-2 c = let m = c .before .before in rw (m .before .before .before .way .given .1) (m .held-moved .ensures)
+
+same-length-2 : tie.Need-same-length-2
+same-length-2 c = search needs
 
 returns-3 : tie.Need-returns-3
 returns-3 c =
-    let e = c .before in
+    let m = c .before .before in
+    let e = m .before .before in
     let a = start (e .before) .args in
     rw (e .before .before .before .enum-told .given .1)
-    (written-exact (scoreOf (a .cells .now) (a .tracks)) (a .theme .now) (a .pair) (sym (not-zero-is (e .before)) ∙ e .if1 .left) (c .held-moved2 .ensures))
+    (written-exact (scoreOf (a .cells .now) (a .tracks)) (a .theme .now) (a .pair) (sym (not-zero-is (e .before)) ∙ e .if1 .left) (m .held-moved2 .ensures))
 
 pub held-at-spec : {M : Type 1} → statement M
 held-at-spec =
@@ -61,8 +64,9 @@ held-at-spec =
     held-moved-requires
     enum-told
     not-zero-requires
-    none-held-requires
     returns
     held-moved-requires-2
+    same-length
     returns-2
+    same-length-2
     returns-3)

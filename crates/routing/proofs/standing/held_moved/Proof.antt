@@ -12,7 +12,7 @@ use Rattle.routing.proofs.standing.held_moved.Statement.{statement}
 use Rattle.routing.proofs.standing.held_moved.Tie as tie
 
 abbrev start : tie.After-no-shift → tie.Start
-start c = c .before .before .before .before .before .before
+start c = c .before .before .before .before .before .before .before
 
 -- the shift is read back from its bits
 back : (c : tie.After-no-shift) → let z = start c .args .pair .shift in toZ w16 (ofZ w16 z) ≡ z
@@ -28,29 +28,20 @@ cast-j c = search needs
 no-shift-requires : tie.Need-no-shift-requires
 no-shift-requires c κs = search needs
 
-none-held-requires : tie.Need-none-held-requires
-none-held-requires c κs = search needs
-
 returns : tie.Need-returns
 returns c =
-    let t = c .before in
-    let a = start (t .before) .args in
-    held-none (c .none-held .ensures)
-    (by-shift (a .way) (scoreOf (a .cells .now) (a .tracks)) (a .theme .now) (a .pair) (sym (no-shift-is (t .before)) ∙ t .if1 .taken))
+    let a = start (c .before) .args in
+    held-none (by-shift (a .way) (scoreOf (a .cells .now) (a .tracks)) (a .theme .now) (a .pair) (sym (no-shift-is (c .before)) ∙ c .if1 .taken))
 
 heard-at-requires : tie.Need-heard-at-requires
 heard-at-requires c κs = search needs
 
-none-held-requires-2 : tie.Need-none-held-requires-2
-none-held-requires-2 c κs = search needs
-
 returns-2 : tie.Need-returns-2
 returns-2 c =
-    let t = c .before in
-    let e = t .before .before in
+    let e = c .before .before in
     let a = start (e .before) .args in
-    held-none (c .none-held2 .ensures)
-    (by-column (a .way) (scoreOf (a .cells .now) (a .tracks)) (a .theme .now) (a .pair) (sym (no-shift-is (e .before)) ∙ e .if1 .left) (sym (t .before .heard-at .ensures) ∙ not-true _ (t .if2 .taken)))
+    held-none (by-column (a .way) (scoreOf (a .cells .now) (a .tracks)) (a .theme .now) (a .pair)
+    (sym (no-shift-is (e .before)) ∙ e .if1 .left) (sym (c .before .heard-at .ensures) ∙ not-true _ (c .if2 .taken)))
 
 code-of-requires : tie.Need-code-of-requires
 code-of-requires c κs = search needs
@@ -63,16 +54,20 @@ sub-held-behind c =
     (sym (t .heard-at .ensures) ∙ not-false _ (c .before .if2 .left))
 
 held-behind-requires : tie.Need-held-behind-requires
-held-behind-requires c κs = start (c .before .before .before .before) .pre
+held-behind-requires c κs = start (c .before .before .before .before .before) .pre
+
+same-length : tie.Need-same-length
+same-length c = search needs
 
 returns-3 : tie.Need-returns-3
 returns-3 c =
-    let o = c .before in
+    let b = c .before .before in
+    let o = b .before .before in
     let t = o .before .before in
     let e = t .before in
     let a = start (e .before) .args in
     by-notes (a .way) (scoreOf (a .cells .now) (a .tracks)) (a .theme .now) (a .pair) (sym (no-shift-is (e .before)) ∙ e .if1 .left)
-    (sym (t .heard-at .ensures) ∙ not-false _ (o .before .if2 .left)) (rw (back (e .before)) at (o .code-of .ensures)) (c .held-behind .ensures)
+    (sym (t .heard-at .ensures) ∙ not-false _ (o .before .if2 .left)) (rw (back (e .before)) at (o .code-of .ensures)) (b .held-behind .ensures)
 
 pub held-moved-spec : {M : Type 1} → statement M
 held-moved-spec =
@@ -80,12 +75,11 @@ held-moved-spec =
     (tie.spec
     cast-j
     no-shift-requires
-    none-held-requires
     returns
     heard-at-requires
-    none-held-requires-2
     returns-2
     code-of-requires
     sub-held-behind
     held-behind-requires
+    same-length
     returns-3)
