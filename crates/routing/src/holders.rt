@@ -1,5 +1,5 @@
-// The tracks of a column that hold a note, as a set: bit t of its number is 1 where track t, from 1, holds the note. A loop goes from
-// the last cell to the first, so that each turn doubles what it has.
+// The tracks of a column that hold a note, as a set: bit t of its number is 1 where track t, from 1, holds the note. A loop over cells
+// has no test and no way out, so that many can be looked at together.
 
 use score::HIGHEST_PITCH;
 use score::Pitch;
@@ -46,10 +46,10 @@ fn pitch_set(column: &[u8], wanted: u8) -> u32
     ensures { λ r. ⌜ r ≡ setOf (λ cell. eqb cell wanted) (now (column .entry)) ⌝ }
 {
     let mut set: u32 = 0;
-    let mut i = column.len();
-    while 0 < i {
-        i -= 1;
-        set = set * 2 + pitch_bit(column[i], wanted);
+    let mut i = 0;
+    while i < column.len() {
+        set = set + (pitch_bit(column[i], wanted) << i);
+        i += 1;
     }
     set
 }
@@ -66,10 +66,10 @@ fn class_set(column: &[u8], code: u16, p: Pitch) -> u32
     ensures { λ r. ⌜ r ≡ setOf (cellHolds Way.Octave code p) (now (column .entry)) ⌝ }
 {
     let mut set: u32 = 0;
-    let mut i = column.len();
-    while 0 < i {
-        i -= 1;
-        set = set * 2 + class_bit(column[i], code, p);
+    let mut i = 0;
+    while i < column.len() {
+        set = set + (class_bit(column[i], code, p) << i);
+        i += 1;
     }
     set
 }

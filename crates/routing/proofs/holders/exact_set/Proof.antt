@@ -4,7 +4,7 @@ use borrow.Author.Needs.{needs}
 use Prim.Native.Nat.{_+_, _≤_}
 use native.Mathlib.Omega.{arith}
 use mathlib.Core.Path.{refl}
-use Rattle.routing.proofs.Doubling.{exact-pitch, exact-none, exact-some}
+use Rattle.routing.proofs.CellBits.{exact-pitch, exact-none, exact-some}
 use Rattle.routing.proofs.holders.exact_set.Statement.{statement}
 use Rattle.routing.proofs.holders.exact_set.Tie as tie
 

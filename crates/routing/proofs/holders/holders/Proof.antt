@@ -6,7 +6,7 @@ use native.Mathlib.Omega.{arith}
 use Rattle.score.specs.Limits.{mostTracks}
 use Rattle.ways.specs.declared.way.Way.the-variants.{Exact, Octave}
 use Rattle.seeking.specs.Track.{cellHolds}
-use Rattle.routing.proofs.Doubling.{set-lt}
+use Rattle.routing.proofs.CellBits.{set-lt}
 use Rattle.routing.proofs.holders.holders.Statement.{statement}
 use Rattle.routing.proofs.holders.holders.Tie as tie
 

@@ -1,17 +1,17 @@
--- How the set of a column's tracks is made: cell by cell from the last to the first, each turn doubles the set of the cells behind
--- and adds the cell's own bit (`Doubled`). Of 16 cells it stays below 2 ^ 16. In exact a cell is asked for one pitch (`exact-pitch`).
--- Assumes nothing.
+-- How the set of a column's tracks is made: cell by cell, each turn adds the cell's own bit at its place (`Added`). Of 16 cells it
+-- stays below 2 ^ 16. In exact a cell is asked for one pitch (`exact-pitch`). Assumes nothing.
 use mathlib.Core.Path.{_≡_, refl, sym, ap, _∙_}
 use mathlib.Core.Bool.{Bool, true, false, cond, _||_, false≢true}
-use mathlib.Core.List.{List, [], _∷_}
-use Prim.Native.Nat.{ℕ, zero, suc, _+_, _-_, _*_, _^_, _≤_, _<_}
-use native.Mathlib.Nat.{one-le-pow, pow-suc, not-suc-le-zero, le-of-suc-le-suc}
+use mathlib.Core.List.{List, [], _∷_, _++_}
+use Prim.Native.Nat.{ℕ, zero, suc, _+_, _-_, _*_, _%_, _^_, _≤_, _<_, zero-le}
+use native.Mathlib.Nat.{one-le-pow, pow-suc, zero-mul, not-suc-le-zero, le-of-suc-le-suc}
 use native.Mathlib.Decide.{decLe}
 use native.Mathlib.Omega.{arith}
 use lib.Dec.{ltb, eqb}
-use lib.ListN.{length, getD, drop, drop-of-length-le, length-drop}
-use lib.Seq.{drop-cons}
+use lib.ListN.{length, getD, take, length-take}
+use lib.Seq.{take-suc, take-all}
 use borrow.Author.Tests.{ltb-true, ltb-false, ne-eqb}
+use Rattle.theory.proofs.Masks.{one-shl}
 use Rattle.score.specs.declared.quantities.Pitch.{Pitch}
 use Rattle.score.specs.Limits.{mostTracks, highestPitch}
 use Rattle.ways.specs.declared.way.Way.the-variants.{Exact}
@@ -24,6 +24,11 @@ pub bit-le : (b : Bool) → cond b 1 0 ≤ 1
 bit-le true = omega arith
 bit-le false = omega arith
 
+-- a bit moved to its place stays within 32 bits
+moved-bit : (b : Bool) (i : ℕ) → i < 32 → cond b 1 0 * 2 ^ i % 2 ^ 32 ≡ cond b 1 0 * 2 ^ i
+moved-bit true i h = one-shl i 32 h ∙ omega arith
+moved-bit false i h = rw zero-mul
+
 module _ (test : ℕ → Bool) where
   pub set-lt : (cells : List ℕ) (n : ℕ) → length cells ≤ n → setOf test cells < 2 ^ n
   unfolding setOf
@@ -32,31 +37,53 @@ module _ (test : ℕ → Bool) where
   set-lt (cell ∷ cells) (suc n) l =
       omega (arith, set-lt cells n (le-of-suc-le-suc l), bit-le (test cell), pow-suc 2 n)
 
+  -- one cell more behind
+  pub set-more : (cells : List ℕ) (cell : ℕ) → setOf test (cells ++ (cell ∷ [])) ≡ setOf test cells + cond (test cell) 1 0 * 2 ^ length cells
+  unfolding setOf
+  set-more [] cell = omega arith
+  set-more (x ∷ cells) cell = step (test cell) (set-more cells cell)
+    where
+      step : (b : Bool) {more : ℕ} → more ≡ setOf test cells + cond b 1 0 * 2 ^ length cells
+          → cond (test x) 1 0 + more * 2 ≡ cond (test x) 1 0 + setOf test cells * 2 + cond b 1 0 * 2 ^ suc (length cells)
+      step true e = omega (arith, e, pow-suc 2 (length cells))
+      step false e = omega (arith, e)
+
   module _ (cells : List ℕ) where
-    -- the cells from i on are gone through
-    pub record Doubled (i set : ℕ) : Type 0 where
+    -- the bits of the first i cells are added up
+    pub record Added (i set : ℕ) : Type 0 where
       pub within : i ≤ length cells
-      pub so-far : set ≡ setOf test (drop i cells)
+      pub so-far : set ≡ setOf test (take i cells)
 
-    pub doubled-start : {n : ℕ} → n ≡ length cells → Doubled n 0
+    pub added-start : Added 0 0
     unfolding setOf
-    doubled-start {n} e = record { within = omega arith; so-far = rw (drop-of-length-le cells {i = n} (omega arith)) }
+    added-start = record { within = zero-le; so-far = refl }
 
-    pub doubled-lt : {i set : ℕ} → Doubled i set → length cells ≤ mostTracks → set < 2 ^ mostTracks
-    doubled-lt {i} {set} d few =
-        omega (arith, d .so-far, set-lt (drop i cells) mostTracks (omega (arith, length-drop i cells, few)))
+    module _ (few : length cells ≤ mostTracks) {i set : ℕ} (a : Added i set) (l : i < length cells) {one : ℕ}
+        (e : one ≡ cond (test (getD cells i 0)) 1 0) where
+      -- the bit moved to its place stays within 32 bits
+      place : one * 2 ^ i % 2 ^ 32 ≡ one * 2 ^ i
+      place = ap (λ (n : ℕ). n * 2 ^ i % 2 ^ 32) e ∙ moved-bit (test (getD cells i 0)) i (omega (arith, l, few)) ∙ ap (λ (n : ℕ). n * 2 ^ i) (sym e)
 
-    pub doubled-more : {i set : ℕ} → Doubled i set → 0 < i → {one : ℕ} → one ≡ cond (test (getD cells (i - 1) 0)) 1 0
-        → Doubled (i - 1) (set * 2 + one)
-    unfolding setOf
-    doubled-more {i} {set} d h {one} e =
-        let s : suc (i - 1) ≡ i = omega arith in
-        let split : drop (i - 1) cells ≡ getD cells (i - 1) 0 ∷ drop i cells =
-        drop-cons cells (i - 1) 0 (omega (arith, d .within)) ∙ ap (λ (n : ℕ). getD cells (i - 1) 0 ∷ drop n cells) s in
-        record { within = omega (arith, d .within); so-far = rw split (omega (arith, e, d .so-far)) }
+      sum : set + one * 2 ^ i % 2 ^ 32 ≡ setOf test (take (i + 1) cells)
+      sum =
+          let next : suc i ≡ i + 1 = omega arith in
+          let long : length (take i cells) ≡ i = omega (arith, length-take i cells, l) in
+          ap (λ (n : ℕ). set + n) (place ∙ ap (λ (n : ℕ). n * 2 ^ i) e)
+          ∙ ap (λ (n : ℕ). n + cond (test (getD cells i 0)) 1 0 * 2 ^ i) (a .so-far)
+          ∙ ap (λ (n : ℕ). setOf test (take i cells) + cond (test (getD cells i 0)) 1 0 * 2 ^ n) (sym long)
+          ∙ sym (set-more (take i cells) (getD cells i 0))
+          ∙ ap (setOf test) (sym (take-suc cells i 0 l))
+          ∙ ap (λ (n : ℕ). setOf test (take n cells)) next
 
-    pub doubled-end : {i set : ℕ} → Doubled i set → i ≤ 0 → set ≡ setOf test cells
-    doubled-end {i} {set} d h = let e : i ≡ 0 = omega arith in d .so-far ∙ ap (λ (n : ℕ). setOf test (drop n cells)) e
+      pub added-fits : set + one * 2 ^ i % 2 ^ 32 < 2 ^ mostTracks
+      added-fits =
+          omega (arith, sum, set-lt (take (i + 1) cells) mostTracks (omega (arith, length-take (i + 1) cells, few)))
+
+      pub added-more : Added (i + 1) (set + one * 2 ^ i % 2 ^ 32)
+      added-more = record { within = omega (arith, l); so-far = sum }
+
+    pub added-end : {i set : ℕ} → Added i set → length cells ≤ i → set ≡ setOf test cells
+    added-end {i} {set} a h = a .so-far ∙ ap (setOf test) (take-all i cells h)
 
 -- ---- the cells that are one pitch
 
