@@ -147,7 +147,7 @@ router =
           let right : Accepted mostNotes cells h theme = accepted a in
           let (route, meant) = meant-there way cells h theme pair (right .tracks-few) s in
           (route, (meant, λ other m. meant-unique way (scoreOf cells h) theme pair m meant));
-      written = λ cells h theme way pair lent p. routed-written cells h theme way pair lent p;
+      writes = λ cells h theme way pair lent p. routed-written cells h theme way pair lent p;
       tail-kept = λ cells h theme way pair lent p.
           (routed-length cells h theme way pair lent p, routed-tail cells h theme way pair lent p);
       least = λ cells h theme way pair lent p.

@@ -28,9 +28,9 @@ use Rattle.asking.specs.Refusals.{requestRows}
 use Rattle.search.specs.Definition.{StandsAs}
 use Rattle.routing.specs.declared.answer.Routed.{Routed}
 use Rattle.routing.specs.declared.answer.Routed.the-variants.{Changes, Refused}
-use Rattle.routing.specs.Routes.{changes, wayAs, Plays, Route, TheRoute}
-use Rattle.routing.specs.Routing.{listed, row13, row14, routeRows, Writes, Routes}
-use Rattle.routing.proofs.ListedPairs.{listed-stands}
+use Rattle.routing.specs.Route.{changes, wayAs, Plays, Route, TheRoute}
+use Rattle.routing.specs.Routing.{isListed, pairRows, routeRows, Writes, Routes}
+use Rattle.routing.proofs.ListedPairs.{is-listed-stands}
 use Rattle.routing.proofs.RouteAnswers.{thirteen, fourteen, passed-asks}
 use Rattle.demands.specs.Demands.{RightRequest}
 
@@ -45,12 +45,9 @@ never-both n r e = let z : _≡_ {A = ℕ} 0 1 = cc in omega arith
 -- ---- what the rows behind a right request come to
 
 module _ (theme : List ℕ) (way : AnyWay) (score : List (List ℕ)) (pair : Pair) (lent : List ℕ) where
-  abbrev more : List Row
-  more = row13 way score theme pair ∷ row14 theme lent ∷ []
-
   -- 13, exactly where the pair is not listed
-  unlisted-rows : (verdict more ≡ Away thirteen) ↔ (listed way score theme pair ≡ false)
-  unlisted-rows = step (listed way score theme pair) (ltb (length lent) (length theme))
+  unlisted-rows : (verdict (pairRows way score theme pair lent) ≡ Away thirteen) ↔ (isListed way score theme pair ≡ false)
+  unlisted-rows = step (isListed way score theme pair) (ltb (length lent) (length theme))
     where
       other : Away fourteen ≡ Away thirteen → ⊥
       other e =
@@ -64,8 +61,8 @@ module _ (theme : List ℕ) (way : AnyWay) (score : List (List ℕ)) (pair : Pai
       step true false = (λ e. absurd (never-away thirteen e), λ e. absurd (true≢false e))
 
   -- none, with room for the route, exactly where it is
-  listed-rows : length theme ≤ length lent → (verdict more ≡ Passed) ↔ (listed way score theme pair ≡ true)
-  listed-rows room = rw (le-ltb (length lent) (length theme) room) (step (listed way score theme pair))
+  listed-rows : length theme ≤ length lent → (verdict (pairRows way score theme pair lent) ≡ Passed) ↔ (isListed way score theme pair ≡ true)
+  listed-rows room = rw (le-ltb (length lent) (length theme) room) (step (isListed way score theme pair))
     where
       step : (t : Bool) → (cond (not t) (Away thirteen) Passed ≡ Passed) ↔ (t ≡ true)
       step true = (λ e. refl, λ e. refl)
@@ -99,22 +96,22 @@ module _ (cells : List ℕ) (h : ℕ) (theme : List ℕ) (way : AnyWay) (pair : 
   -- ---- a right request
 
   module _ (right : RightRequest cells h theme) where
-    by-pair : verdict rows ≡ verdict (more theme way score pair lent)
-    by-pair = judge-accepted Away Passed (requestRows mostNotes cells h theme) (more theme way score pair lent) right
+    by-pair : verdict rows ≡ verdict (pairRows way score theme pair lent)
+    by-pair = judge-accepted Away Passed (requestRows mostNotes cells h theme) (pairRows way score theme pair lent) right
 
     pub routed-unlisted : (answer ≡ Refused thirteen) ↔ (StandsAs way score theme pair → ⊥)
     routed-unlisted =
         let a = routed-refused thirteen in
         let u = unlisted-rows theme way score pair lent in
-        let s = listed-stands way score theme pair in (
+        let s = is-listed-stands way score theme pair in (
           λ e x. true≢false (sym (s .1 x) ∙ u .0 (sym by-pair ∙ a .0 e)),
-          λ f. a .1 (by-pair ∙ u .1 (either (listed way score theme pair) (λ t. absurd (f (s .0 t))) (λ t. t))),
+          λ f. a .1 (by-pair ∙ u .1 (either (isListed way score theme pair) (λ t. absurd (f (s .0 t))) (λ t. t))),
         )
 
     pub routed-listed : length theme ≤ length lent → ((n : ℕ) × (answer ≡ Changes n)) ↔ StandsAs way score theme pair
     routed-listed room =
         let l = listed-rows theme way score pair lent room in
-        let s = listed-stands way score theme pair in
+        let s = is-listed-stands way score theme pair in
         (λ e. s .0 (l .0 (sym by-pair ∙ routed-changes .0 e)), λ x. routed-changes .1 (by-pair ∙ l .1 (s .1 x)))
 
 -- ---- an accepted call

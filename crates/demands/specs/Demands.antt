@@ -1,8 +1,8 @@
 -- When a list is trusted: three demands, each a record over what the calls promise and over no method. `Demand1`: what is turned
 -- away, and that nothing is then written. `Demand2`: what is listed and what is prepared is true. `Demand3`: pages joined are
 -- the whole list, and quick pages hold the same. Beside them what is wanted of four further calls: `Question`, whether a theme
--- occurs at all, `Update`, of the sets after one column was changed, `Explainer`, why a pair is listed or not, and `Router`, in
--- which tracks a listed pair is. That all of them hold is `proofs/Demands`. The calls are the seven on which the others rest;
+-- occurs at all, `Update`, of the sets after one column was changed, `Explainer`, why a pair is listed or not, and `Router`, who
+-- plays a listed pair. That all of them hold is `proofs/Demands`. The calls are the seven on which the others rest;
 -- `docs/CONTRACTS.md` has them all. That every call ends is no field: the check proves of every function that it is safe and
 -- ends, and no public call has a `requires`. Assumes nothing.
 use mathlib.Core.Path.{_≡_}
@@ -65,7 +65,7 @@ use Rattle.explaining.specs.declared.answer.Sifted.the-variants.{Unasked, Kept,
 use Rattle.explaining.specs.Explaining.{noTracks, Fitting, explainRows, explanation}
 use Rattle.routing.specs.declared.answer.Routed.{Routed}
 use Rattle.routing.specs.declared.answer.Routed.the-variants.{Changes, Refused as Unrouted}
-use Rattle.routing.specs.Routes.{changes, Route, TheRoute}
+use Rattle.routing.specs.Route.{changes, Route, TheRoute}
 use Rattle.routing.specs.Routing.{routeRows, Routes}
 use Rattle.updating.specs.declared.changes.Change.{Change}
 use Rattle.updating.specs.declared.changes.Change.the-variants.{Updated, Refused as Unchanged}
@@ -382,8 +382,8 @@ pub record Explainer : Type 0 where
       {answer answer′ : Explanation} → answer ≡ explanation cells h theme way pair sets → answer′ ≡ explanation cells h theme way′ pair′ sets
       → pair′ .column ≡ pair .column → answer′ .sifted ≡ answer .sifted
 
--- ---- the router: of a listed pair the one route that is meant, which is `TheRoute` of `routing/specs/Routes`, and of no other
--- pair any
+-- ---- the router: for a listed pair the one route that is meant, which is `TheRoute` of `routing/specs/Route`, and none for any other
+-- pair
 
 pub record Router : Type 0 where
   -- refusal 13, exactly where the pair does not stand, in each of the three ways and whatever is lent
@@ -404,7 +404,7 @@ pub record Router : Type 0 where
       → (route : List ℕ) × (TheRoute way (scoreOf cells h) theme pair route
       × ((other : List ℕ) → TheRoute way (scoreOf cells h) theme pair other → other ≡ route))
   -- an accepted call writes it, a track for each note from the front of the buffer
-  pub written : (cells : List ℕ) (h : ℕ) (theme : List ℕ) (way : AnyWay) (pair : Pair) (lent : List ℕ) {n : ℕ} {after : List ℕ}
+  pub writes : (cells : List ℕ) (h : ℕ) (theme : List ℕ) (way : AnyWay) (pair : Pair) (lent : List ℕ) {n : ℕ} {after : List ℕ}
       → Routes cells h theme way pair lent (Changes n) after
       → TheRoute way (scoreOf cells h) theme pair (take (length theme) after)
   -- and nothing behind it
@@ -416,6 +416,6 @@ pub record Router : Type 0 where
       → Routes cells h theme way pair lent (Changes n) after
       → (n ≡ changes (take (length theme) after))
       × ((other : List ℕ) → Route way (scoreOf cells h) theme pair other → n ≤ changes other)
-  -- the route of a pair of the tune as it is written is that of the same pair in exact
+  -- the route of a written pair is that of the same pair in exact
   pub as-exact : (score : List (List ℕ)) (theme : List ℕ) (pair : Pair) (route : List ℕ)
       → TheRoute Written score theme pair route ↔ TheRoute (Moved Exact) score theme pair route

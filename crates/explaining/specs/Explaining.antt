@@ -22,7 +22,7 @@ use Rattle.asking.specs.Limits.{mostNotes}
 use Rattle.asking.specs.Refusals.{requestRows}
 use Rattle.filter.specs.Table.{themeInterval}
 use Rattle.seeking.specs.Limits.{mostSought}
-use Rattle.seeking.specs.Sought.{numbersOn}
+use Rattle.seeking.specs.Sought.{columnSought, numbersOn}
 use Rattle.seeking.specs.Track.{lowestTrack}
 use Rattle.explaining.specs.declared.answer.Explanation.{Explanation}
 use Rattle.explaining.specs.declared.answer.Reason.{Reason}
@@ -104,9 +104,9 @@ abbrev pub bare : Reason → Explanation
 bare reason = record { reason = reason; tracks = noTracks; sifted = Unasked }
 
 module _ (way : Way) (score : List (List ℕ)) (theme : List ℕ) (pair : Pair) (sets : List ℕ) where
-  -- note i is sought in the i-th column with a pitch from the pair's column on
+  -- the column of note i
   abbrev pub columnOf : ℕ → List ℕ
-  columnOf i = getD (onward score (pair .column)) (i - 1) []
+  columnOf i = columnSought score (pair .column) i
 
   abbrev code : ℕ
   code = codeOf way (pair .shift)

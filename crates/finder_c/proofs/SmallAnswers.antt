@@ -62,7 +62,7 @@ use Rattle.explaining.specs.declared.fits.Fit.{Fit}
 use Rattle.explaining.specs.declared.fits.Fit.the-variants.{Zero, Short, NoPitch, Fits}
 use Rattle.explaining.specs.Explaining.{noteOutside, failed, held, columnOf, reasonAt, fitOf, bare, explained, explainRows, explanation}
 use Rattle.routing.specs.declared.answer.Routed.{Routed}
-use Rattle.routing.specs.Routing.{row13, row14, routeRows, Routes}
+use Rattle.routing.specs.Routing.{pairRows, routeRows, Routes}
 use Rattle.finder_c.specs.Singles.{ofPreparation, ofOccurrence, ofChange, ofRouted}
 use Rattle.finder_c.specs.Reasons.{ofReason}
 use Rattle.finder_c.specs.Small.{SmallPlace, SmallSingle, SmallPage, SmallReason}
@@ -159,7 +159,7 @@ routed-small cells h theme way pair lent {said} a = step (verdict (routeRows cel
   where
     small : SmallVerdict (verdict (routeRows cells h theme way pair lent))
     small =
-        let last = row13 way (scoreOf cells h) theme pair ∷ row14 theme lent ∷ [] in
+        let last = pairRows way (scoreOf cells h) theme pair lent in
         judge-small SmallVerdict Away Passed (λ r s. s) (routeRows cells h theme way pair lent)
         (score-small cells h (row4 mostNotes theme ∷ row5 theme ∷ last)
         (λ b. theme-small theme last (λ e. nowhere, λ d. (λ e. nowhere, λ d. tt {0})))) (λ c. tt {0})

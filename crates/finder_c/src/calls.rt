@@ -205,9 +205,9 @@ pub extern "C" fn finder_explain(
     told_explanation(e, answer)
 }
 
-// The route of the pair (column, shift), in exact, octave or written: 0, the number of its changes in `answer`, and a track from 1 for
-// each note in the first places of `places`, which keep what stands behind them. Otherwise the refusal, 1 to 5, 13 or 14, as
-// number + 256 * place; or 255 where `way` is above 2 or `answer` is not 1 long.
+// The route of the pair (column, shift), in exact, octave or written: 0, the number of its changes in `answer`, and over the front
+// of `places`, which the header calls `route`, a track from 1 for each note; the places behind keep what they hold. Otherwise the
+// refusal, 1 to 5, 13 or 14, as number + 256 * place; or 255 where `way` is above 2 or `answer` is not 1 long.
 #[no_mangle]
 pub extern "C" fn finder_route(
     cells: &[u8],

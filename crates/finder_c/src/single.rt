@@ -1,5 +1,5 @@
-// Answers of one number. A preparation and an update say a summary, the question says yes or no, and a route says its changes: each
-// is the number that an accepted call says, or a refusal, and so one function tells them all.
+// Answers of one number. A preparation and an update say a summary, the question says yes or no, and a route says its changes.
+// Each is the number that an accepted call says, or a refusal, and so one function tells them all.
 
 use occurring::Occurrence;
 use preparing::Preparation;

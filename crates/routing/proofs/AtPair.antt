@@ -19,8 +19,8 @@ use Rattle.ways.specs.declared.bookmark.Pair.{Pair}
 use Rattle.ways.specs.Way.{codeOf}
 use Rattle.ways.specs.Codes.{noShift, outside, codeGiven}
 use Rattle.ways.proofs.Coding.{code-of-shift}
-use Rattle.routing.specs.Routing.{heldAlong, listedBy, listed}
-use Rattle.routing.specs.Sets.{holdersAlong, holdersAt, Held}
+use Rattle.routing.specs.Routing.{heldAlong, isListedBy, isListed}
+use Rattle.routing.specs.TrackSets.{holdersAlong, holdersAt, FoundTracks}
 
 -- ---- the column
 
@@ -72,22 +72,22 @@ column-some j b e = ltb-true 0 j (both-left (ltb 0 j) b e)
 -- ---- by shift, column and notes
 
 -- a pair that is not listed
-pub held-none : {said : Bool} {found lent sets : List ℕ} → said ≡ false → Held said found lent false sets
+pub held-none : {said : Bool} {found lent sets : List ℕ} → said ≡ false → FoundTracks said found lent false sets
 held-none s = record { told = sym s; found-all = λ w. absurd (false≢true w) }
 
 module _ (way : Way) (score : List (List ℕ)) (theme : List ℕ) (pair : Pair) where
-  pub by-shift : noShift way (pair .shift) ≡ true → listedBy way score theme pair ≡ false
+  pub by-shift : noShift way (pair .shift) ≡ true → isListedBy way score theme pair ≡ false
   by-shift e = rw e
 
   module _ (shift : noShift way (pair .shift) ≡ false) where
-    pub by-column : (ltb 0 (pair .column .0) && heard (column score (pair .column))) ≡ false → listedBy way score theme pair ≡ false
+    pub by-column : (ltb 0 (pair .column .0) && heard (column score (pair .column))) ≡ false → isListedBy way score theme pair ≡ false
     by-column e = rw (shift, e)
 
     pub by-notes : (ltb 0 (pair .column .0) && heard (column score (pair .column))) ≡ true → {code : ℕ} → code ≡ codeGiven way (pair .shift)
         → {lent sets : List ℕ} {all : Bool}
-        → Held (heldAlong way code theme (onward score (pair .column))) (holdersAlong way code theme (onward score (pair .column)))
+        → FoundTracks (heldAlong way code theme (onward score (pair .column))) (holdersAlong way code theme (onward score (pair .column)))
         lent all sets
-        → Held (listedBy way score theme pair) (holdersAt way score theme pair) lent all sets
+        → FoundTracks (isListedBy way score theme pair) (holdersAt way score theme pair) lent all sets
     by-notes e {code} c {lent} {sets} {all} a =
         let own : code ≡ codeOf way (pair .shift) = c ∙ code-of-shift way (pair .shift) shift in
         rw (shift, e) (rw own at a)
@@ -95,10 +95,10 @@ module _ (way : Way) (score : List (List ℕ)) (theme : List ℕ) (pair : Pair) 
 -- ---- a written pair
 
 module _ (score : List (List ℕ)) (theme : List ℕ) (pair : Pair) where
-  pub written-shift : outside (pair .shift) (pos 0) (pos 0) ≡ true → listed Written score theme pair ≡ false
+  pub written-shift : outside (pair .shift) (pos 0) (pos 0) ≡ true → isListed Written score theme pair ≡ false
   written-shift e = rw e
 
   pub written-exact : outside (pair .shift) (pos 0) (pos 0) ≡ false → {lent sets : List ℕ} {all : Bool}
-      → Held (listedBy Exact score theme pair) (holdersAt Exact score theme pair) lent all sets
-      → Held (listed Written score theme pair) (holdersAt Exact score theme pair) lent all sets
+      → FoundTracks (isListedBy Exact score theme pair) (holdersAt Exact score theme pair) lent all sets
+      → FoundTracks (isListed Written score theme pair) (holdersAt Exact score theme pair) lent all sets
   written-exact e a = rw e a

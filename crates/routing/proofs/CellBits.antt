@@ -18,7 +18,7 @@ use Rattle.ways.specs.declared.way.Way.the-variants.{Exact}
 use Rattle.ways.proofs.Holding.{eqb-same, holds-below, holds-above}
 use Rattle.seeking.specs.Track.{cellHolds}
 use Rattle.seeking.proofs.Tracks.{cell-rest, cell-exact}
-use Rattle.routing.specs.Sets.{setOf}
+use Rattle.routing.specs.TrackSets.{setOf}
 
 pub bit-le : (b : Bool) → cond b 1 0 ≤ 1
 bit-le true = omega arith

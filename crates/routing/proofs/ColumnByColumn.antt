@@ -21,8 +21,8 @@ use Rattle.ways.specs.declared.way.Way.the-variants.{Exact, Octave}
 use Rattle.ways.specs.Way.{holds}
 use Rattle.score.specs.declared.quantities.Pitch.{Pitch}
 use Rattle.routing.specs.Routing.{heldAlong}
-use Rattle.routing.specs.Sets.{holders, holdersAlong, Held}
-use Rattle.routing.proofs.TrackSets.{holders-none}
+use Rattle.routing.specs.TrackSets.{holders, holdersAlong, FoundTracks}
+use Rattle.routing.proofs.TrackBits.{holders-none}
 
 -- ---- one column
 
@@ -50,7 +50,7 @@ module _ (way : Way) (code : ℕ) (cells : List ℕ) (h : ℕ) (theme : List ℕ
   abbrev left : ℕ → List (List ℕ)
   left k = heardOf (drop k score)
 
-  pub record Following (sets : List ℕ) (k q : ℕ) : Type 0 where
+  pub record AlongNotes (sets : List ℕ) (k q : ℕ) : Type 0 where
     pub done : List ℕ
     pub so-far : sets ≡ over lent done
     pub many : length done ≡ q
@@ -59,10 +59,10 @@ module _ (way : Way) (code : ℕ) (cells : List ℕ) (h : ℕ) (theme : List ℕ
     pub within : q ≤ length theme
     pub long : length sets ≡ length lent
 
-  pub following-start : Following lent passed 0
+  pub following-start : AlongNotes lent passed 0
   following-start = record { done = []; so-far = refl; many = refl; held-left = refl; sets-left = refl; within = zero-le; long = refl }
 
-  module _ {sets : List ℕ} {k q : ℕ} (f : Following sets k q) where
+  module _ {sets : List ℕ} {k q : ℕ} (f : AlongNotes sets k q) where
     -- the loop goes on
     pub goes-on : {n : ℕ} → n ≡ columnsIn cells h → (ltb k n && ltb q (length theme)) ≡ true → (k < columnsIn cells h) × (q < length theme)
     goes-on {n} e t =
@@ -101,7 +101,7 @@ module _ (way : Way) (code : ℕ) (cells : List ℕ) (h : ℕ) (theme : List ℕ
         not-here z = not-true (holds way code p here) (sym (holders-none way code p here) ∙ eq-eqb _ _ (sym own ∙ z))
 
         -- a track holds the note
-        pub following-took : length theme ≤ length lent → (s ≡ 0 → ⊥) → Following (set sets q s) (k + 1) (q + 1)
+        pub following-took : length theme ≤ length lent → (s ≡ 0 → ⊥) → AlongNotes (set sets q s) (k + 1) (q + 1)
         unfolding heldAlong holdersAlong
         following-took few z =
             let there = held-here z in
@@ -117,7 +117,7 @@ module _ (way : Way) (code : ℕ) (cells : List ℕ) (h : ℕ) (theme : List ℕ
             }
 
         -- none does, and the column has no pitch
-        pub following-skipped : {b : Bool} → b ≡ not (heard column) → not b ≡ false → Following sets (k + 1) q
+        pub following-skipped : {b : Bool} → b ≡ not (heard column) → not b ≡ false → AlongNotes sets (k + 1) q
         following-skipped {b} g z =
             let l = left-empty (not-true _ (ap (λ (c : List ℕ). not (heard c)) (sym same) ∙ sym g ∙ not-false b z)) in
             record {
@@ -132,7 +132,7 @@ module _ (way : Way) (code : ℕ) (cells : List ℕ) (h : ℕ) (theme : List ℕ
 
         -- none does, and the column has a pitch
         pub following-failed : s ≡ 0 → {b : Bool} → b ≡ not (heard column) → not b ≡ true
-            → Held (heldAlong way code theme (left passed)) (holdersAlong way code theme (left passed)) lent false sets
+            → FoundTracks (heldAlong way code theme (left passed)) (holdersAlong way code theme (left passed)) lent false sets
         unfolding heldAlong
         following-failed z {b} g t =
             let l = left-heard (not-false _ (ap (λ (c : List ℕ). not (heard c)) (sym same) ∙ sym g ∙ not-true b t)) in
@@ -140,7 +140,7 @@ module _ (way : Way) (code : ℕ) (cells : List ℕ) (h : ℕ) (theme : List ℕ
 
     -- the columns or the notes are at an end
     pub following-end : {n : ℕ} → n ≡ columnsIn cells h → (ltb k n && ltb q (length theme)) ≡ false
-        → Held (heldAlong way code theme (left passed)) (holdersAlong way code theme (left passed)) lent (eqb q (length theme)) sets
+        → FoundTracks (heldAlong way code theme (left passed)) (holdersAlong way code theme (left passed)) lent (eqb q (length theme)) sets
     unfolding heldAlong holdersAlong
     following-end {n} e z = pick (ltb q (length theme)) refl
       where
@@ -149,7 +149,7 @@ module _ (way : Way) (code : ℕ) (cells : List ℕ) (h : ℕ) (theme : List ℕ
         first-false false w = refl
 
         pick : (t : Bool) → ltb q (length theme) ≡ t
-            → Held (heldAlong way code theme (left passed)) (holdersAlong way code theme (left passed)) lent (eqb q (length theme)) sets
+            → FoundTracks (heldAlong way code theme (left passed)) (holdersAlong way code theme (left passed)) lent (eqb q (length theme)) sets
         pick true g =
             let l : q < length theme = ltb-true q (length theme) g in
             let past : n ≤ k = ltb-false k n (first-false (ltb k n) (rw g at z)) in

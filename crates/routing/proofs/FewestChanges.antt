@@ -11,8 +11,8 @@ use native.Mathlib.Omega.{arith}
 use lib.ListN.{length}
 use Rattle.theory.specs.Bits.{bit}
 use Rattle.theory.proofs.Bits.{bit-ones}
-use Rattle.routing.specs.Routes.{changesFrom, changes, NotAfter}
-use Rattle.routing.specs.Sets.{bestOf, leastOf, nextTrack, chosen, Tracks, Playable}
+use Rattle.routing.specs.Route.{changesFrom, changes, NotAfter}
+use Rattle.routing.specs.TrackSets.{bestOf, leastOf, nextTrack, chosen, Tracks, Playable}
 use Rattle.routing.proofs.HeldBy.{HeldBy}
 use Rattle.routing.proofs.LowestTrack.{track-few}
 use Rattle.routing.proofs.NextTrack.{moved, moved-other, bestBefore, due, best-bit, before-tracks, fewest-le, Next}

@@ -2,20 +2,21 @@
 -- route (`Choosing`). Assumes nothing.
 use mathlib.Core.Path.{_≡_, refl, sym, ap, _∙_, subst}
 use mathlib.Core.List.{List, [], _∷_, _++_, append-nil, append-assoc}
-use Prim.Native.Nat.{ℕ, suc, _+_, _≤_, _<_, zero-le}
+use Prim.Native.Nat.{ℕ, _+_, _≤_, _<_, zero-le}
 use native.Mathlib.Omega.{arith}
 use lib.Bits.{bitAnd, bitOr}
 use lib.Count.{trailingZeros}
 use lib.Dec.{eqb}
-use lib.ListN.{length, getD, take, drop, set, length-set, length-append, length-take, length-drop, drop-of-length-le}
-use lib.Seq.{drop-cons, getD-take, getD-drop}
+use lib.ListN.{length, getD, take, drop, set, length-set, length-append, length-drop, drop-of-length-le}
+use lib.Seq.{getD-drop}
 use Rattle.theory.specs.Bits.{bit}
 use Rattle.theory.specs.Lists.{over}
 use Rattle.theory.proofs.Lists.{over-more}
 use Rattle.score.specs.Limits.{mostTracks}
-use Rattle.routing.specs.Sets.{bestOf, nextTrack, chosen, Tracks, Playable, SetsThere, Best}
+use Rattle.routing.specs.TrackSets.{bestOf, nextTrack, chosen, Tracks, Playable, TracksThere, Best}
 use Rattle.routing.proofs.FewestChanges.{playable-head, best-tracks}
 use Rattle.routing.proofs.NextTrack.{next-few}
+use Rattle.routing.proofs.FrontSets.{front-length, front-split}
 
 -- the notes behind the first i
 playable-drop : (sets : List ℕ) (i : ℕ) → Playable sets → Playable (drop i sets)
@@ -35,24 +36,17 @@ module _ (sets : List ℕ) (m : ℕ) (lent : List ℕ) where
   pub choosing-start : Choosing lent 0 0
   choosing-start = record { done = []; so-far = refl; many = refl; left = refl; within = zero-le; track = zero-le; long = refl }
 
-  module _ (there : SetsThere sets m) where
-    notes-length : length (take m sets) ≡ m
-    notes-length = omega (arith, length-take m sets, there .room)
-
+  module _ (there : TracksThere sets m) where
     module _ {best : List ℕ} (few : Best (take m sets) best) {route : List ℕ} {t i : ℕ} (s : Choosing route t i)
         (l : i < m) where
       split : drop i (take m sets) ≡ getD sets i 0 ∷ drop (i + 1) (take m sets)
-      split =
-          let e : suc i ≡ i + 1 = omega arith in
-          drop-cons (take m sets) i 0 (omega (arith, l, notes-length))
-          ∙ ap (λ (x : ℕ). x ∷ drop (suc i) (take m sets)) (getD-take m sets i 0 l)
-          ∙ ap (λ (n : ℕ). getD sets i 0 ∷ drop n (take m sets)) e
+      split = front-split sets m there i l
 
       left-playable : Playable (getD sets i 0 ∷ drop (i + 1) (take m sets))
       left-playable = subst Playable split (playable-drop (take m sets) i (there .playable))
 
       best-is : getD best i 0 ≡ bestOf (getD sets i 0 ∷ drop (i + 1) (take m sets))
-      best-is = few .each i (omega (arith, l, notes-length)) ∙ ap bestOf split
+      best-is = few .each i (omega (arith, l, front-length sets m there)) ∙ ap bestOf split
 
       best-there : Tracks (getD best i 0)
       best-there = subst Tracks (sym best-is) (best-tracks left-playable)
@@ -83,5 +77,5 @@ module _ (sets : List ℕ) (m : ℕ) (lent : List ℕ) where
     pub choosing-end : {route : List ℕ} {t i : ℕ} → Choosing route t i → m ≤ i → route ≡ over lent (chosen 0 (take m sets))
     unfolding chosen
     choosing-end {route} {t} {i} s h =
-        let none : drop i (take m sets) ≡ [] = drop-of-length-le (take m sets) {i = i} (omega (arith, h, notes-length)) in
+        let none : drop i (take m sets) ≡ [] = drop-of-length-le (take m sets) {i = i} (omega (arith, h, front-length sets m there)) in
         s .so-far ∙ ap (over lent) (sym (append-nil (s .done)) ∙ (rw none at (s .left)))

@@ -26,8 +26,8 @@ use Rattle.ways.proofs.Coding.{neither, not-overZ, is-shift}
 use Rattle.ways.proofs.Shifts.{shift-code}
 use Rattle.ways.proofs.Holding.{holds-true, true-holds}
 use Rattle.search.specs.Definition.{Stands, StandsAs}
-use Rattle.routing.specs.Routes.{wayAs}
-use Rattle.routing.specs.Routing.{heldAlong, listedBy, listed}
+use Rattle.routing.specs.Route.{wayAs}
+use Rattle.routing.specs.Routing.{heldAlong, isListedBy, isListed}
 
 -- ---- two tests, and a test that fails
 
@@ -98,10 +98,10 @@ module _ (way : Way) (score : List (List ℕ)) (theme : List ℕ) (pair : Pair) 
   abbrev front : Bool
   front = shifted && (counted && sounds)
 
-  pub by-along : listedBy way score theme pair ≡ true → heldAlong way code theme columns ≡ true
+  pub by-along : isListedBy way score theme pair ≡ true → heldAlong way code theme columns ≡ true
   by-along e = both-right front (heldAlong way code theme columns) e
 
-  by-stands : listedBy way score theme pair ≡ true → Stands way score theme pair
+  by-stands : isListedBy way score theme pair ≡ true → Stands way score theme pair
   by-stands e =
       let f : front ≡ true = both-left front (heldAlong way code theme columns) e in
       let there : (counted && sounds) ≡ true = both-right shifted (counted && sounds) f in
@@ -117,7 +117,7 @@ module _ (way : Way) (score : List (List ℕ)) (theme : List ℕ) (pair : Pair) 
             (holds-true way code (note theme i) (getD columns (i - 1) []) (h .each (i - 1) (omega arith)));
       }
 
-  stands-by : Stands way score theme pair → listedBy way score theme pair ≡ true
+  stands-by : Stands way score theme pair → isListedBy way score theme pair ≡ true
   stands-by s =
       let moves : shifted ≡ true = fails-not (noShift way c) (is-shift way c .1 (s .not-below, s .not-above)) in
       let there : (counted && sounds) ≡ true = both counted sounds (lt-ltb 0 (pair .column .0) (s .from-first)) (s .with-pitch) in
@@ -131,8 +131,8 @@ module _ (way : Way) (score : List (List ℕ)) (theme : List ℕ) (pair : Pair) 
           (subst (Holds way (getD columns i []) (pitch (getD theme i 0))) (sym (shift-code way c (s .not-below)))
           (rw e at (s .each-note (i + 1) (omega arith) (omega arith))))
 
-  pub listed-by : (listedBy way score theme pair ≡ true) ↔ Stands way score theme pair
-  listed-by = (by-stands, stands-by)
+  pub is-listed-by : (isListedBy way score theme pair ≡ true) ↔ Stands way score theme pair
+  is-listed-by = (by-stands, stands-by)
 
 -- ---- of all ways
 
@@ -147,19 +147,19 @@ is-zero z =
     (λ e. zero-only z (r .0 e .0) (r .0 e .1), λ e. rw e)
 
 -- a listed pair is listed by the way in which its notes are held
-pub listed-held : (way : AnyWay) (score : List (List ℕ)) (theme : List ℕ) (pair : Pair) → listed way score theme pair ≡ true
-    → listedBy (wayAs way) score theme pair ≡ true
-listed-held (Moved way) score theme pair e = e
-listed-held Written score theme pair e =
-    both-right (not (outside (pair .shift) (pos 0) (pos 0))) (listedBy Exact score theme pair) e
+pub is-listed-held : (way : AnyWay) (score : List (List ℕ)) (theme : List ℕ) (pair : Pair) → isListed way score theme pair ≡ true
+    → isListedBy (wayAs way) score theme pair ≡ true
+is-listed-held (Moved way) score theme pair e = e
+is-listed-held Written score theme pair e =
+    both-right (not (outside (pair .shift) (pos 0) (pos 0))) (isListedBy Exact score theme pair) e
 
-pub listed-stands : (way : AnyWay) (score : List (List ℕ)) (theme : List ℕ) (pair : Pair)
-    → (listed way score theme pair ≡ true) ↔ StandsAs way score theme pair
-listed-stands (Moved way) score theme pair = listed-by way score theme pair
-listed-stands Written score theme pair =
+pub is-listed-stands : (way : AnyWay) (score : List (List ℕ)) (theme : List ℕ) (pair : Pair)
+    → (isListed way score theme pair ≡ true) ↔ StandsAs way score theme pair
+is-listed-stands (Moved way) score theme pair = is-listed-by way score theme pair
+is-listed-stands Written score theme pair =
     let off : Bool = outside (pair .shift) (pos 0) (pos 0) in
-    let by : Bool = listedBy Exact score theme pair in
-    let s = listed-by Exact score theme pair in
+    let by : Bool = isListedBy Exact score theme pair in
+    let s = is-listed-by Exact score theme pair in
     let z = is-zero (pair .shift) in (
       λ e. (s .0 (both-right (not off) by e), z .0 (not-true off (both-left (not off) by e))),
       λ h. both (not off) by (fails-not off (z .1 (h .1))) (s .1 (h .0)),

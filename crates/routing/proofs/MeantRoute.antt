@@ -11,12 +11,12 @@ use Rattle.score.specs.Score.{scoreOf}
 use Rattle.ways.specs.declared.way.AnyWay.{AnyWay}
 use Rattle.ways.specs.declared.bookmark.Pair.{Pair}
 use Rattle.search.specs.Definition.{StandsAs}
-use Rattle.routing.specs.Routes.{changes, wayAs, TheRoute}
-use Rattle.routing.specs.Routing.{listed}
-use Rattle.routing.specs.Sets.{holdersAt, leastOf, chosen}
+use Rattle.routing.specs.Route.{changes, wayAs, TheRoute}
+use Rattle.routing.specs.Routing.{isListed}
+use Rattle.routing.specs.TrackSets.{holdersAt, leastOf, chosen}
 use Rattle.routing.proofs.FewestChanges.{chosen-held, chosen-least, least-fewest, chosen-first, not-after-unique}
-use Rattle.routing.proofs.ListedPairs.{listed-stands}
-use Rattle.routing.proofs.TrackSets.{route-held, listed-playable}
+use Rattle.routing.proofs.ListedPairs.{is-listed-stands}
+use Rattle.routing.proofs.TrackBits.{route-held, listed-playable}
 
 pub meant-unique : (way : AnyWay) (score : List (List ℕ)) (theme : List ℕ) (pair : Pair) {a b : List ℕ}
     → TheRoute way score theme pair a → TheRoute way score theme pair b → a ≡ b
@@ -31,7 +31,7 @@ module _ (way : AnyWay) (cells : List ℕ) (h : ℕ) (theme : List ℕ) (pair : 
   abbrev sets : List ℕ
   sets = holdersAt (wayAs way) score theme pair
 
-  module _ (e : listed way score theme pair ≡ true) where
+  module _ (e : isListed way score theme pair ≡ true) where
     pub meant-least : changes (chosen 0 sets) ≡ leastOf sets
     meant-least = chosen-least sets (listed-playable way cells h theme pair few e)
 
@@ -45,4 +45,4 @@ module _ (way : AnyWay) (cells : List ℕ) (h : ℕ) (theme : List ℕ) (pair : 
         }
 
   pub meant-there : StandsAs way score theme pair → (route : List ℕ) × TheRoute way score theme pair route
-  meant-there s = (chosen 0 sets, meant-chosen (listed-stands way score theme pair .1 s))
+  meant-there s = (chosen 0 sets, meant-chosen (is-listed-stands way score theme pair .1 s))

@@ -13,7 +13,7 @@ use borrow.Author.Tests.{eqb-true, eqb-false, eq-eqb, ne-eqb}
 use Rattle.theory.specs.Bits.{bit}
 use Rattle.theory.proofs.Bits.{bit-lt, bit-and, bit-or, bit-high, bit-pow-same, bit-pow-other}
 use Rattle.score.specs.Limits.{mostTracks}
-use Rattle.routing.specs.Sets.{lowestOf, nextTrack, Tracks}
+use Rattle.routing.specs.TrackSets.{lowestOf, nextTrack, Tracks}
 use Rattle.routing.proofs.LowestTrack.{LowestBit, lowest-bit, track-few}
 
 -- ---- whether there is a change

@@ -28,10 +28,10 @@ use Rattle.asking.specs.Asking.{Accepted}
 use Rattle.asking.proofs.Rows.{accepted-clear}
 use Rattle.routing.specs.declared.answer.Routed.{Routed}
 use Rattle.routing.specs.declared.answer.Routed.the-variants.{Changes, Refused}
-use Rattle.routing.specs.Routes.{changes, wayAs, TheRoute}
-use Rattle.routing.specs.Routing.{listed, row13, row14, routeRows, Writes, Routes}
-use Rattle.routing.specs.Sets.{holdersAt, leastOf, chosen, Held, Playable, SetsThere}
-use Rattle.routing.proofs.TrackSets.{listed-length, listed-playable}
+use Rattle.routing.specs.Route.{changes, wayAs, TheRoute}
+use Rattle.routing.specs.Routing.{isListed, pairRows, routeRows, Writes, Routes}
+use Rattle.routing.specs.TrackSets.{holdersAt, leastOf, chosen, FoundTracks, Playable, TracksThere}
+use Rattle.routing.proofs.TrackBits.{listed-length, listed-playable}
 use Rattle.routing.proofs.MeantRoute.{meant-unique, meant-least, meant-chosen}
 
 -- ---- verdicts
@@ -62,8 +62,8 @@ module _ (cells : List ℕ) (h : ℕ) (theme : List ℕ) (way : AnyWay) (pair : 
   rows = routeRows cells h theme way pair lent
 
   -- a refused call
-  pub routes-away : {r : Refusal} → verdict rows ≡ Away r → Routes cells h theme way pair lent (Refused r) lent
-  routes-away {r} e = record {
+  pub refused-routes : {r : Refusal} → verdict rows ≡ Away r → Routes cells h theme way pair lent (Refused r) lent
+  refused-routes {r} e = record {
     refused = λ s g. (ap Refused (ap given (sym e ∙ g)), refl);
     accepted = λ g. absurd (false≢true (ap passes (sym e ∙ g)));
   }
@@ -76,29 +76,26 @@ module _ (cells : List ℕ) (h : ℕ) (theme : List ℕ) (way : AnyWay) (pair : 
   -- ---- by the checks
 
   module _ {v : Verdict} (checked : v ≡ verdict (requestRows mostNotes cells h theme)) where
-    abbrev more : List Row
-    more = row13 way score theme pair ∷ row14 theme lent ∷ []
-
     pub answer-away : {r : Refusal} → v ≡ Away r → Routes cells h theme way pair lent (Refused r) lent
-    answer-away e = routes-away (sym (turned-away (requestRows mostNotes cells h theme) more checked e))
+    answer-away e = refused-routes (sym (turned-away (requestRows mostNotes cells h theme) (pairRows way score theme pair lent) checked e))
 
     module _ (passed : v ≡ Passed) where
       pub accepted : Accepted mostNotes cells h theme
       accepted = accepted-clear mostNotes cells h theme .1 (verdict-clear (requestRows mostNotes cells h theme) (sym checked ∙ passed))
 
-      goes : {w : Verdict} → w ≡ verdict more → verdict rows ≡ w
-      goes e = sym (gone-on (requestRows mostNotes cells h theme) more checked passed e)
+      goes : {w : Verdict} → w ≡ verdict (pairRows way score theme pair lent) → verdict rows ≡ w
+      goes e = sym (gone-on (requestRows mostNotes cells h theme) (pairRows way score theme pair lent) checked passed e)
 
-      module _ {all : Bool} {sets : List ℕ} (held : Held (listed way score theme pair) (holdersAt (wayAs way) score theme pair) zeros all sets) where
+      module _ {all : Bool} {sets : List ℕ} (held : FoundTracks (isListed way score theme pair) (holdersAt (wayAs way) score theme pair) zeros all sets) where
         pub answer-unlisted : not all ≡ true → Routes cells h theme way pair lent (Refused thirteen) lent
-        answer-unlisted z = routes-away (goes (rw (← held .told, z)))
+        answer-unlisted z = refused-routes (goes (rw (← held .told, z)))
 
         module _ (z : not all ≡ false) where
-          is-listed : listed way score theme pair ≡ true
+          is-listed : isListed way score theme pair ≡ true
           is-listed = sym (held .told) ∙ not-false all z
 
           pub answer-short : length lent < length theme → Routes cells h theme way pair lent (Refused fourteen) lent
-          answer-short l = routes-away (goes (rw (← held .told, z, lt-ltb (length lent) (length theme) l)))
+          answer-short l = refused-routes (goes (rw (← held .told, z, lt-ltb (length lent) (length theme) l)))
 
           module _ (l : length theme ≤ length lent) where
             abbrev found : List ℕ
@@ -114,7 +111,7 @@ module _ (cells : List ℕ) (h : ℕ) (theme : List ℕ) (way : AnyWay) (pair : 
                 ∙ ap (λ (n : ℕ). take n (over zeros found)) (sym long)
                 ∙ take-append-seam found (drop (length found) zeros)
 
-            pub route-asked : SetsThere sets (length theme) × (length theme ≤ length lent)
+            pub route-asked : TracksThere sets (length theme) × (length theme ≤ length lent)
             route-asked =
                 let long : length found ≡ length theme = listed-length way score theme pair is-listed in
                 let room : length sets ≡ mostNotes =
@@ -139,15 +136,14 @@ module _ (cells : List ℕ) (h : ℕ) (theme : List ℕ) (way : AnyWay) (pair : 
 
   -- ---- what an accepted call was given
 
-  pub record Asked : Type 0 where
+  pub record RouteAsked : Type 0 where
     pub request : Accepted mostNotes cells h theme
-    pub in-list : listed way score theme pair ≡ true
+    pub in-list : isListed way score theme pair ≡ true
     pub room : length theme ≤ length lent
 
-  pub passed-asks : verdict rows ≡ Passed → Asked
+  pub passed-asks : verdict rows ≡ Passed → RouteAsked
   passed-asks e =
-      let more : List Row = row13 way score theme pair ∷ row14 theme lent ∷ [] in
-      let clear = clear-split (requestRows mostNotes cells h theme) more (verdict-clear rows e) in
+      let clear = clear-split (requestRows mostNotes cells h theme) (pairRows way score theme pair lent) (verdict-clear rows e) in
       record {
         request = accepted-clear mostNotes cells h theme .1 (clear .0);
         in-list = not-false _ (clear .1 .0);
@@ -160,7 +156,7 @@ module _ (cells : List ℕ) (h : ℕ) (theme : List ℕ) (way : AnyWay) (pair : 
   routes-there = pick (verdict rows) refl
     where
       pick : (v : Verdict) → verdict rows ≡ v → (answer : Routed) × ((after : List ℕ) × Routes cells h theme way pair lent answer after)
-      pick (Away r) e = (Refused r, (lent, routes-away e))
+      pick (Away r) e = (Refused r, (lent, refused-routes e))
       pick Passed e =
           let asked = passed-asks e in
           let route = chosen 0 (holdersAt (wayAs way) score theme pair) in (

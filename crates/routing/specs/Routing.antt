@@ -25,7 +25,7 @@ use Rattle.asking.specs.Limits.{mostNotes}
 use Rattle.asking.specs.Refusals.{requestRows}
 use Rattle.routing.specs.declared.answer.Routed.{Routed}
 use Rattle.routing.specs.declared.answer.Routed.the-variants.{Changes, Refused}
-use Rattle.routing.specs.Routes.{changes, TheRoute}
+use Rattle.routing.specs.Route.{changes, TheRoute}
 
 -- ---- whether a pair is listed
 
@@ -36,30 +36,33 @@ heldAlong way code (p ∷ theme) [] = false
 heldAlong way code (p ∷ theme) (c ∷ columns) = holds way code (pitch p) c && heldAlong way code theme columns
 
 -- the shift is one of the way's, the column is not 0 and has a pitch, and the notes are held from it on
-abbrev pub listedBy : Way → (score : List (List ℕ)) (theme : List ℕ) → Pair → Bool
-listedBy way score theme pair =
+abbrev pub isListedBy : Way → (score : List (List ℕ)) (theme : List ℕ) → Pair → Bool
+isListedBy way score theme pair =
     not (noShift way (pair .shift)) && (ltb 0 (pair .column .0) && heard (column score (pair .column)))
     && heldAlong way (codeOf way (pair .shift)) theme (onward score (pair .column))
 
 -- of all ways: a written pair is an exact one with shift 0
-abbrev pub listed : AnyWay → (score : List (List ℕ)) (theme : List ℕ) → Pair → Bool
-listed (Moved way) score theme pair = listedBy way score theme pair
-listed Written score theme pair = not (outside (pair .shift) (pos 0) (pos 0)) && listedBy Exact score theme pair
+abbrev pub isListed : AnyWay → (score : List (List ℕ)) (theme : List ℕ) → Pair → Bool
+isListed (Moved way) score theme pair = isListedBy way score theme pair
+isListed Written score theme pair = not (outside (pair .shift) (pos 0) (pos 0)) && isListedBy Exact score theme pair
 
 -- ---- what is turned away
 
 -- 13: the pair is not listed, whatever its column and its shift are
 abbrev pub row13 : AnyWay → (score : List (List ℕ)) (theme : List ℕ) → Pair → Row
-row13 way score theme pair = row 13 (not (listed way score theme pair)) 0
+row13 way score theme pair = row 13 (not (isListed way score theme pair)) 0
 
 -- 14: the buffer has fewer places than the theme has notes
 abbrev pub row14 : (theme lent : List ℕ) → Row
 row14 theme lent = row 14 (ltb (length lent) (length theme)) 0
 
+-- those of the pair and the buffer: 13, 14
+abbrev pub pairRows : AnyWay → (score : List (List ℕ)) (theme : List ℕ) → Pair → (lent : List ℕ) → List Row
+pairRows way score theme pair lent = row13 way score theme pair ∷ row14 theme lent ∷ []
+
 -- 1 to 5, 13, 14, in this order
 abbrev pub routeRows : (cells : List ℕ) (h : ℕ) (theme : List ℕ) → AnyWay → Pair → (lent : List ℕ) → List Row
-routeRows cells h theme way pair lent =
-    requestRows mostNotes cells h theme ++ row13 way (scoreOf cells h) theme pair ∷ row14 theme lent ∷ []
+routeRows cells h theme way pair lent = requestRows mostNotes cells h theme ++ pairRows way (scoreOf cells h) theme pair lent
 
 -- ---- what the call promises
 

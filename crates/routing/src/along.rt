@@ -10,12 +10,11 @@ ghost use lib.ListN.{length, drop};
 ghost use Rattle.score.specs.Limits.{mostTracks};
 ghost use Rattle.score.specs.Score.{scoreOf, heardOf};
 ghost use Rattle.asking.specs.Limits.{mostNotes};
-ghost use Rattle.routing.specs.Routing.{heldAlong};
-ghost use Rattle.routing.specs.Sets.{Held, holdersAlong};
+ghost use Rattle.routing.specs.TrackSets.{FoundAlong};
 
-// Whether every note is held, moved by the code's shift, in the columns with a pitch behind so many; if so, the set of the tracks that
-// hold each is left over the front of `sets`. A column in which a track holds the note has a pitch, so only the others are asked for
-// one. It ends at the first note that its column does not hold.
+// Whether every note is held, moved by the code's shift, in the columns with a pitch behind so many; if so, the set of the tracks
+// that hold each is left over the front of `sets`. A column in which a track holds the note has a pitch, so only the others are
+// asked for one. It ends at the first note that its column does not hold.
 pub fn held_behind(
     cells: &[u8],
     tracks: usize,
@@ -26,7 +25,7 @@ pub fn held_behind(
     sets: &mut [u32],
 ) -> bool
     requires { ⌜ (tracks ≤ mostTracks) × (length (now theme) ≤ mostNotes) × (length (now theme) ≤ length (now sets)) ⌝ }
-    ensures { λ r. ⌜ Held (heldAlong way code (now (theme .entry)) (heardOf (drop passed (scoreOf (now (cells .entry)) tracks)))) (holdersAlong way code (now (theme .entry)) (heardOf (drop passed (scoreOf (now (cells .entry)) tracks)))) (now (sets .entry)) r (now (sets .exit)) ⌝ }
+    ensures { λ r. ⌜ FoundAlong way code (now (theme .entry)) (heardOf (drop passed (scoreOf (now (cells .entry)) tracks))) (now (sets .entry)) r (now (sets .exit)) ⌝ }
 {
     let n = columns_in(cells, tracks);
     let mut k = passed;

@@ -1,4 +1,4 @@
-// What is answered.
+// What the router answers.
 
 use score::Refusal;
 

@@ -1,5 +1,5 @@
-// The tracks of a column that hold a note, as a set: bit t of its number is 1 where track t, from 1, holds the note. A loop over cells
-// has no test and no way out, so that many can be looked at together.
+// The tracks of a column that hold a note, as a set: bit t of its number is 1 where track t, from 1, holds the note. A loop over
+// cells has no test and no way out, so that many can be looked at together.
 
 use score::HIGHEST_PITCH;
 use score::Pitch;
@@ -12,7 +12,7 @@ ghost use lib.Dec.{eqb};
 ghost use lib.ListN.{length};
 ghost use Rattle.score.specs.Limits.{mostTracks};
 ghost use Rattle.seeking.specs.Track.{cellHolds};
-ghost use Rattle.routing.specs.Sets.{setOf, holders};
+ghost use Rattle.routing.specs.TrackSets.{setOf, holders};
 
 // The code of exact's shift 0.
 const UNMOVED: u32 = 127;

@@ -11,10 +11,10 @@ use ways::AnyWay;
 use ways::Pair;
 ghost use Rattle.routing.specs.Routing.{Routes};
 
-// The route of the pair: a track from 1 for each note, with the fewest changes of track, and among those the one whose numbers come
-// first, compared from the first note. It is written over the first places of the buffer, one for each note; those behind keep what
-// they hold. Gives the number of changes. Refuses 1 to 5; then 13, a pair that is not listed; then 14, a buffer shorter than the
-// theme. A refused call writes nothing.
+// The route of the pair: a track from 1 for each note, with the fewest changes of track; of several with as few, the one whose
+// numbers come first, compared from the first note on. It is written over the front of the buffer, one place for each note; those
+// behind keep what they hold. Gives the number of changes. Refuses 1 to 5; then 13, a pair that is not listed; then 14, a buffer
+// shorter than the theme. A refused call writes nothing.
 pub fn route(
     cells: &[u8],
     tracks: usize,

@@ -18,12 +18,12 @@ ghost use Rattle.score.specs.Limits.{mostTracks};
 ghost use Rattle.score.specs.Score.{columnAt, column, scoreOf, heard};
 ghost use Rattle.ways.specs.Codes.{outside};
 ghost use Rattle.asking.specs.Limits.{mostNotes};
-ghost use Rattle.routing.specs.Routes.{wayAs};
-ghost use Rattle.routing.specs.Routing.{listed, listedBy};
-ghost use Rattle.routing.specs.Sets.{Held, holdersAt};
+ghost use Rattle.routing.specs.Route.{wayAs};
+ghost use Rattle.routing.specs.Routing.{isListed, isListedBy};
+ghost use Rattle.routing.specs.TrackSets.{FoundAt};
 
-// Whether the pair is listed, of any way; if so, the set of the tracks that hold each note is left over the front of `sets`. A written
-// pair is an exact one with shift 0.
+// Whether the pair is listed, of any way; if so, the set of the tracks that hold each note is left over the front of `sets`. A
+// written pair is an exact one with shift 0.
 pub fn held_at(
     cells: &[u8],
     tracks: usize,
@@ -33,7 +33,7 @@ pub fn held_at(
     sets: &mut [u32],
 ) -> bool
     requires { ⌜ (tracks ≤ mostTracks) × (length (now theme) ≤ mostNotes) × (length (now theme) ≤ length (now sets)) ⌝ }
-    ensures { λ r. ⌜ Held (listed way (scoreOf (now (cells .entry)) tracks) (now (theme .entry)) pair) (holdersAt (wayAs way) (scoreOf (now (cells .entry)) tracks) (now (theme .entry)) pair) (now (sets .entry)) r (now (sets .exit)) ⌝ }
+    ensures { λ r. ⌜ FoundAt (isListed way (scoreOf (now (cells .entry)) tracks) (now (theme .entry)) pair) (wayAs way) (scoreOf (now (cells .entry)) tracks) (now (theme .entry)) pair (now (sets .entry)) r (now (sets .exit)) ⌝ }
 {
     match way {
         AnyWay::Moved(w) => held_moved(cells, tracks, theme, w, pair, sets),
@@ -78,7 +78,7 @@ fn held_moved(
     sets: &mut [u32],
 ) -> bool
     requires { ⌜ (tracks ≤ mostTracks) × (length (now theme) ≤ mostNotes) × (length (now theme) ≤ length (now sets)) ⌝ }
-    ensures { λ r. ⌜ Held (listedBy way (scoreOf (now (cells .entry)) tracks) (now (theme .entry)) pair) (holdersAt way (scoreOf (now (cells .entry)) tracks) (now (theme .entry)) pair) (now (sets .entry)) r (now (sets .exit)) ⌝ }
+    ensures { λ r. ⌜ FoundAt (isListedBy way (scoreOf (now (cells .entry)) tracks) (now (theme .entry)) pair) way (scoreOf (now (cells .entry)) tracks) (now (theme .entry)) pair (now (sets .entry)) r (now (sets .exit)) ⌝ }
 {
     let column = pair.column;
     let shift = pair.shift;

@@ -1,12 +1,16 @@
--- The columns in which the notes of a theme are sought, by their numbers in the score: `onward` of `score` has the columns
--- themselves. The definition that matters is `numbersOn`. Assumes nothing.
-use mathlib.Core.List.{List}
+-- The columns in which the notes of a theme are sought: the columns themselves, as `onward` of `score` has them (`columnSought`), and
+-- their numbers in the score. The definition that matters is `numbersOn`. Assumes nothing.
+use mathlib.Core.List.{List, []}
 use Prim.Native.Nat.{ℕ, _+_, _-_}
-use lib.ListN.{take, drop, replicate}
+use lib.ListN.{take, drop, getD, replicate}
 use Rattle.theory.specs.Lists.{over}
 use Rattle.score.specs.declared.quantities.Column.{Column}
-use Rattle.score.specs.Score.{heardFrom}
+use Rattle.score.specs.Score.{heardFrom, onward}
 use Rattle.seeking.specs.Limits.{mostSought}
+
+-- note i of a theme at column j is sought in the i-th column with a pitch from j on
+abbrev pub columnSought : (score : List (List ℕ)) → Column → (i : ℕ) → List ℕ
+columnSought score j i = getD (onward score j) (i - 1) []
 
 -- the numbers of the columns with a pitch behind the first k
 abbrev pub numbersBehind : (score : List (List ℕ)) → ℕ → List ℕ

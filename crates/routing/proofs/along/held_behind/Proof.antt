@@ -8,13 +8,13 @@ use mathlib.Core.List.{[]}
 use lib.ListN.{length, getD, take, drop}
 use Rattle.score.specs.Score.{columnsIn, scoreOf}
 use Rattle.score.proofs.Columns.{column-room, column-cells}
-use Rattle.routing.proofs.ColumnByColumn.{column-few, Following, following-start, goes-on}
+use Rattle.routing.proofs.ColumnByColumn.{column-few, AlongNotes, following-start, goes-on}
 use Rattle.routing.proofs.ColumnByColumn.{following-took, following-skipped, following-failed, following-end}
 use Rattle.routing.proofs.along.held_behind.Statement.{statement}
 use Rattle.routing.proofs.along.held_behind.Tie as tie
 
 abbrev Inv-loop : tie.InvT-loop
-Inv-loop cells tracks theme way code passed sets₀ n k₀ q₀ sets k q = Following way code cells tracks theme passed sets₀ sets k q
+Inv-loop cells tracks theme way code passed sets₀ n k₀ q₀ sets k q = AlongNotes way code cells tracks theme passed sets₀ sets k q
 
 abbrev μ-loop : tie.MeasureT-loop
 μ-loop cells tracks theme way code passed sets₀ n k₀ q₀ sets k q = columnsIn cells tracks - k

@@ -3,12 +3,12 @@
 use borrow.Author.Needs.{needs}
 use mathlib.Core.Logic.{⊎-elim}
 use native.Mathlib.Omega.{arith}
-use Rattle.routing.proofs.LastToFirst.{Counted, counted-start, counted-few, counted-none, counted-both, counted-end}
+use Rattle.routing.proofs.LastToFirst.{CountedBack, counted-start, counted-few, counted-none, counted-both, counted-end}
 use Rattle.routing.proofs.fewest.backward.Statement.{statement}
 use Rattle.routing.proofs.fewest.backward.Tie as tie
 
 abbrev Inv-loop : tie.InvT-loop
-Inv-loop sets m best₀ changes₀ next₀ i₀ best changes next i = Counted sets m best₀ best changes next i
+Inv-loop sets m best₀ changes₀ next₀ i₀ best changes next i = CountedBack sets m best₀ best changes next i
 
 abbrev μ-loop : tie.MeasureT-loop
 μ-loop sets m best₀ changes₀ next₀ i₀ best changes next i = i

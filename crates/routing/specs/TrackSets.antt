@@ -19,6 +19,7 @@ use Rattle.ways.specs.declared.bookmark.Pair.{Pair}
 use Rattle.ways.specs.Way.{codeOf}
 use Rattle.asking.specs.Limits.{mostNotes}
 use Rattle.seeking.specs.Track.{cellHolds}
+use Rattle.routing.specs.Routing.{heldAlong}
 
 -- ---- the tracks that hold a note
 
@@ -41,9 +42,17 @@ abbrev pub holdersAt : Way → (score : List (List ℕ)) (theme : List ℕ) → 
 holdersAt way score theme pair = holdersAlong way (codeOf way (pair .shift)) theme (onward score (pair .column))
 
 -- what is told of a pair: whether it is listed, and if so, the sets of its notes, over the front of what was lent
-pub record Held (said : Bool) (found lent : List ℕ) (all : Bool) (sets : List ℕ) : Type 0 where
+pub record FoundTracks (said : Bool) (found lent : List ℕ) (all : Bool) (sets : List ℕ) : Type 0 where
   pub told : all ≡ said
   pub found-all : all ≡ true → sets ≡ over lent found
+
+-- the same of the notes along columns, and of a pair that is said to be listed or not
+abbrev pub FoundAlong : Way → (code : ℕ) (theme : List ℕ) (columns : List (List ℕ)) (lent : List ℕ) (all : Bool) (sets : List ℕ) → Type 0
+FoundAlong way code theme columns lent all sets =
+    FoundTracks (heldAlong way code theme columns) (holdersAlong way code theme columns) lent all sets
+
+abbrev pub FoundAt : (said : Bool) → Way → (score : List (List ℕ)) (theme : List ℕ) → Pair → (lent : List ℕ) (all : Bool) (sets : List ℕ) → Type 0
+FoundAt said way score theme pair lent all sets = FoundTracks said (holdersAt way score theme pair) lent all sets
 
 -- ---- the fewest changes, from the last note to the first
 
@@ -68,8 +77,8 @@ leastOf (s ∷ sets) = cond (eqb (bitAnd s (bestOf sets)) 0) 1 0 + leastOf sets
 abbrev pub lowestOf : ℕ → ℕ
 lowestOf set = trailingZeros 32 set
 
--- after track t: it stays where it is among the best. Otherwise there is one change from here on that no route avoids, now or
--- later: the lowest of the best, and of t itself if it has the note
+-- after track t: it stays if it is among the best. Otherwise the track has to change, here or later: the lowest of the best is taken,
+-- or t itself if it is lower and has the note
 abbrev pub nextTrack : (t set best : ℕ) → ℕ
 nextTrack t set best = cond (eqb (bit best t) 1) t (lowestOf (bitOr best (bitAnd set (2 ^ t))))
 
@@ -89,7 +98,7 @@ pub record Playable (sets : List ℕ) : Type 0 where
   pub each : (k : ℕ) → k < length sets → Tracks (getD sets k 0)
 
 -- the first m sets of an array are such
-pub record SetsThere (sets : List ℕ) (m : ℕ) : Type 0 where
+pub record TracksThere (sets : List ℕ) (m : ℕ) : Type 0 where
   pub notes-few : m ≤ mostNotes
   pub room : m ≤ length sets
   pub playable : Playable (take m sets)

@@ -1,5 +1,5 @@
--- A route of a listed pair is a track for each note that has the note in its cell. The one that is meant has the fewest changes of
--- track, and among those it comes first: `TheRoute`, over all routes. Tracks are numbered from 1. Assumes nothing.
+-- A route of a listed pair has for each note a track whose cell holds it. The one that is meant has the fewest changes of track, and
+-- among those it comes first: `TheRoute`, over all routes. Tracks are numbered from 1. Assumes nothing.
 use mathlib.Core.Path.{_≡_}
 use mathlib.Core.Bool.{cond}
 use mathlib.Core.Logic.{_⊎_}
@@ -7,13 +7,14 @@ use mathlib.Core.List.{List, [], _∷_}
 use Prim.Native.Nat.{ℕ, _+_, _-_, _≤_, _<_}
 use lib.Dec.{eqb}
 use lib.ListN.{length, getD}
-use Rattle.score.specs.Score.{onward, note}
+use Rattle.score.specs.Score.{note}
 use Rattle.ways.specs.declared.way.Way.{Way}
 use Rattle.ways.specs.declared.way.Way.the-variants.{Exact}
 use Rattle.ways.specs.declared.way.AnyWay.{AnyWay}
 use Rattle.ways.specs.declared.way.AnyWay.the-variants.{Moved, Written}
 use Rattle.ways.specs.declared.bookmark.Pair.{Pair}
 use Rattle.ways.specs.Way.{Holds}
+use Rattle.seeking.specs.Sought.{columnSought}
 
 -- ---- routes compared
 
@@ -40,11 +41,11 @@ wayAs (Moved way) = way
 wayAs Written = Exact
 
 module _ (way : AnyWay) (score : List (List ℕ)) (theme : List ℕ) (pair : Pair) where
-  -- note i is sought in the i-th column with a pitch from the pair's column on
+  -- the column of note i
   abbrev pub columnOf : ℕ → List ℕ
-  columnOf i = getD (onward score (pair .column)) (i - 1) []
+  columnOf i = columnSought score (pair .column) i
 
-  -- track t has note i: it is a track of the column, and its cell alone holds the note moved by the shift
+  -- track t has note i: it is a track of the column, and its cell, taken by itself, holds the note moved by the shift
   pub record Plays (i t : ℕ) : Type 0 where
     pub from-first : 1 ≤ t
     pub to-last : t ≤ length (columnOf i)

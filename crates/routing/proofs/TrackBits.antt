@@ -6,7 +6,7 @@ use mathlib.Core.Bool.{Bool, true, false, not, cond}
 use mathlib.Core.Logic.{_↔_}
 use mathlib.Core.List.{List, [], _∷_}
 use Prim.Native.Nat.{ℕ, zero, suc, _+_, _-_, _*_, _/_, _^_, _≤_, _<_, zero-le, suc-le-suc}
-use native.Mathlib.Nat.{not-suc-le-zero, le-of-suc-le-suc, zero-lt-suc, pow-suc, lt-of-lt-of-le}
+use native.Mathlib.Nat.{not-suc-le-zero, le-of-suc-le-suc, le-refl, zero-lt-suc, pow-suc, lt-of-lt-of-le}
 use native.Mathlib.Numerals.{add-one}
 use native.Mathlib.Omega.{arith}
 use lib.Dec.{eqb}
@@ -32,19 +32,16 @@ use Rattle.ways.proofs.Shifts.{shift-code}
 use Rattle.ways.proofs.Holding.{holds-true, true-holds, eqb-same}
 use Rattle.seeking.specs.Track.{cellHolds}
 use Rattle.seeking.proofs.Tracks.{holds-cells}
-use Rattle.routing.specs.Routes.{wayAs, Plays, Route}
-use Rattle.routing.specs.Routing.{heldAlong, listed}
-use Rattle.routing.specs.Sets.{setOf, holders, holdersAlong, holdersAt, Tracks, Playable}
+use Rattle.routing.specs.Route.{wayAs, Plays, Route}
+use Rattle.routing.specs.Routing.{heldAlong, isListed}
+use Rattle.routing.specs.TrackSets.{setOf, holders, holdersAlong, holdersAt, Tracks, Playable}
+use Rattle.routing.proofs.CellBits.{bit-le, set-lt}
 use Rattle.routing.proofs.HeldBy.{HeldBy, held-length, held-each, each-held}
-use Rattle.routing.proofs.ListedPairs.{HeldEach, held-along, by-along, listed-by, listed-held}
+use Rattle.routing.proofs.ListedPairs.{HeldEach, held-along, by-along, is-listed-by, is-listed-held}
 
 -- ---- the cells that pass a test, as a set
 
 -- a test as a bit
-digit : (b : Bool) → cond b 1 0 < 2
-digit true = omega arith
-digit false = omega arith
-
 digit-is : (b : Bool) → _≡_ {A = ℕ} (cond b 1 0) 1 → b ≡ true
 digit-is true e = refl
 digit-is false e = absurd (omega (arith, e))
@@ -53,12 +50,12 @@ module _ (test : ℕ → Bool) where
   -- one cell more: the lowest bit is its own, and the others move up
   set-first : (cell : ℕ) (cells : List ℕ) → bit (setOf test (cell ∷ cells)) 0 ≡ cond (test cell) 1 0
   unfolding setOf
-  set-first cell cells = bit-zero (cond (test cell) 1 0 + setOf test cells * 2) ∙ omega (arith, digit (test cell))
+  set-first cell cells = bit-zero (cond (test cell) 1 0 + setOf test cells * 2) ∙ omega (arith, bit-le (test cell))
 
   set-others : (cell : ℕ) (cells : List ℕ) (k : ℕ) → bit (setOf test (cell ∷ cells)) (suc k) ≡ bit (setOf test cells) k
   unfolding setOf
   set-others cell cells k =
-      let e : (cond (test cell) 1 0 + setOf test cells * 2) / 2 ≡ setOf test cells = omega (arith, digit (test cell)) in
+      let e : (cond (test cell) 1 0 + setOf test cells * 2) / 2 ≡ setOf test cells = omega (arith, bit-le (test cell)) in
       bit-suc (cond (test cell) 1 0 + setOf test cells * 2) k ∙ ap (λ (n : ℕ). bit n k) e
 
   set-empty : (k : ℕ) → bit (setOf test []) k ≡ 0
@@ -79,11 +76,6 @@ module _ (test : ℕ → Bool) where
 
   pub set-bit : (cells : List ℕ) (k : ℕ) → (bit (setOf test cells) k ≡ 1) ↔ ((k < length cells) × (test (getD cells k 0) ≡ true))
   set-bit cells k = (bit-passes cells k, λ h. passes-bit cells k (h .0) (h .1))
-
-  pub set-lt : (cells : List ℕ) → setOf test cells < 2 ^ length cells
-  unfolding setOf
-  set-lt [] = zero-lt-suc 0
-  set-lt (cell ∷ cells) = rw pow-suc (omega (arith, digit (test cell), set-lt cells))
 
   -- it is 0 exactly where no cell passes
   pub set-none : (cells : List ℕ) → eqb (setOf test cells) 0 ≡ not (some test cells)
@@ -122,7 +114,7 @@ module _ (way : Way) (code : ℕ) (p : Pitch) (column : List ℕ) where
       )
 
   pub holders-lt : holders way code p column < 2 ^ (length column + 1)
-  holders-lt = rw (add-one (length column), pow-suc) (omega (arith, set-lt (cellHolds way code p) column))
+  holders-lt = rw (add-one (length column), pow-suc) (omega (arith, set-lt (cellHolds way code p) column (length column) (le-refl (length column))))
 
   -- it is 0 exactly where the column does not hold the note
   pub holders-none : eqb (holders way code p column) 0 ≡ not (holds way code p column)
@@ -200,7 +192,7 @@ onward-le cells h j =
 
 -- ---- a listed pair
 
-module _ (way : AnyWay) (score : List (List ℕ)) (theme : List ℕ) (pair : Pair) (e : listed way score theme pair ≡ true) where
+module _ (way : AnyWay) (score : List (List ℕ)) (theme : List ℕ) (pair : Pair) (e : isListed way score theme pair ≡ true) where
   abbrev w : Way
   w = wayAs way
 
@@ -217,7 +209,7 @@ module _ (way : AnyWay) (score : List (List ℕ)) (theme : List ℕ) (pair : Pai
   sets = holdersAt w score theme pair
 
   along : heldAlong w code theme columns ≡ true
-  along = by-along w score theme pair (listed-held way score theme pair e)
+  along = by-along w score theme pair (is-listed-held way score theme pair e)
 
   pub listed-length : length (holdersAt (wayAs way) score theme pair) ≡ length theme
   listed-length = holders-length w code theme columns along
@@ -225,7 +217,7 @@ module _ (way : AnyWay) (score : List (List ℕ)) (theme : List ℕ) (pair : Pai
   -- ---- a route takes its tracks from the sets
 
   back : shiftOf w code ≡ c
-  back = shift-code w c (listed-by w score theme pair .0 (listed-held way score theme pair e) .not-below)
+  back = shift-code w c (is-listed-by w score theme pair .0 (is-listed-held way score theme pair e) .not-below)
 
   -- note k, from 0, in its column
   abbrev p : ℕ → Pitch
@@ -274,7 +266,7 @@ module _ (way : AnyWay) (score : List (List ℕ)) (theme : List ℕ) (pair : Pai
   )
 
 pub listed-playable : (way : AnyWay) (cells : List ℕ) (h : ℕ) (theme : List ℕ) (pair : Pair) → h ≤ mostTracks
-    → listed way (scoreOf cells h) theme pair ≡ true → Playable (holdersAt (wayAs way) (scoreOf cells h) theme pair)
+    → isListed way (scoreOf cells h) theme pair ≡ true → Playable (holdersAt (wayAs way) (scoreOf cells h) theme pair)
 listed-playable way cells h theme pair few e =
     holders-playable (wayAs way) (codeOf (wayAs way) (pair .shift)) theme (onward (scoreOf cells h) (pair .column))
     (along way (scoreOf cells h) theme pair e) (λ k. omega (arith, few, onward-le cells h (pair .column) k))
