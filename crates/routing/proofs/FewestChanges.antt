@@ -12,11 +12,10 @@ use lib.ListN.{length}
 use Rattle.theory.specs.Bits.{bit}
 use Rattle.theory.proofs.Bits.{bit-ones}
 use Rattle.routing.specs.Route.{changesFrom, changes, NotAfter}
-use Rattle.routing.specs.TrackSets.{bestOf, leastOf, nextTrack, chosen, Tracks, Playable}
+use Rattle.routing.specs.TrackSets.{bestBefore, due, bestOf, leastOf, nextTrack, chosen, Tracks, Playable}
 use Rattle.routing.proofs.HeldBy.{HeldBy}
 use Rattle.routing.proofs.LowestTrack.{track-few}
-use Rattle.routing.proofs.NextTrack.{moved, moved-other, bestBefore, due, best-bit, before-tracks, fewest-le, Next}
-use Rattle.routing.proofs.NextTrack.{next-track}
+use Rattle.routing.proofs.NextTrack.{moved, moved-other, best-bit, before-tracks, fewest-le, Next, next-track}
 
 -- ---- sets that are playable
 

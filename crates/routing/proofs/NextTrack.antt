@@ -13,7 +13,7 @@ use borrow.Author.Tests.{eqb-true, eqb-false, eq-eqb, ne-eqb}
 use Rattle.theory.specs.Bits.{bit}
 use Rattle.theory.proofs.Bits.{bit-lt, bit-and, bit-or, bit-high, bit-pow-same, bit-pow-other}
 use Rattle.score.specs.Limits.{mostTracks}
-use Rattle.routing.specs.TrackSets.{lowestOf, nextTrack, Tracks}
+use Rattle.routing.specs.TrackSets.{bestBefore, due, lowestOf, nextTrack, Tracks}
 use Rattle.routing.proofs.LowestTrack.{LowestBit, lowest-bit, track-few}
 
 -- ---- whether there is a change
@@ -30,14 +30,7 @@ moved-other t u n = rw (ne-eqb t u n)
 
 -- ---- the best tracks
 
--- the tracks of s that are best before a note whose best are b, and 1 where none of them is best for that note too
-abbrev pub bestBefore : (s b : ℕ) → ℕ
-bestBefore s b = cond (eqb (bitAnd s b) 0) s (bitAnd s b)
-
-abbrev pub due : (s b : ℕ) → ℕ
-due s b = cond (eqb (bitAnd s b) 0) 1 0
-
--- both, x and d, by a bit of each: they are 0 or 1
+-- the best before a note, x, and the change that is due there, d, by a bit of each: they are 0 or 1
 pub record BestBit (s b x d q : ℕ) : Type 0 where
   pub due-lt : d < 2
   pub set-lt : bit s q < 2

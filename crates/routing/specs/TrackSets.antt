@@ -60,16 +60,22 @@ FoundAt said way score theme pair lent all sets = FoundTracks said (holdersAt wa
 abbrev pub everyTrack : ℕ
 everyTrack = 2 ^ 32 - 1
 
--- the tracks of the first of the notes from which the fewest changes are left: those that are best for the next note too, or all
--- where there is none
+-- the tracks of set s from which the fewest changes are left, before a note whose best are b: those that are best for that note too, or
+-- all of s where there is none; and 1 where there is none, for the change that is then due
+abbrev pub bestBefore : (s b : ℕ) → ℕ
+bestBefore s b = cond (eqb (bitAnd s b) 0) s (bitAnd s b)
+
+abbrev pub due : (s b : ℕ) → ℕ
+due s b = cond (eqb (bitAnd s b) 0) 1 0
+
+-- the best tracks of the first of the notes, and how many changes are left from them
 unfoldable pub bestOf : (sets : List ℕ) → ℕ
 bestOf [] = everyTrack
-bestOf (s ∷ sets) = cond (eqb (bitAnd s (bestOf sets)) 0) s (bitAnd s (bestOf sets))
+bestOf (s ∷ sets) = bestBefore s (bestOf sets)
 
--- how many changes are then left: one more where there is none
 unfoldable pub leastOf : (sets : List ℕ) → ℕ
 leastOf [] = 0
-leastOf (s ∷ sets) = cond (eqb (bitAnd s (bestOf sets)) 0) 1 0 + leastOf sets
+leastOf (s ∷ sets) = due s (bestOf sets) + leastOf sets
 
 -- ---- the tracks, from the first note to the last
 
