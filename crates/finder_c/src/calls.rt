@@ -228,6 +228,7 @@ pub extern "C" fn finder_route(
         column: Column(column),
         shift,
     };
-    let a = route(cells, tracks, theme, any_way_of(way), pair, places);
+    let any = any_way_of(way);
+    let a = route(cells, tracks, theme, any, pair, places);
     told_single(of_routed(a), answer)
 }
