@@ -1,5 +1,5 @@
-// The tracks of a column that hold a note, as a set: bit t of its number is 1 where track t, from 1, holds the note. A loop over
-// cells has no test and no way out, so that many can be looked at together.
+// The tracks of a column that hold a note, as a set: bit t of its number is 1 where track t, from 1, holds the note. All cells are
+// gone through whatever is found, so that many can be looked at together.
 
 use score::HIGHEST_PITCH;
 use score::Pitch;
