@@ -1,6 +1,5 @@
 /* How C calls the finder: prepares a small score, lists a theme's pairs page by page, explains why some are listed and
- * others are not, asks who plays one, asks whether themes occur at all, and changes a column. Then it lists themes as long as
- * they may be, by both quick pages. */
+ * others are not, asks who plays one, asks whether themes occur at all, and changes a column. */
 #include <finder.h>
 #include <stdio.h>
 #include <string.h>
@@ -9,7 +8,7 @@
  * call was refused. */
 static int64_t occurs(const uint8_t *cells, const uint8_t *theme, const uint16_t *sets, int64_t summary)
 {
-    static uint64_t table[FINDER_TABLE_LEN];
+    static uint32_t table[FINDER_TABLE_LEN];
     int64_t answer;
     int64_t result = finder_occurs(cells, 10, 2, theme, 2, FINDER_OCTAVE, sets, 4, (uint16_t)summary, table, FINDER_TABLE_LEN,
                                    &answer, FINDER_ONE_LEN);
@@ -135,52 +134,6 @@ static int tracks(void)
         && routed(FINDER_EXACT, 1, 0, 4, 0, FINDER_NO_CALL, as_it_was, -77);
 }
 
-/* A theme of so many notes, all of one pitch, in 66 columns of one track: whether the two quick pages give these results, and
- * list it from the first column on, where they are accepted. The tables then have a 0 for each interval, and 1 behind them. */
-static int long_theme(size_t notes, int64_t wide, int64_t narrow)
-{
-    static uint64_t table[FINDER_TABLE_LEN];
-    static uint32_t table_32[FINDER_TABLE_LEN];
-    uint8_t cells[66];
-    uint16_t sets[65], columns[80], columns_32[80];
-    int16_t shifts[80], shifts_32[80];
-    int64_t answer[FINDER_ANSWER_LEN] = {-77, -77, -77, -77, -77}, answer_32[FINDER_ANSWER_LEN] = {-77, -77, -77, -77, -77};
-    int64_t summary, i;
-
-    memset(cells, 60, sizeof cells);
-    table[4094] = 77;
-    table_32[4094] = 77;
-    if (finder_prepare(cells, sizeof cells, 1, sets, 65, &summary, FINDER_ONE_LEN) != 0 || summary != 4094)
-        return 0;
-    /* the theme is so many notes of the score itself */
-    if (finder_quick_page(cells, sizeof cells, 1, cells, notes, FINDER_EXACT, 1, -127, sets, 65, table, FINDER_TABLE_LEN, columns,
-                          80, shifts, 80, answer, 5) != wide
-        || finder_quick_page_32(cells, sizeof cells, 1, cells, notes, FINDER_EXACT, 1, -127, sets, 65, table_32,
-                                FINDER_TABLE_LEN, columns_32, 80, shifts_32, 80, answer_32, 5) != narrow)
-        return 0;
-    if (wide != 0 ? table[4094] != 77 || answer[0] != -77 || answer[4] != -77
-                  : table[4094] != UINT64_MAX << (notes - 1) || table[4095] != UINT64_MAX || answer[0] != 67 - (int64_t)notes)
-        return 0;
-    if (narrow != 0)
-        return table_32[4094] == 77 && answer_32[0] == -77 && answer_32[4] == -77;
-    if (table_32[4094] != UINT32_MAX << (notes - 1) || table_32[4095] != UINT32_MAX)
-        return 0;
-    for (i = 0; i < 5; i++)
-        if (answer_32[i] != answer[i])
-            return 0;
-    for (i = 0; i < answer[0]; i++)
-        if (columns[i] != i + 1 || shifts[i] != 0 || columns_32[i] != i + 1 || shifts_32[i] != 0)
-            return 0;
-    return 1;
-}
-
-/* Themes of 2 to 64 notes, and for the 32-bit quick page of 2 to 32; whether all went well. */
-static int long_themes(void)
-{
-    return long_theme(1, 4, 4) && long_theme(2, 0, 0) && long_theme(FINDER_MOST_NOTES_32, 0, 0) && long_theme(33, 0, 4)
-        && long_theme(63, 0, 4) && long_theme(FINDER_MOST_NOTES, 0, 4) && long_theme(65, 4, 4);
-}
-
 int main(void)
 {
     /* five columns of two tracks; 255 is a rest */
@@ -188,8 +141,7 @@ int main(void)
     static const uint8_t theme[] = {67, 62};
     static const uint16_t expected[] = {1, 2, 4};
     static const uint8_t gap[] = {60, 255, 62}, gap_theme[] = {60, 62};
-    static uint64_t table[FINDER_TABLE_LEN];
-    static uint32_t table_32[FINDER_TABLE_LEN];
+    static uint32_t table[FINDER_TABLE_LEN];
     uint16_t sets[4], columns[2];
     int16_t shifts[2];
     int64_t answer[FINDER_ANSWER_LEN] = {0, 1, -127, 0, 0}, summary, why[FINDER_EXPLAIN_LEN];
@@ -233,10 +185,6 @@ int main(void)
     if (!question(cells, theme, sets, summary))
         return 1;
 
-    if (!long_themes())
-        return 1;
-    printf("themes of 64 notes, and of 32 with the smaller table\n");
-
     /* one track with a column of rests: it is passed over */
     result = finder_prepare(gap, sizeof gap, 1, sets, 2, &summary, FINDER_ONE_LEN);
     if (result != 0 || sets[0] != 4091 || sets[1] != 4095 || summary != 4091)
@@ -251,12 +199,10 @@ int main(void)
     if (result != 0 || !told(why, FINDER_LISTED, 0, FINDER_KEPT, 0, 0, 1, 1))
         return 1;
 
-    /* an unknown way, and one that the quick pages do not take */
+    /* an unknown way, and one that the quick page does not take */
     return finder_plain_page(cells, sizeof cells, 2, theme, sizeof theme, 3, 1, 0, columns, 2, shifts, 2, answer, 5)
             == FINDER_NO_CALL
         && finder_quick_page(cells, sizeof cells, 2, theme, sizeof theme, FINDER_WRITTEN, 1, 0, sets, 4, table,
                              FINDER_TABLE_LEN, columns, 2, shifts, 2, answer, 5) == FINDER_NO_CALL
-        && finder_quick_page_32(cells, sizeof cells, 2, theme, sizeof theme, FINDER_WRITTEN, 1, 0, sets, 4, table_32,
-                                FINDER_TABLE_LEN, columns, 2, shifts, 2, answer, 5) == FINDER_NO_CALL
         ? 0 : 1;
 }

@@ -6,8 +6,7 @@
  * own.
  *
  * A score is `cells`, column after column, `tracks` cells a column, one per track. A cell 0 to 127 is a MIDI pitch and
- * 255 is a rest. There are 1 to 16 tracks and n = 1 to 2,048 columns, numbered from 1. A theme is 2 to 64 pitches; in
- * finder_quick_page_32 alone it is 2 to 32.
+ * 255 is a rest. There are 1 to 16 tracks and n = 1 to 2,048 columns, numbered from 1. A theme is 2 to 32 pitches.
  *
  * A pair (column, shift) says that the theme stands at that column with that shift: the columns with a pitch from that
  * one on, itself the first, hold the notes moved by the shift (score minus theme), one after another, whichever track has
@@ -15,23 +14,17 @@
  *   way 0, exact:   shifts -127 to 127.
  *   way 1, octave:  shifts 0 to 11, octaves ignored.
  *   way 2, written: shift 0 alone, the tune in its own key. The pairs are those of exact with shift 0. The plain page
- *                   and the router take it; the quick pages, the question and the explainer do not.
+ *                   and the router take it; the quick page, the question and the explainer do not.
  * Pairs are listed by rising column, then by rising shift.
  *
- * There are eight calls. finder_prepare and finder_update keep a score's interval sets; finder_plain_page,
- * finder_quick_page and finder_quick_page_32 list pairs; finder_occurs, the question, says whether there is any;
- * finder_explain, the explainer, says why one pair is listed or not; finder_route, the router, says who plays a listed
- * pair, with the fewest changes of track.
+ * There are seven calls. finder_prepare and finder_update keep a score's interval sets; finder_plain_page and
+ * finder_quick_page list pairs; finder_occurs, the question, says whether there is any; finder_explain, the explainer, says
+ * why one pair is listed or not; finder_route, the router, says who plays a listed pair, with the fewest changes of track.
  *
- * A score's interval sets, which finder_prepare fills, serve the quick pages, the question and the explainer. Their summary
+ * A score's interval sets, which finder_prepare fills, serve the quick page, the question and the explainer. Their summary
  * is one number of 12 bits: bit d, d = 0 to 11, is 0 exactly where some set has bit d at 0; with no sets it is 4095. So it is
  * the `&` of 4095 and all sets. finder_prepare and finder_update give it, and finder_occurs is handed it beside the sets. In
  * these three calls `answer` has 1 place, for the one number that each says; so it has in finder_route.
- *
- * A theme's table, which the quick pages and the question fill, has a word for each of the 4,096 sets that there can be. A
- * word has 64 bits, and in finder_quick_page_32 it has 32. Bit i, for i from 0 to theme_len - 2, is 0 exactly where the set
- * has the interval from note i + 1 to note i + 2, octaves ignored; all other bits are 1. So the low 32 bits of both words
- * of a theme of up to 32 notes are the same.
  *
  * A page call writes the first pairs at or after its bookmark (column, shift), as many as the buffers have places. The
  * first bookmark is (1, -127), for octave and written (1, 0). After a full page whose last pair is (j, c) the next bookmark
@@ -69,7 +62,7 @@
  *    1  there are no tracks, or more than 16
  *    2  the cells do not fill whole columns, or there is no column, or more than 2,048
  *    3  some cell is neither a pitch nor a rest; place: the first of them, counted from 0
- *    4  the theme has fewer than 2 notes, or more than 64; in finder_quick_page_32, more than 32
+ *    4  the theme has fewer than 2 notes, or more than 32
  *    5  some note is above 127; place: the first of them, counted from 0
  *    6  `sets` has not n - 1 places
  *    7  some set is above 4095; place: the first of them, counted from 0
@@ -81,7 +74,7 @@
  *   13  the pair is not listed; finder_explain says why, exact or octave
  *   14  `route` has fewer places than the theme has notes
  *   19  the changed column is not 1 to n
- *  255  before any refusal: way is above 2 in the plain page or the router, or above 1 in a quick page, the question or
+ *  255  before any refusal: way is above 2 in the plain page or the router, or above 1 in the quick page, the question or
  *       the explainer; or answer isn't 5 long in a page call, 69 long in the explainer, or 1 long in the other calls.
  *       Nothing is written then either.
  *
@@ -101,16 +94,14 @@ extern "C" {
 #endif
 
 enum {
-    FINDER_EXACT = 0,          /* ways */
+    FINDER_EXACT = 0,         /* ways */
     FINDER_OCTAVE = 1,
-    FINDER_WRITTEN = 2,        /* in the plain page and the router only */
-    FINDER_NO_CALL = 255,      /* unknown way, or `answer` of the wrong length */
-    FINDER_MOST_NOTES = 64,    /* of a theme; a route has as many places at most */
-    FINDER_MOST_NOTES_32 = 32, /* of a theme in finder_quick_page_32 */
-    FINDER_TABLE_LEN = 4096,   /* places of a theme table, whichever the width of its words */
-    FINDER_ANSWER_LEN = 5,     /* places of `answer` in a page call */
-    FINDER_EXPLAIN_LEN = 69,   /* places of `answer` in the explainer */
-    FINDER_ONE_LEN = 1         /* places of `answer` in the other calls: one number */
+    FINDER_WRITTEN = 2,       /* in the plain page and the router only */
+    FINDER_NO_CALL = 255,     /* unknown way, or `answer` of the wrong length */
+    FINDER_TABLE_LEN = 4096,  /* places of a theme table */
+    FINDER_ANSWER_LEN = 5,    /* places of `answer` in a page call */
+    FINDER_EXPLAIN_LEN = 69,  /* places of `answer` in the explainer */
+    FINDER_ONE_LEN = 1        /* places of `answer` in the other calls: one number */
 };
 
 enum {                        /* the explainer's answer[0] */
@@ -159,7 +150,7 @@ int64_t finder_update(const uint8_t *cells, size_t cells_len, size_t tracks, uin
  * theme of one note, as someone begins to type, is refused 4: there is nothing to find yet. Refuses 1 to 8, 12. */
 int64_t finder_occurs(const uint8_t *cells, size_t cells_len, size_t tracks,
                       const uint8_t *theme, size_t theme_len, uint8_t way,
-                      const uint16_t *sets, size_t sets_len, uint16_t summary, uint64_t *table, size_t table_len,
+                      const uint16_t *sets, size_t sets_len, uint16_t summary, uint32_t *table, size_t table_len,
                       int64_t *answer, size_t answer_len);
 
 /* A page of the plain search, of any way. Refuses 1 to 5, 9, 10. */
@@ -173,17 +164,9 @@ int64_t finder_plain_page(const uint8_t *cells, size_t cells_len, size_t tracks,
  * does not matter. The theme's table is left in `table`, whatever it held. Refuses 1 to 10. */
 int64_t finder_quick_page(const uint8_t *cells, size_t cells_len, size_t tracks,
                           const uint8_t *theme, size_t theme_len, uint8_t way, uint16_t column, int16_t shift,
-                          const uint16_t *sets, size_t sets_len, uint64_t *table, size_t table_len,
+                          const uint16_t *sets, size_t sets_len, uint32_t *table, size_t table_len,
                           uint16_t *columns, size_t columns_len, int16_t *shifts, size_t shifts_len,
                           int64_t *answer, size_t answer_len);
-
-/* The same with a table of half the size, for themes of 2 to 32 notes: the same page. A theme of 33 notes or more is refused
- * 4. Refuses 1 to 10. */
-int64_t finder_quick_page_32(const uint8_t *cells, size_t cells_len, size_t tracks,
-                             const uint8_t *theme, size_t theme_len, uint8_t way, uint16_t column, int16_t shift,
-                             const uint16_t *sets, size_t sets_len, uint32_t *table, size_t table_len,
-                             uint16_t *columns, size_t columns_len, int16_t *shifts, size_t shifts_len,
-                             int64_t *answer, size_t answer_len);
 
 /* The explainer: why the theme is listed at `column` with `shift`, or is not, exact or octave; any column and any shift may
  * be asked about. The sets are the score's own, or any others: then they may dismiss the column of a listed pair, or keep

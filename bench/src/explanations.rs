@@ -1,7 +1,7 @@
 //! The explainer: pairs that are listed, pairs whose last note is absent, and columns from which on too few have a pitch.
 
 use crate::rust_finder::{self, EXPLAIN_LEN};
-use crate::scores::{sizes, Kind, Random, Score, ALL_CLASSES, TOTAL, TRACKS};
+use crate::scores::{Kind, Random, Score, ALL_CLASSES, COLUMNS, NOTES, TOTAL, TRACKS};
 use crate::timing::{keep, medians, Ratios, ROUNDS};
 use finder::{Pair, Reason, Way};
 
@@ -159,13 +159,15 @@ impl Explanations {
         let mut rows = Vec::new();
         for (way, name) in [(Way::Exact, "exact"), (Way::Octave, "octave")] {
             for h in TRACKS {
-                for (m, n) in sizes() {
-                    let t = CASES.map(|case| {
-                        let mut input = Input::new(case, kind, h, m, n, way, &mut random);
-                        input.compare(case, &mut random);
-                        medians(&mut input, CALLS).map(|t| t / (TOTAL / n) as f64)
-                    });
-                    rows.push(Row { way: name, h, m, n, t });
+                for m in NOTES {
+                    for n in COLUMNS {
+                        let t = CASES.map(|case| {
+                            let mut input = Input::new(case, kind, h, m, n, way, &mut random);
+                            input.compare(case, &mut random);
+                            medians(&mut input, CALLS).map(|t| t / (TOTAL / n) as f64)
+                        });
+                        rows.push(Row { way: name, h, m, n, t });
+                    }
                 }
             }
         }

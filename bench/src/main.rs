@@ -4,8 +4,6 @@
 //! turn, so that a slow moment of the machine falls on both. The answers and every lent buffer are compared before
 //! anything is timed.
 //!
-//! There are two quick pages, with a table of 64-bit words and with one of 32-bit words, which takes themes of up to 32 notes.
-//!
 //! There are two kinds of scores: those in which every column has a pitch, and those in which a tenth of the columns have
 //! none. `finder-bench full` times the first kind alone. Preparation and pages come first, then the question and the update,
 //! and then the explainer and the router, whose times are nanoseconds a call. `finder-bench explainer` times the explainer alone,

@@ -1,9 +1,9 @@
 //! Preparation and pages: the library and the Rust in tables.
 
 use crate::rust_finder::{self, Bits, Direct};
-use crate::scores::{sizes, Kind, Random, Score, ALL_CLASSES, COLUMNS, NOTES, TOTAL, TRACKS};
-use crate::timing::{keep, medians, Missed, Ratios, ROUNDS};
-use finder::{AnyWay, Page, Refusal, Summary, Way, MOST_NOTES_32, TABLE_LEN};
+use crate::scores::{Kind, Random, Score, ALL_CLASSES, COLUMNS, NOTES, TOTAL, TRACKS};
+use crate::timing::{keep, medians, Ratios, ROUNDS};
+use finder::{AnyWay, Page, Refusal, Summary, Way, TABLE_LEN};
 use std::hint::black_box;
 
 /// As many scores as make 2,048 columns, each with a theme that stands in it, and what a call is lent. The way is a `Way`,
@@ -19,9 +19,7 @@ struct Input<W> {
 
 #[derive(Clone, PartialEq, Debug)]
 struct Lent {
-    table: Vec<u64>,
-    /// that of the 32-bit quick page
-    table_32: Vec<u32>,
+    table: Vec<u32>,
     columns: Vec<u16>,
     shifts: Vec<i16>,
 }
@@ -35,24 +33,14 @@ fn lib_plain(s: &Score, h: usize, way: impl Into<AnyWay>, lent: &mut Lent) -> Re
 }
 
 fn lib_quick(s: &Score, h: usize, way: Way, lent: &mut Lent) -> Result<Page, Refusal> {
-    let Lent { table, columns, shifts, .. } = lent;
+    let Lent { table, columns, shifts } = lent;
     finder::quick_page(&s.cells, h, &s.theme, way, way.first(), &s.sets, table, columns, shifts)
-}
-
-fn lib_quick_32(s: &Score, h: usize, way: Way, lent: &mut Lent) -> Result<Page, Refusal> {
-    let Lent { table_32, columns, shifts, .. } = lent;
-    finder::quick_page_32(&s.cells, h, &s.theme, way, way.first(), &s.sets, table_32, columns, shifts)
 }
 
 /// A quick page of a score of one column, in which the theme has no room: the fill, and the checks of little.
 fn lib_fill(s: &Score, _: usize, way: Way, lent: &mut Lent) -> Result<Page, Refusal> {
-    let Lent { table, columns, shifts, .. } = lent;
+    let Lent { table, columns, shifts } = lent;
     finder::quick_page(&[60], 1, &s.theme, way, way.first(), &[], table, &mut columns[..1], &mut shifts[..1])
-}
-
-fn lib_fill_32(s: &Score, _: usize, way: Way, lent: &mut Lent) -> Result<Page, Refusal> {
-    let Lent { table_32, columns, shifts, .. } = lent;
-    finder::quick_page_32(&[60], 1, &s.theme, way, way.first(), &[], table_32, &mut columns[..1], &mut shifts[..1])
 }
 
 fn rust_plain<'a, C: rust_finder::Check<'a>>(s: &'a Score, h: usize, way: Way, lent: &mut Lent) -> Result<Page, Refusal> {
@@ -60,27 +48,8 @@ fn rust_plain<'a, C: rust_finder::Check<'a>>(s: &'a Score, h: usize, way: Way, l
 }
 
 fn rust_quick<'a, C: rust_finder::Check<'a>>(s: &'a Score, h: usize, way: Way, lent: &mut Lent) -> Result<Page, Refusal> {
-    let Lent { table, columns, shifts, .. } = lent;
-    rust_finder::quick_page::<C, u64>(&s.cells, h, &s.theme, way, way.first(), &s.sets, table, columns, shifts)
-}
-
-fn rust_quick_32(s: &Score, h: usize, way: Way, lent: &mut Lent) -> Result<Page, Refusal> {
-    type Bits32<'a> = Bits<'a, MOST_NOTES_32>;
-    let Lent { table_32, columns, shifts, .. } = lent;
-    rust_finder::quick_page::<Bits32, u32>(&s.cells, h, &s.theme, way, way.first(), &s.sets, table_32, columns, shifts)
-}
-
-/// The same of the Rust as `lib_fill` is of the library.
-fn rust_fill(s: &Score, _: usize, way: Way, lent: &mut Lent) -> Result<Page, Refusal> {
-    let Lent { table, columns, shifts, .. } = lent;
-    let (columns, shifts) = (&mut columns[..1], &mut shifts[..1]);
-    rust_finder::quick_page::<Direct, u64>(black_box(&[60]), 1, &s.theme, way, way.first(), &[], table, columns, shifts)
-}
-
-fn rust_fill_32(s: &Score, _: usize, way: Way, lent: &mut Lent) -> Result<Page, Refusal> {
-    let Lent { table_32, columns, shifts, .. } = lent;
-    let (columns, shifts) = (&mut columns[..1], &mut shifts[..1]);
-    rust_finder::quick_page::<Direct, u32>(black_box(&[60]), 1, &s.theme, way, way.first(), &[], table_32, columns, shifts)
+    let Lent { table, columns, shifts } = lent;
+    rust_finder::quick_page::<C>(&s.cells, h, &s.theme, way, way.first(), &s.sets, table, columns, shifts)
 }
 
 fn rust_written(s: &Score, h: usize, way: AnyWay, lent: &mut Lent) -> Result<Page, Refusal> {
@@ -92,8 +61,7 @@ impl<W: Copy> Input<W> {
         let scores = (0..TOTAL / n).map(|_| Score::new(kind, ALL_CLASSES, h, m, n, moved, random)).collect();
         // room for every pair, so that a page is the whole list
         let room = n * 17;
-        let (table, table_32) = (vec![0; TABLE_LEN], vec![0; TABLE_LEN]);
-        Input { h, m, n, way, scores, lent: Lent { table, table_32, columns: vec![0; room], shifts: vec![0; room] } }
+        Input { h, m, n, way, scores, lent: Lent { table: vec![0; TABLE_LEN], columns: vec![0; room], shifts: vec![0; room] } }
     }
 
     fn each(&mut self, call: impl Fn(&Score, usize, W, &mut Lent)) {
@@ -125,11 +93,6 @@ impl Input<Way> {
             assert!(plain == left(|s, h, way, lent| rust_plain::<Bits>(s, h, way, lent)));
             assert!(quick == left(|s, h, way, lent| rust_quick::<Direct>(s, h, way, lent)));
             assert!(quick == left(|s, h, way, lent| rust_quick::<Bits>(s, h, way, lent)));
-            if self.m <= MOST_NOTES_32 {
-                let narrow = left(lib_quick_32);
-                assert!(narrow == left(rust_quick_32));
-                assert_eq!((narrow.0, &narrow.1.columns, &narrow.1.shifts), (quick.0, &quick.1.columns, &quick.1.shifts));
-            }
             let mut sets = vec![0; self.n - 1];
             let summary = rust_finder::prepare(&score.cells, self.h, &mut sets);
             assert_eq!((summary, &sets), (Ok(score.summary), &score.sets));
@@ -148,9 +111,8 @@ impl Input<AnyWay> {
     }
 }
 
-/// The calls that are timed, in order, each on all scores of the input. The last four are for themes that are short enough for
-/// the 32-bit quick page.
-const CALLS: [fn(&mut Input<Way>); 14] = [
+/// The calls that are timed, in order, each on all scores of the input.
+const CALLS: [fn(&mut Input<Way>); 10] = [
     |i| prepare(i, |s, h, sets| finder::prepare(&s.cells, h, sets)),
     |i| prepare(i, |s, h, sets| rust_finder::prepare(&s.cells, h, sets)),
     |i| i.each(|s, h, way, lent| keep(lib_plain(s, h, way, lent))),
@@ -160,21 +122,8 @@ const CALLS: [fn(&mut Input<Way>); 14] = [
     |i| i.each(|s, h, way, lent| keep(lib_fill(s, h, way, lent))),
     |i| i.each(|s, h, way, lent| keep(rust_quick::<Direct>(s, h, way, lent))),
     |i| i.each(|s, h, way, lent| keep(rust_quick::<Bits>(s, h, way, lent))),
-    |i| i.each(|s, h, way, lent| keep(rust_fill(s, h, way, lent))),
-    |i| i.each(|s, h, way, lent| keep(lib_quick_32(s, h, way, lent))),
-    |i| i.each(|s, h, way, lent| keep(lib_fill_32(s, h, way, lent))),
-    |i| i.each(|s, h, way, lent| keep(rust_quick_32(s, h, way, lent))),
-    |i| i.each(|s, h, way, lent| keep(rust_fill_32(s, h, way, lent))),
+    |i| i.each(|s, _, _, lent| rust_finder::fill(black_box(&s.theme), &mut lent.table)),
 ];
-
-/// The time of each call in nanoseconds; of the last four only where the 32-bit quick page takes the theme.
-fn times(input: &mut Input<Way>) -> Vec<f64> {
-    if input.m <= MOST_NOTES_32 {
-        medians(input, CALLS).to_vec()
-    } else {
-        medians::<_, 10>(input, std::array::from_fn(|k| CALLS[k])).to_vec()
-    }
-}
 
 /// The same for the tune in its own key.
 const WRITTEN_CALLS: [fn(&mut Input<AnyWay>); 2] = [
@@ -196,7 +145,7 @@ struct Row {
     n: usize,
     looks: (u64, u64),
     /// nanoseconds for all scores, by `CALLS`
-    t: Vec<f64>,
+    t: [f64; 10],
 }
 
 impl Row {
@@ -208,10 +157,6 @@ impl Row {
     }
     fn bits_quick(&self) -> f64 {
         self.t[8] - self.t[9]
-    }
-    /// The library's 32-bit quick page and the Rust's, where the theme is short enough.
-    fn quick_32(&self) -> Option<(f64, f64)> {
-        (self.m <= MOST_NOTES_32).then(|| (self.t[10] - self.t[11], self.t[12] - self.t[13]))
     }
 }
 
@@ -229,20 +174,24 @@ impl Timed {
         let mut rows = Vec::new();
         for way in [Way::Exact, Way::Octave] {
             for h in TRACKS {
-                for (m, n) in sizes() {
-                    let mut input = Input::new(kind, h, m, n, way, 7, &mut random);
-                    let looks = input.compare();
-                    let way = if way == Way::Exact { "exact" } else { "octave" };
-                    rows.push(Row { way, h, m, n, looks, t: times(&mut input) });
+                for m in NOTES {
+                    for n in COLUMNS {
+                        let mut input = Input::new(kind, h, m, n, way, 7, &mut random);
+                        let looks = input.compare();
+                        let way = if way == Way::Exact { "exact" } else { "octave" };
+                        rows.push(Row { way, h: input.h, m: input.m, n: input.n, looks, t: medians(&mut input, CALLS) });
+                    }
                 }
             }
         }
         let mut written = Vec::new();
         for h in TRACKS {
-            for (m, n) in sizes() {
-                let mut input = Input::new(kind, h, m, n, AnyWay::Written, 0, &mut random);
-                input.compare();
-                written.push((h, m, n, medians(&mut input, WRITTEN_CALLS)));
+            for m in NOTES {
+                for n in COLUMNS {
+                    let mut input = Input::new(kind, h, m, n, AnyWay::Written, 0, &mut random);
+                    input.compare();
+                    written.push((h, m, n, medians(&mut input, WRITTEN_CALLS)));
+                }
             }
         }
         Timed { rows, written }
@@ -254,26 +203,22 @@ impl Timed {
         let more = |head: &'static str| if full.is_some() { head } else { "" };
         println!(
             "Nanoseconds a column, medians of {ROUNDS} rounds. `lib` is the library, `rust`, `direct` and `bits` the Rust, `x` \
-             the library by that Rust, `by 32` the quick page by the 32-bit one{}.\n",
+             the library by that Rust{}.\n",
             more(", `by full` the library by itself where every column has a pitch"),
         );
         println!(
             "| way | h | m | n | prepare: lib | rust | x |{} plain: lib | direct | x | bits | x |{} \
-             quick, no fill: lib | direct | x | bits | x | quick by plain |{} quick 32, no fill: lib | bits | x | by 32 |",
+             quick, no fill: lib | direct | x | bits | x | quick by plain |{}",
             more(" by full |"), more(" by full |"), more(" by full |"),
         );
-        println!("|---|{}", "--:|".repeat(if full.is_some() { 24 } else { 21 }));
+        println!("|---|{}", "--:|".repeat(if full.is_some() { 20 } else { 17 }));
         let c = |time: f64| time / TOTAL as f64;
-        let mut ratios: [Ratios; 14] = Default::default();
-        let [prepared, plain_direct, plain_bits, quick_direct, quick_bits, own_key, gain, others @ ..] = &mut ratios;
-        let [bits_32, by_32, whole_by_32, by_full @ ..] = others;
+        let mut ratios: [Ratios; 11] = Default::default();
+        let [prepared, plain_direct, plain_bits, quick_direct, quick_bits, own_key, gain, by_full @ ..] = &mut ratios;
         let [prepared_by_full, plain_by_full, quick_by_full, own_key_by_full] = by_full;
-        let mut missed: [Missed; 3] = Default::default();
-        let [missed_bits, missed_bits_32, missed_by_32] = &mut missed;
         for (at, r) in self.rows.iter().enumerate() {
             let (t, f) = (&r.t, full.map(|full| &full.rows[at]));
             let (direct, bits) = (r.direct_quick(), r.bits_quick());
-            let input = format!("{}, h {}, m {}, n {}", r.way, r.h, r.m, r.n);
             print!("| {} | {} | {} | {} |", r.way, r.h, r.m, r.n);
             print!(" {:.2} | {:.2} | {:.2} |", c(t[0]), c(t[1]), prepared.add(t[0] / t[1]));
             f.inspect(|f| print!(" {:.2} |", prepared_by_full.add(t[0] / f.t[0])));
@@ -281,18 +226,10 @@ impl Timed {
             print!(" {:.2} | {:.2} |", c(t[4]), plain_bits.add(t[2] / t[4]));
             f.inspect(|f| print!(" {:.2} |", plain_by_full.add(t[2] / f.t[2])));
             print!(" {:.2} | {:.2} | {:.2} |", c(r.lib_quick()), c(direct), quick_direct.add(r.lib_quick() / direct));
-            print!(" {:.2} | {:.2} |", c(bits), quick_bits.add(missed_bits.add(&input, r.lib_quick() / bits)));
+            print!(" {:.2} | {:.2} |", c(bits), quick_bits.add(r.lib_quick() / bits));
             print!(" {:.2} |", gain.add(r.lib_quick() / t[2]));
             f.inspect(|f| print!(" {:.2} |", quick_by_full.add(r.lib_quick() / f.lib_quick())));
-            match r.quick_32() {
-                Some((lib, rust)) => {
-                    print!(" {:.2} | {:.2} |", c(lib), c(rust));
-                    print!(" {:.2} |", bits_32.add(missed_bits_32.add(&input, lib / rust)));
-                    println!(" {:.2} |", by_32.add(missed_by_32.add(&input, r.lib_quick() / lib)));
-                    whole_by_32.add(t[5] / t[10]);
-                }
-                None => println!(" - | - | - | - |"),
-            }
+            println!();
         }
 
         println!("\nThe tune in its own key, a plain page, in the same units.\n");
@@ -305,11 +242,8 @@ impl Timed {
 
         let (moved, own) = (self.rows.len(), self.written.len());
         println!(
-            "\nRatios, library by Rust, over the {moved} inputs, for written over its {own}; of the 32-bit quick page, and of \
-             the quick page by it, over those of up to {MOST_NOTES_32} notes. The target is at most 1.25 each{}. That of both \
-             quick pages beside the bit-parallel Rust, and of the quick page by the 32-bit one, without the fill, is at most \
-             1.1 in the geometric mean.\n",
-            more("; the last four lines are the library by itself where every column has a pitch"),
+            "\nRatios, library by Rust, over the {moved} inputs, for written over its {own}; the target is at most 1.25{}.\n",
+            more("; then the library by itself where every column has a pitch"),
         );
         println!("| | least | median | geometric mean | most | over 1.25 |\n|---|--:|--:|--:|--:|--:|");
         prepared.say("prepare");
@@ -317,9 +251,6 @@ impl Timed {
         plain_bits.say("plain page, bit-parallel Rust");
         quick_direct.say("quick page without the fill, direct Rust");
         quick_bits.say("quick page without the fill, bit-parallel Rust");
-        bits_32.say("32-bit quick page without the fill, bit-parallel Rust");
-        by_32.say("quick page by the 32-bit one, both without the fill");
-        whole_by_32.say("quick page by the 32-bit one, both with the fill");
         own_key.say("plain page, written");
         gain.say("quick without the fill by plain (no target)");
         if full.is_some() {
@@ -328,16 +259,11 @@ impl Timed {
             quick_by_full.say("quick page without the fill, by full scores");
             own_key_by_full.say("plain page, written, by full scores");
         }
-        println!("\nInputs over 1.25, without the fill:\n");
-        missed_bits.say("quick page, bit-parallel Rust");
-        missed_bits_32.say("32-bit quick page, bit-parallel Rust");
-        missed_by_32.say("quick page by the 32-bit one");
     }
 
     pub fn say_fill(&self) {
-        println!("\nThe theme table's fill, nanoseconds a call, whatever the score: medians over the inputs. `64` and `32` are");
-        println!("the bits of a word.\n");
-        println!("| m | 64: lib | rust | x | 32: lib | rust | x |\n|--:|--:|--:|--:|--:|--:|--:|");
+        println!("\nThe theme table's fill, nanoseconds a call, whatever the score: medians over the inputs.\n");
+        println!("| m | lib | rust | x |\n|--:|--:|--:|--:|");
         for m in NOTES {
             let of = |k: usize| {
                 let rows = self.rows.iter().filter(|r| r.m == m);
@@ -345,27 +271,20 @@ impl Timed {
                 s.sort_by(f64::total_cmp);
                 s[s.len() / 2]
             };
-            print!("| {m} | {:.0} | {:.0} | {:.2} |", of(6), of(9), of(6) / of(9));
-            if m <= MOST_NOTES_32 {
-                println!(" {:.0} | {:.0} | {:.2} |", of(11), of(13), of(11) / of(13));
-            } else {
-                println!(" - | - | - |");
-            }
+            println!("| {m} | {:.0} | {:.0} | {:.2} |", of(6), of(9), of(6) / of(9));
         }
     }
 
     pub fn say_growth(&self) {
         println!(
-            "\nThe library's cost as n grows: nanoseconds at n = 64, which is no input of 64 notes, 512 and 2,048, and the last \
-             by the first. Preparation for each column, pages for each of the n - m + 1 columns where the theme has room.\n"
+            "\nThe library's cost as n grows: nanoseconds at n = 64, 512 and 2,048, and the last by the first. Preparation for \
+             each column, pages for each of the n - m + 1 columns where the theme has room.\n"
         );
         println!("| way | h | m | prepare | x | plain | x | quick, no fill | x |\n|---|--:|--:|--:|--:|--:|--:|--:|--:|");
-        for group in self.rows.chunk_by(|r, next| r.m == next.m && r.n < next.n) {
+        for group in self.rows.chunks(COLUMNS.len()) {
             let line = |f: &dyn Fn(&Row) -> f64, columns: &dyn Fn(&Row) -> usize| {
                 let v: Vec<f64> = group.iter().map(|r| f(r) / (TOTAL / r.n * columns(r)) as f64).collect();
-                let none = "- ".repeat(COLUMNS.len() - v.len());
-                let times: Vec<String> = v.iter().map(|time| format!("{time:.1}")).collect();
-                format!("{none}{} | {:.2}", times.join(" "), v[v.len() - 1] / v[0])
+                format!("{:.1} {:.1} {:.1} | {:.2}", v[0], v[1], v[2], v[2] / v[0])
             };
             let room = |r: &Row| r.n - r.m + 1;
             println!(

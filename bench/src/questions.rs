@@ -2,7 +2,7 @@
 //! occur nowhere.
 
 use crate::rust_finder;
-use crate::scores::{sizes, Kind, Random, Score, ALL_CLASSES, SIX_CLASSES, TOTAL, TRACKS};
+use crate::scores::{Kind, Random, Score, ALL_CLASSES, COLUMNS, NOTES, SIX_CLASSES, TOTAL, TRACKS};
 use crate::timing::{keep, medians, Ratios, ROUNDS};
 use finder::{Refusal, Way, TABLE_LEN};
 
@@ -25,17 +25,17 @@ struct Input {
     way: Way,
     case: Case,
     scores: Vec<Score>,
-    table: Vec<u64>,
+    table: Vec<u32>,
 }
 
 /// A question, by one of the finders.
-type Ask = fn(&Score, usize, Way, &mut [u64]) -> Result<bool, Refusal>;
+type Ask = fn(&Score, usize, Way, &mut [u32]) -> Result<bool, Refusal>;
 
-fn lib(s: &Score, h: usize, way: Way, table: &mut [u64]) -> Result<bool, Refusal> {
+fn lib(s: &Score, h: usize, way: Way, table: &mut [u32]) -> Result<bool, Refusal> {
     finder::occurs(&s.cells, h, &s.theme, way, &s.sets, s.summary, table)
 }
 
-fn rust(s: &Score, h: usize, way: Way, table: &mut [u64]) -> Result<bool, Refusal> {
+fn rust(s: &Score, h: usize, way: Way, table: &mut [u32]) -> Result<bool, Refusal> {
     rust_finder::occurs(&s.cells, h, &s.theme, way, &s.sets, s.summary, table)
 }
 
@@ -123,13 +123,15 @@ impl Questions {
         let mut rows = Vec::new();
         for (way, name) in [(Way::Exact, "exact"), (Way::Octave, "octave")] {
             for h in TRACKS {
-                for (m, n) in sizes() {
-                    let t = CASES.map(|case| {
-                        let mut input = Input::new(case, kind, h, m, n, way, &mut random);
-                        input.compare();
-                        medians(&mut input, CALLS).map(|t| t / (TOTAL / n) as f64)
-                    });
-                    rows.push(Row { way: name, h, m, n, t });
+                for m in NOTES {
+                    for n in COLUMNS {
+                        let t = CASES.map(|case| {
+                            let mut input = Input::new(case, kind, h, m, n, way, &mut random);
+                            input.compare();
+                            medians(&mut input, CALLS).map(|t| t / (TOTAL / n) as f64)
+                        });
+                        rows.push(Row { way: name, h, m, n, t });
+                    }
                 }
             }
         }

@@ -1,7 +1,7 @@
 //! The route of a pair: where few tracks hold a note and where many do, and of a pair that is not listed.
 
 use crate::rust_finder;
-use crate::scores::{sizes, Kind, Pitches, Random, Score, ALL_CLASSES, TOTAL, TRACKS};
+use crate::scores::{Kind, Pitches, Random, Score, ALL_CLASSES, COLUMNS, NOTES, TOTAL, TRACKS};
 use crate::timing::{keep, medians, Ratios, ROUNDS};
 use finder::{AnyWay, Pair, Way, MOST_NOTES};
 
@@ -158,13 +158,15 @@ impl Routes {
         let mut rows = Vec::new();
         for (way, name) in [(Way::Exact, "exact"), (Way::Octave, "octave")] {
             for h in TRACKS {
-                for (m, n) in sizes() {
-                    let t = CASES.map(|case| {
-                        let mut input = Input::new(case, kind, h, m, n, way, &mut random);
-                        input.compare(case, &mut random);
-                        medians(&mut input, CALLS).map(|t| t / (TOTAL / n) as f64)
-                    });
-                    rows.push(Row { way: name, h, m, n, t });
+                for m in NOTES {
+                    for n in COLUMNS {
+                        let t = CASES.map(|case| {
+                            let mut input = Input::new(case, kind, h, m, n, way, &mut random);
+                            input.compare(case, &mut random);
+                            medians(&mut input, CALLS).map(|t| t / (TOTAL / n) as f64)
+                        });
+                        rows.push(Row { way: name, h, m, n, t });
+                    }
                 }
             }
         }

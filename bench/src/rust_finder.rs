@@ -5,9 +5,9 @@
 //! all starts of a column at once: a column's pitches are the bits of one word, a note moves the word, and what is left
 //! after an `and` are the starts that still follow. The looks are then counted by bits.
 //!
-//! A quick page has a table and a register of 64 bits, or of 32. The tune in its own key has a page of its own, by a word of 64
-//! bits for each byte and a register. `question` says whether a theme occurs at all, `update` brings the sets up to date after a
-//! column was changed, `explanation` says why a pair is listed or not, and `route` who plays it.
+//! The tune in its own key has a page of its own, by a word for each byte and a register. `question` says whether a theme
+//! occurs at all, `update` brings the sets up to date after a column was changed, `explanation` says why a pair is listed or not,
+//! and `route` who plays it.
 //!
 //! A column without a pitch is passed over. A score in which there is none is walked along as it stands; for any other the
 //! numbers of the columns with a pitch are listed first, and the walk goes along that list.
@@ -21,43 +21,10 @@ pub use explanation::{explain, EXPLAIN_LEN};
 use finder::{AnyWay, Bookmark, Page, Refusal, Summary, Way};
 pub use question::occurs;
 pub use route::route;
-use std::ops::{BitAnd, BitOr, BitXor, Range, Shl, Shr};
+use std::ops::Range;
 pub use update::update;
 
-/// The most notes.
-const NOTES: usize = 64;
-
 type Answer = Result<Page, Refusal>;
-
-/// A word of the theme table, and the register: 64 bits, or 32. A theme has as many notes at most.
-pub trait Word:
-    Copy
-    + Eq
-    + BitAnd<Output = Self>
-    + BitOr<Output = Self>
-    + BitXor<Output = Self>
-    + Shl<usize, Output = Self>
-    + Shr<usize, Output = Self>
-{
-    const BITS: usize;
-    const ONES: Self;
-    const ONE: Self;
-    const ZERO: Self;
-}
-
-impl Word for u64 {
-    const BITS: usize = 64;
-    const ONES: u64 = !0;
-    const ONE: u64 = 1;
-    const ZERO: u64 = 0;
-}
-
-impl Word for u32 {
-    const BITS: usize = 32;
-    const ONES: u32 = !0;
-    const ONE: u32 = 1;
-    const ZERO: u32 = 0;
-}
 
 fn refuse<T>(number: u8, place: usize) -> Result<T, Refusal> {
     Err(Refusal { number, place })
@@ -98,8 +65,8 @@ fn check_score(cells: &[u8], tracks: usize) -> Result<usize, Refusal> {
     Ok(n)
 }
 
-fn check_theme(theme: &[u8], most: usize) -> Result<(), Refusal> {
-    if !(2..=most).contains(&theme.len()) {
+fn check_theme(theme: &[u8]) -> Result<(), Refusal> {
+    if !(2..=32).contains(&theme.len()) {
         return refuse(4, 0);
     }
     match theme.iter().position(|p| *p > 127) {
@@ -313,16 +280,16 @@ fn one_track(cells: &[u8], sets: &mut [u16]) {
 
 /// From 4095, the set of no interval, downward: each word is that of the set without its lowest interval, which is a larger
 /// number, less the places of that interval. Of an even set that is interval 0. With 64 words and the masks no index is
-/// checked. Inlined wherever it is called.
+/// checked. Inlined wherever it is called, also where it is timed by itself, so that what is taken off a page is what the
+/// page took.
 #[inline(always)]
-fn fill<W: Word>(theme: &[u8], table: &mut [W]) {
-    let table: &mut [W; 4096] = table.try_into().unwrap();
-    let mut words = [W::ONES; 64];
+pub fn fill(theme: &[u8], table: &mut [u32]) {
+    let table: &mut [u32; 4096] = table.try_into().unwrap();
+    let mut words = [!0u32; 64];
     for (i, two) in theme.windows(2).enumerate() {
-        let word = &mut words[(usize::from(two[1]) + 132 - usize::from(two[0])) % 12];
-        *word = *word ^ W::ONE << i;
+        words[(usize::from(two[1]) + 132 - usize::from(two[0])) % 12] ^= 1 << i;
     }
-    (table[4095], table[4094]) = (W::ONES, words[0]);
+    (table[4095], table[4094]) = (!0, words[0]);
     let mut even = 4094;
     while even > 0 {
         even -= 2;
@@ -391,11 +358,11 @@ fn plain_walk<'a, C: Check<'a>>(mut check: C, heard: &impl Heard, m: usize, b: B
 }
 
 #[allow(clippy::too_many_arguments)]
-fn quick_walk<'a, C: Check<'a>, W: Word>(
+fn quick_walk<'a, C: Check<'a>>(
     mut check: C,
     heard: &impl Heard,
     sets: &[u16],
-    table: &[W; 4096],
+    table: &[u32; 4096],
     m: usize,
     b: Bookmark,
     lowest: i32,
@@ -405,14 +372,14 @@ fn quick_walk<'a, C: Check<'a>, W: Word>(
     if first + m > heard.count() {
         return;
     }
-    let mut register = W::ONES;
+    let mut register = !0u32;
     for set in heard.sets(first..first + m - 2, sets) {
         register = register << 1 | table[usize::from(set & 4095)];
     }
     // the set of the last column with a pitch is not asked for: too few columns are left for what it could end
     for (at, set) in heard.sets(first + m - 2..heard.count() - 1, sets).enumerate() {
         register = register << 1 | table[usize::from(set & 4095)];
-        if register >> (m - 2) & W::ONE == W::ZERO && check.column(heard, first + at, from, out) {
+        if register >> (m - 2) & 1 == 0 && check.column(heard, first + at, from, out) {
             return;
         }
         from = lowest;
@@ -430,7 +397,7 @@ pub fn plain_page<'a, C: Check<'a>>(
     shifts: &mut [i16],
 ) -> Answer {
     let n = check_score(cells, tracks)?;
-    check_theme(theme, NOTES)?;
+    check_theme(theme)?;
     check_page(way.into(), n, b, columns.len(), shifts.len())?;
     let mut out = Out { columns, shifts, found: 0, looks: 0 };
     let (check, m, lowest) = (C::new(cells, tracks, theme, way), theme.len(), i32::from(way.first().shift));
@@ -443,21 +410,21 @@ pub fn plain_page<'a, C: Check<'a>>(
 }
 
 #[allow(clippy::too_many_arguments)]
-pub fn quick_page<'a, C: Check<'a>, W: Word>(
+pub fn quick_page<'a, C: Check<'a>>(
     cells: &'a [u8],
     tracks: usize,
     theme: &'a [u8],
     way: Way,
     b: Bookmark,
     sets: &[u16],
-    table: &mut [W],
+    table: &mut [u32],
     columns: &mut [u16],
     shifts: &mut [i16],
 ) -> Answer {
     let n = check_score(cells, tracks)?;
-    check_theme(theme, W::BITS)?;
+    check_theme(theme)?;
     check_sets(sets, n)?;
-    let Ok(table) = <&mut [W; 4096]>::try_from(table) else { return refuse(8, 0) };
+    let Ok(table) = <&mut [u32; 4096]>::try_from(table) else { return refuse(8, 0) };
     check_page(way.into(), n, b, columns.len(), shifts.len())?;
     fill(theme, table);
     let mut out = Out { columns, shifts, found: 0, looks: 0 };
@@ -549,22 +516,21 @@ fn pitches(column: &[u8]) -> u128 {
 
 // ---- all starts of a column at once
 
-/// For themes of up to N notes.
-pub struct Bits<'a, const N: usize = NOTES> {
+pub struct Bits<'a> {
     cells: &'a [u8],
     tracks: usize,
     way: Way,
     /// how far each note moves a column's word: from the first note, or the class of the note
-    moves: [i32; N],
+    moves: [i32; 32],
     m: usize,
     /// the words of the columns seen, by place among those with a pitch modulo 64, with the place each is of
     words: [u128; 64],
     of: [u32; 64],
 }
 
-impl<'a, const N: usize> Check<'a> for Bits<'a, N> {
+impl<'a> Check<'a> for Bits<'a> {
     fn new(cells: &'a [u8], tracks: usize, theme: &'a [u8], way: Way) -> Self {
-        let mut moves = [0; N];
+        let mut moves = [0; 32];
         for (to, p) in moves.iter_mut().zip(theme) {
             *to = match way {
                 Way::Exact => i32::from(*p) - i32::from(theme[0]),
@@ -597,7 +563,7 @@ impl<'a, const N: usize> Check<'a> for Bits<'a, N> {
     }
 }
 
-impl<const N: usize> Bits<'_, N> {
+impl Bits<'_> {
     /// The word of a column with a pitch, by its place among them.
     #[inline]
     fn word(&mut self, heard: &impl Heard, at: usize) -> u128 {
@@ -663,7 +629,7 @@ impl<const N: usize> Bits<'_, N> {
 // ---- the tune in its own key
 
 /// For each byte a word with bit i at 0 where it is note i, counted from 0; a rest is none.
-fn words(theme: &[u8]) -> [u64; 256] {
+fn words(theme: &[u8]) -> [u32; 256] {
     let mut words = [!0; 256];
     for (i, p) in theme.iter().enumerate() {
         words[usize::from(*p)] &= !(1 << i);
@@ -680,7 +646,7 @@ pub fn written_page(
     shifts: &mut [i16],
 ) -> Answer {
     let n = check_score(cells, tracks)?;
-    check_theme(theme, NOTES)?;
+    check_theme(theme)?;
     check_page(AnyWay::Written, n, b, columns.len(), shifts.len())?;
     let words = words(theme);
     let mut out = Out { columns, shifts, found: 0, looks: 0 };
@@ -694,9 +660,9 @@ pub fn written_page(
     Ok(out.page(AnyWay::Written, n))
 }
 
-fn written_walk(cells: &[u8], tracks: usize, heard: &impl Heard, from: usize, words: &[u64; 256], m: usize, out: &mut Out) {
+fn written_walk(cells: &[u8], tracks: usize, heard: &impl Heard, from: usize, words: &[u32; 256], m: usize, out: &mut Out) {
     let first = heard.first_from(from);
-    let mut register = !0u64;
+    let mut register = !0u32;
     for (at, column) in heard.columns(first, cells, tracks).enumerate() {
         let word = column.iter().fold(!0, |word, c| word & words[usize::from(*c)]);
         register = register << 1 | word;

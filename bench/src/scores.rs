@@ -3,14 +3,8 @@
 use finder::Summary;
 
 pub const TRACKS: [usize; 4] = [1, 3, 8, 16];
-pub const NOTES: [usize; 4] = [4, 12, 32, 64];
+pub const NOTES: [usize; 3] = [4, 12, 32];
 pub const COLUMNS: [usize; 3] = [64, 512, 2048];
-
-/// How many notes and columns an input has: each number of notes with each number of columns that is higher, so that a theme has
-/// room also where some columns have no pitch.
-pub fn sizes() -> impl Iterator<Item = (usize, usize)> {
-    NOTES.into_iter().flat_map(|m| COLUMNS.into_iter().filter(move |n| *n > m).map(move |n| (m, n)))
-}
 
 /// The columns that each measurement goes through, in as many scores: a short score that comes again and again would be
 /// learnt by the processor's branch predictor, and a long one not.

@@ -53,24 +53,6 @@ pub fn medians<I, const N: usize>(input: &mut I, calls: [fn(&mut I); N]) -> [f64
 #[derive(Default)]
 pub struct Ratios(Vec<f64>);
 
-/// The inputs of some ratio that miss its target, each with it.
-#[derive(Default)]
-pub struct Missed(Vec<String>);
-
-impl Missed {
-    pub fn add(&mut self, input: &str, ratio: f64) -> f64 {
-        if ratio > 1.25 {
-            self.0.push(format!("{input}: {ratio:.2}"));
-        }
-        ratio
-    }
-
-    pub fn say(&self, what: &str) {
-        let inputs = if self.0.is_empty() { "none".to_string() } else { self.0.join("; ") };
-        println!("- {what}: {inputs}.");
-    }
-}
-
 impl Ratios {
     pub fn add(&mut self, ratio: f64) -> f64 {
         self.0.push(ratio);

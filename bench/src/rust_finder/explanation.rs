@@ -20,14 +20,14 @@ pub fn explain(
     answer: &mut [i64; EXPLAIN_LEN],
 ) -> Result<(), Refusal> {
     let n = check_score(cells, tracks)?;
-    check_theme(theme, NOTES)?;
+    check_theme(theme)?;
     check_sets(sets, n)?;
     answer.fill(0);
     let no_shift = match way {
         Way::Exact => !(-127..=127).contains(&pair.shift),
         Way::Octave => !(0..=11).contains(&pair.shift),
     };
-    let mut numbers = [0; NOTES];
+    let mut numbers = [0; 32];
     let numbers = &mut numbers[..theme.len()];
     let fault = column_fault(cells, tracks, n, pair.column.into(), numbers);
     if fault == 0 {

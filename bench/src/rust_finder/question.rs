@@ -10,18 +10,18 @@ pub fn occurs(
     way: Way,
     sets: &[u16],
     summary: Summary,
-    table: &mut [u64],
+    table: &mut [u32],
 ) -> Result<bool, Refusal> {
     let n = check_score(cells, tracks)?;
-    check_theme(theme, NOTES)?;
+    check_theme(theme)?;
     let right = summed_up(sets, n)?;
-    let Ok(table) = <&mut [u64; 4096]>::try_from(table) else { return refuse(8, 0) };
+    let Ok(table) = <&mut [u32; 4096]>::try_from(table) else { return refuse(8, 0) };
     if summary != right {
         return refuse(12, 0);
     }
     fill(theme, table);
     // a summary is as good an index as a set: bits 0 to m - 2 of its word are 0 where it has all intervals of the theme
-    if table[usize::from(summary.0)] << (65 - theme.len()) != 0 {
+    if table[usize::from(summary.0)] << (33 - theme.len()) != 0 {
         return Ok(false);
     }
     let asked = Asked { cells, tracks, theme, way, sets, table };
@@ -50,7 +50,7 @@ struct Asked<'a> {
     theme: &'a [u8],
     way: Way,
     sets: &'a [u16],
-    table: &'a [u64; 4096],
+    table: &'a [u32; 4096],
 }
 
 impl Asked<'_> {
@@ -60,7 +60,7 @@ impl Asked<'_> {
         if self.tracks < 4 {
             return self.any_candidate(heard, |at| self.start_stands(heard, at));
         }
-        let mut bits = Bits::<NOTES>::new(self.cells, self.tracks, self.theme, self.way);
+        let mut bits = Bits::new(self.cells, self.tracks, self.theme, self.way);
         self.any_candidate(heard, |at| bits.stands(heard, at))
     }
 
@@ -70,7 +70,7 @@ impl Asked<'_> {
         if heard.count() < m {
             return false;
         }
-        let mut register = !0u64;
+        let mut register = !0u32;
         for set in heard.sets(0..m - 2, self.sets) {
             register = register << 1 | self.table[usize::from(set & 4095)];
         }

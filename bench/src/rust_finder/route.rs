@@ -5,6 +5,9 @@
 use super::*;
 use finder::Pair;
 
+/// The most notes.
+const NOTES: usize = 32;
+
 /// Seven bits of each byte, and one.
 const SEVEN_BITS: u64 = 0x7f7f_7f7f_7f7f_7f7f;
 const ONES: u64 = 0x0101_0101_0101_0101;
@@ -18,7 +21,7 @@ pub fn route(
     route: &mut [u8],
 ) -> Result<u8, Refusal> {
     let n = check_score(cells, tracks)?;
-    check_theme(theme, NOTES)?;
+    check_theme(theme)?;
     let (at, shift) = (usize::from(pair.column), i32::from(pair.shift));
     // all numbers but these are the shift of no pair
     let moved = match way {

@@ -9,7 +9,7 @@ use std::process::ExitCode;
 
 const USAGE: &str = "usage: staff FILE COLUMN SHIFT
 
-FILE is an input of the lister: a theme line and then a line for each column of the score. The theme may have 2 to 64 notes.
+FILE is an input of the lister: a theme line and then a line for each column of the score.
 COLUMN and SHIFT are those of a place that the lister lists.";
 
 /// How many columns go side by side, so that a line has less than 80 characters. What is left comes below, as on a page of music.

@@ -9,7 +9,7 @@ use std::process::ExitCode;
 
 const USAGE: &str = "usage: why FILE COLUMN SHIFT
 
-FILE is an input of the lister: a theme line and then a line for each column of the score. The theme may have 2 to 64 notes.
+FILE is an input of the lister: a theme line and then a line for each column of the score.
 COLUMN is counted from 1; SHIFT is score minus theme, -127 to 127 for exact and 0 to 11 for octave.";
 
 fn main() -> ExitCode {

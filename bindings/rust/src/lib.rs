@@ -1,7 +1,7 @@
 //! Where does a tune stand in a score?
 //!
 //! Safe functions over the proved finder's C interface (`include/finder.h`). A score is cells, column after column,
-//! `tracks` cells a column: 0 to 127 is a MIDI pitch, 255 a rest. A theme is 2 to 64 pitches. A [`Pair`] says that the
+//! `tracks` cells a column: 0 to 127 is a MIDI pitch, 255 a rest. A theme is 2 to 32 pitches. A [`Pair`] says that the
 //! theme stands at that column (from 1) with that shift: the columns with a pitch from that one on, itself the first, hold
 //! the notes one after another, each in any track. Columns of rests only are passed over.
 //!
@@ -86,9 +86,9 @@
 //! # Ok::<(), finder::Refusal>(())
 //! ```
 //!
-//! [`prepare`], [`update`], [`occurs`], [`explain`], [`route_into`], [`plain_page`], [`quick_page`] and [`quick_page_32`] are
-//! the calls themselves, for buffers of one's own. What is proved is the library behind them; this crate passes slices on. Two
-//! things it computes: [`Summary::of`], and the column of [`Reason::Absent`]. It is tested and not proved.
+//! [`prepare`], [`update`], [`occurs`], [`explain`], [`route_into`], [`plain_page`] and [`quick_page`] are the calls
+//! themselves, for buffers of one's own. What is proved is the library behind them; this crate passes slices on. Two things
+//! it computes: [`Summary::of`], and the column of [`Reason::Absent`]. It is tested and not proved.
 #![warn(missing_docs)]
 
 mod explanation;
@@ -101,17 +101,14 @@ use std::fmt;
 use std::iter::FusedIterator;
 use std::ops::RangeInclusive;
 
-/// How many places a theme table has, whichever the width of its words.
+/// How many places a theme table has.
 pub const TABLE_LEN: usize = 4096;
 
 /// The most columns that a score may have.
 pub const MOST_COLUMNS: usize = 2048;
 
 /// The most notes that a theme may have.
-pub const MOST_NOTES: usize = 64;
-
-/// The most notes that a theme may have in [`quick_page_32`].
-pub const MOST_NOTES_32: usize = 32;
+pub const MOST_NOTES: usize = 32;
 
 /// When a column holds a note moved by a shift. Both searches, the question, the explainer and the router take these two ways.
 #[derive(Clone, Copy, PartialEq, Eq, Hash, Debug)]
@@ -154,7 +151,7 @@ impl fmt::Display for Way {
 }
 
 /// Any of the three ways. The plain search and the router take them all. There is no quick search for the tune as it is
-/// written, and so [`pairs`], [`quick_page`], [`quick_page_32`], [`occurs`] and [`explain`] cannot be handed it:
+/// written, and so [`pairs`], [`quick_page`], [`occurs`] and [`explain`] cannot be handed it:
 ///
 /// ```compile_fail
 /// finder::pairs(&[60, 62], 1, &[60, 62], finder::AnyWay::Written);
@@ -282,7 +279,7 @@ impl fmt::Display for Refusal {
             1 => write!(f, "1: there must be 1 to 16 tracks"),
             2 => write!(f, "2: the cells must make 1 to 2048 whole columns"),
             3 => write!(f, "3: cell {place} is neither a pitch nor a rest"),
-            4 => write!(f, "4: a theme must have 2 to 64 notes, and 2 to 32 for the 32-bit quick page"),
+            4 => write!(f, "4: a theme must have 2 to 32 notes"),
             5 => write!(f, "5: note {place} of the theme is no pitch"),
             6 => write!(f, "6: there must be one set less than columns"),
             7 => write!(f, "7: set {place} is over 4095"),
@@ -310,18 +307,13 @@ extern "C" {
     ) -> i64;
     fn finder_occurs(
         cells: *const u8, cells_len: usize, tracks: usize, theme: *const u8, theme_len: usize, way: u8,
-        sets: *const u16, sets_len: usize, summary: u16, table: *mut u64, table_len: usize, answer: *mut i64, answer_len: usize,
+        sets: *const u16, sets_len: usize, summary: u16, table: *mut u32, table_len: usize, answer: *mut i64, answer_len: usize,
     ) -> i64;
     fn finder_plain_page(
         cells: *const u8, cells_len: usize, tracks: usize, theme: *const u8, theme_len: usize, way: u8, column: u16, shift: i16,
         columns: *mut u16, columns_len: usize, shifts: *mut i16, shifts_len: usize, answer: *mut i64, answer_len: usize,
     ) -> i64;
     fn finder_quick_page(
-        cells: *const u8, cells_len: usize, tracks: usize, theme: *const u8, theme_len: usize, way: u8, column: u16, shift: i16,
-        sets: *const u16, sets_len: usize, table: *mut u64, table_len: usize,
-        columns: *mut u16, columns_len: usize, shifts: *mut i16, shifts_len: usize, answer: *mut i64, answer_len: usize,
-    ) -> i64;
-    fn finder_quick_page_32(
         cells: *const u8, cells_len: usize, tracks: usize, theme: *const u8, theme_len: usize, way: u8, column: u16, shift: i16,
         sets: *const u16, sets_len: usize, table: *mut u32, table_len: usize,
         columns: *mut u16, columns_len: usize, shifts: *mut i16, shifts_len: usize, answer: *mut i64, answer_len: usize,
@@ -417,7 +409,7 @@ pub fn occurs(
     way: Way,
     sets: &[u16],
     summary: Summary,
-    table: &mut [u64],
+    table: &mut [u32],
 ) -> Result<bool, Refusal> {
     let mut answer = [0; 1];
     // Safety: each pointer and length is of a slice, and those that are written are lent to this call alone.
@@ -500,73 +492,10 @@ pub fn plain_page(
 
 /// The same, exact or octave, with the score's prepared sets, and with no more looks. The theme's table is left in `table`.
 ///
-/// The table has a word of 64 bits for each set that there can be. Bit i, for i from 0 to m - 2 where the theme has m notes, is
-/// 0 exactly where the set has the interval from note i + 1 to note i + 2, octaves ignored; all other bits are 1.
-///
 /// With sets of another score the pairs are those at the columns that the sets make candidates. What the sets of columns
 /// without a pitch hold does not matter. Refuses 1 to 10.
-///
-/// ```
-/// use finder::{prepare, quick_page, Way, TABLE_LEN};
-///
-/// // sixty-four notes up and down by a tone, in a score that goes on for two more
-/// let score: Vec<u8> = [60, 62].repeat(33);
-/// let (mut sets, mut table) = (vec![0; 65], vec![0; TABLE_LEN]);
-/// prepare(&score, 1, &mut sets)?;
-/// let (mut columns, mut shifts) = ([0; 9], [0; 9]);
-/// let first = Way::Exact.first();
-/// let page = quick_page(&score, 1, &score[..64], Way::Exact, first, &sets, &mut table, &mut columns, &mut shifts)?;
-/// assert_eq!((page.written, &columns[..2], &shifts[..2]), (2, &[1, 3][..], &[0, 0][..]));
-/// // the set of no interval, that of all, and that of a tone upwards: the intervals are 63, and bit 63 is 1 in each
-/// assert_eq!((table[4095], table[0], table[4091]), (u64::MAX, 1 << 63, 0xaaaa_aaaa_aaaa_aaaa));
-/// # Ok::<(), finder::Refusal>(())
-/// ```
 #[allow(clippy::too_many_arguments)]
 pub fn quick_page(
-    cells: &[u8],
-    tracks: usize,
-    theme: &[u8],
-    way: Way,
-    bookmark: Bookmark,
-    sets: &[u16],
-    table: &mut [u64],
-    columns: &mut [u16],
-    shifts: &mut [i16],
-) -> Result<Page, Refusal> {
-    let mut answer = [0; 5];
-    // Safety: each pointer and length is of a slice, and those that are written are lent to this call alone.
-    Refusal::read(unsafe {
-        finder_quick_page(
-            cells.as_ptr(), cells.len(), tracks, theme.as_ptr(), theme.len(), way.number(), bookmark.column, bookmark.shift,
-            sets.as_ptr(), sets.len(), table.as_mut_ptr(), table.len(),
-            columns.as_mut_ptr(), columns.len(), shifts.as_mut_ptr(), shifts.len(), answer.as_mut_ptr(), answer.len(),
-        )
-    })?;
-    Ok(page(answer))
-}
-
-/// The same page with a table of half the size, whose words have 32 bits, for themes of 2 to 32 notes. One of 33 notes or more
-/// is refused 4. Refuses 1 to 10.
-///
-/// ```
-/// use finder::{quick_page, quick_page_32, Refusal, Way, TABLE_LEN};
-///
-/// let (score, sets) = ([60; 40], [4094; 39]);
-/// let (mut wide, mut narrow) = (vec![0; TABLE_LEN], vec![0; TABLE_LEN]);
-/// let (mut columns, mut shifts) = ([0; 9], [0; 9]);
-/// let first = Way::Exact.first();
-/// let [theme, longer] = [&score[..32], &score[..33]];
-/// let page = quick_page(&score, 1, theme, Way::Exact, first, &sets, &mut wide, &mut columns, &mut shifts);
-/// let same = quick_page_32(&score, 1, theme, Way::Exact, first, &sets, &mut narrow, &mut columns, &mut shifts);
-/// assert_eq!(page, same);
-/// // 31 intervals, all 0: the bits behind are 1 in both words
-/// assert_eq!((wide[4094], narrow[4094]), (0xffff_ffff_8000_0000, 0x8000_0000));
-///
-/// let refused = quick_page_32(&score, 1, longer, Way::Exact, first, &sets, &mut narrow, &mut columns, &mut shifts);
-/// assert_eq!(refused, Err(Refusal { number: 4, place: 0 }));
-/// ```
-#[allow(clippy::too_many_arguments)]
-pub fn quick_page_32(
     cells: &[u8],
     tracks: usize,
     theme: &[u8],
@@ -580,7 +509,7 @@ pub fn quick_page_32(
     let mut answer = [0; 5];
     // Safety: each pointer and length is of a slice, and those that are written are lent to this call alone.
     Refusal::read(unsafe {
-        finder_quick_page_32(
+        finder_quick_page(
             cells.as_ptr(), cells.len(), tracks, theme.as_ptr(), theme.len(), way.number(), bookmark.column, bookmark.shift,
             sets.as_ptr(), sets.len(), table.as_mut_ptr(), table.len(),
             columns.as_mut_ptr(), columns.len(), shifts.as_mut_ptr(), shifts.len(), answer.as_mut_ptr(), answer.len(),
@@ -618,7 +547,7 @@ impl Prepared {
         Ok(Prepared { sets, summary })
     }
 
-    /// The interval sets, for [`quick_page`] and [`quick_page_32`] too.
+    /// The interval sets, for [`quick_page`] too.
     pub fn sets(&self) -> &[u16] {
         &self.sets
     }
@@ -709,7 +638,7 @@ struct Quick<'a> {
     theme: &'a [u8],
     way: Way,
     prepared: Prepared,
-    table: Vec<u64>,
+    table: Vec<u32>,
 }
 
 impl Search for Quick<'_> {

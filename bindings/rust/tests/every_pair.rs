@@ -7,8 +7,7 @@ mod third;
 
 use calls::Random;
 use finder::{
-    explain, plain_pairs, quick_page, AnyWay, Explanation, Pair, Prepared, Reason, Sifted, Way, MOST_COLUMNS, MOST_NOTES,
-    TABLE_LEN,
+    explain, plain_pairs, quick_page, AnyWay, Explanation, Pair, Prepared, Reason, Sifted, Way, MOST_COLUMNS, TABLE_LEN,
 };
 use raw::{Asked, EXPLAIN_LEN};
 use std::collections::HashSet;
@@ -182,7 +181,7 @@ fn own_sets_keep_what_is_listed() {
 fn pairs_of_long_scores() {
     let mut random = Random(0x10f6_5c04_e500_0009);
     for round in 0..40 {
-        let mut call = random.call(16, if round < 12 { MOST_COLUMNS } else { 150 }, MOST_NOTES);
+        let mut call = random.call(16, if round < 12 { MOST_COLUMNS } else { 150 }, 32);
         let n = call.cells.len() / call.tracks;
         for way in WAYS {
             call.way = AnyWay::Moved(way);

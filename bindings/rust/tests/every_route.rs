@@ -6,9 +6,7 @@ mod raw;
 mod third;
 
 use calls::Random;
-use finder::{
-    explain, plain_pairs, route, route_into, AnyWay, Pair, Prepared, Reason, Refusal, Route, Way, MOST_COLUMNS, MOST_NOTES,
-};
+use finder::{explain, plain_pairs, route, route_into, AnyWay, Pair, Prepared, Reason, Refusal, Route, Way, MOST_COLUMNS};
 use raw::Asked;
 use std::collections::HashSet;
 use third::routing::{changes, reckoned, tried};
@@ -169,7 +167,7 @@ fn every_way_to_hold_few_notes_by_few_tracks() {
 fn the_scores_that_are_made_are_as_they_are_said() {
     let mut random = Random(0x0707_e5ed_0000_0002);
     for round in 0..3000 {
-        let (tracks, notes) = (random.from(1, 16), random.from(2, MOST_NOTES));
+        let (tracks, notes) = (random.from(1, 16), random.from(2, 32));
         let sets: Vec<u32> = (0..notes).map(|_| random.from(1, (1 << tracks) - 1) as u32).collect();
         assert!(random.made(tracks, &sets, WAYS[round % 3]).is_as_said());
     }
@@ -180,7 +178,7 @@ fn notes_held_by_many_tracks_up_to_the_limits() {
     let mut random = Random(0x0707_e5ed_0000_0003);
     let mut met = Met::default();
     for round in 0..30000 {
-        let (tracks, notes) = (random.from(1, 16), random.from(2, MOST_NOTES));
+        let (tracks, notes) = (random.from(1, 16), random.from(2, 32));
         // a note is seldom held, or mostly; with a chance that a track goes on
         let (chance, keeps) = (random.from(1, 6), random.from(1, 8));
         let mut held = vec![false; tracks];
@@ -271,7 +269,7 @@ fn pairs_of_long_scores() {
     let mut random = Random(0x0707_e5ed_0000_0005);
     let mut listed = 0;
     for round in 0..60 {
-        let mut call = random.call(16, if round < 12 { MOST_COLUMNS } else { 150 }, MOST_NOTES);
+        let mut call = random.call(16, if round < 12 { MOST_COLUMNS } else { 150 }, 32);
         let n = call.cells.len() / call.tracks;
         for way in WAYS {
             call.way = way;

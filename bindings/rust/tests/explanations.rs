@@ -189,13 +189,13 @@ fn notes_outside_0_to_127() {
 #[test]
 fn the_longest_themes() {
     for way in WAYS {
-        let asked = one_track(&[60; 72], &[60; 64], way);
-        assert_eq!(asked.own(9, 0), (listed(&[1; 64]), kept(9)));
+        let asked = one_track(&[60; 40], &[60; 32], way);
+        assert_eq!(asked.own(9, 0), (listed(&[1; 32]), kept(9)));
         assert_eq!(asked.own(10, 0), (Reason::TooFew { column: 10 }, None));
-        let mut theme = [60; 64];
-        theme[63] = 61;
-        let asked = one_track(&[60; 72], &theme, way);
-        assert_eq!(asked.own(9, 0), (Reason::Absent { note: 64, column: 72 }, dismissed(9, 63, 1)));
+        let mut theme = [60; 32];
+        theme[31] = 61;
+        let asked = one_track(&[60; 40], &theme, way);
+        assert_eq!(asked.own(9, 0), (Reason::Absent { note: 32, column: 40 }, dismissed(9, 31, 1)));
         // the last columns of the longest score
         let long = one_track(&[60; 2048], &[60, 60], way);
         assert_eq!(long.own(2047, 0), (listed(&[1, 1]), kept(2047)));
@@ -266,8 +266,7 @@ fn the_explainer_refuses_in_order() {
         assert_eq!(ask(&[60; 2049], 1, &[200], &[4096; 3]), Err((2, 0)));
         assert_eq!(ask(&bad_cells, 1, &[200], &[4096; 3]), Err((3, 1)));
         assert_eq!(ask(&[60, R, 62], 1, &[200], &[4096; 3]), Err((4, 0)));
-        assert_eq!(ask(&[60, R, 62], 1, &[200; 65], &[4096; 3]), Err((4, 0)));
-        assert_eq!(ask(&[60, R, 62], 1, &[200; 64], &[4096; 3]), Err((5, 0)));
+        assert_eq!(ask(&[60, R, 62], 1, &[200; 33], &[4096; 3]), Err((4, 0)));
         assert_eq!(ask(&[60, R, 62], 1, &[60, 200], &[4096; 3]), Err((5, 1)));
         assert_eq!(ask(&[60, R, 62], 1, &[60, 62], &[4096; 3]), Err((6, 0)));
         assert_eq!(ask(&[60, R, 62], 1, &[60, 62], &[4096]), Err((6, 0)));

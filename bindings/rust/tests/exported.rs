@@ -17,25 +17,9 @@ extern "C" {
     ) -> i64;
     fn finder_occurs(
         cells: *const u8, cells_len: usize, tracks: usize, theme: *const u8, theme_len: usize, way: u8,
-        sets: *const u16, sets_len: usize, summary: u16, table: *mut u64, table_len: usize, answer: *mut i64, answer_len: usize,
-    ) -> i64;
-    fn finder_quick_page(
-        cells: *const u8, cells_len: usize, tracks: usize, theme: *const u8, theme_len: usize, way: u8, column: u16, shift: i16,
-        sets: *const u16, sets_len: usize, table: *mut u64, table_len: usize,
-        columns: *mut u16, columns_len: usize, shifts: *mut i16, shifts_len: usize, answer: *mut i64, answer_len: usize,
-    ) -> i64;
-    fn finder_quick_page_32(
-        cells: *const u8, cells_len: usize, tracks: usize, theme: *const u8, theme_len: usize, way: u8, column: u16, shift: i16,
-        sets: *const u16, sets_len: usize, table: *mut u32, table_len: usize,
-        columns: *mut u16, columns_len: usize, shifts: *mut i16, shifts_len: usize, answer: *mut i64, answer_len: usize,
+        sets: *const u16, sets_len: usize, summary: u16, table: *mut u32, table_len: usize, answer: *mut i64, answer_len: usize,
     ) -> i64;
 }
-
-/// A quick page, with table words of either width.
-type Quick<W> = unsafe extern "C" fn(
-    *const u8, usize, usize, *const u8, usize, u8, u16, i16, *const u16, usize, *mut W, usize, *mut u16, usize, *mut i16, usize,
-    *mut i64, usize,
-) -> i64;
 
 /// The result where there is no call.
 const NO_CALL: i64 = 255;
@@ -75,23 +59,6 @@ fn occurs(tracks: usize, theme: &[u8], way: u8, summary: Summary, places: usize)
         )
     };
     (result, table.iter().all(|word| *word == 5), answer)
-}
-
-/// What a quick page of K gives, from a bookmark's column with shift 0 and with two places for pairs: the result, the columns,
-/// the shifts and the answer after it, and whether the table is as it was, which held 5 in this many places.
-fn page<W: Copy + PartialEq + From<u8>>(
-    call: Quick<W>, tracks: usize, theme: &[u8], way: u8, column: u16, table: usize, places: usize,
-) -> (i64, [u16; 2], [i16; 2], Vec<i64>, bool) {
-    let (mut columns, mut shifts, mut answer) = ([77; 2], [77; 2], unanswered(places));
-    let mut table = vec![W::from(5); table];
-    // Safety: each pointer and length is of a slice.
-    let result = unsafe {
-        call(
-            K.as_ptr(), K.len(), tracks, theme.as_ptr(), theme.len(), way, column, 0, K_SETS.as_ptr(), K_SETS.len(),
-            table.as_mut_ptr(), table.len(), columns.as_mut_ptr(), 2, shifts.as_mut_ptr(), 2, answer.as_mut_ptr(), answer.len(),
-        )
-    };
-    (result, columns, shifts, answer, table.iter().all(|word| *word == W::from(5)))
 }
 
 #[test]
@@ -145,66 +112,6 @@ fn a_way_that_the_question_does_not_take() {
     }
 }
 
-/// A quick page of either width, in full and turned away.
-fn quick_pages<W: Copy + PartialEq + From<u8>>(call: Quick<W>) {
-    let turn = |tracks, theme: &[u8], way, column, table, places| page(call, tracks, theme, way, column, table, places);
-    // the first two of three pairs, and the one that is left
-    assert_eq!(turn(2, &[67, 62], 0, 1, 4096, 5), (0, [1, 2], [0, 2], vec![2, 2, 3, 0, 3], false));
-    assert_eq!(turn(2, &[67, 62], 0, 3, 4096, 5), (0, [4, 77], [5, 77], vec![1, 6, -127, 1, 2], false));
-    assert_eq!(turn(2, &[67, 62], 1, 5, 4096, 5), (0, [77; 2], [77; 2], vec![0, 6, 0, 1, 0], false));
-    let away = |result, places| (result, [77; 2], [77; 2], unanswered(places), true);
-    assert_eq!(turn(17, &[67], 0, 0, 4095, 5), away(1, 5));
-    assert_eq!(turn(3, &[67], 0, 0, 4095, 5), away(2, 5));
-    assert_eq!(turn(2, &[67], 0, 0, 4095, 5), away(4, 5));
-    assert_eq!(turn(2, &[67, 128], 0, 0, 4095, 5), away(5 + 256, 5));
-    for table in [0, 1, 2048, 4095, 4097, 8192] {
-        assert_eq!(turn(2, &[67, 62], 0, 0, table, 5), away(8, 5));
-    }
-    assert_eq!(turn(2, &[67, 62], 0, 0, 4096, 5), away(10, 5));
-    assert_eq!(turn(2, &[67, 62], 1, 7, 4096, 5), away(10, 5));
-    // no call, before any refusal
-    for places in [0, 1, 4, 6, 69] {
-        assert_eq!(turn(2, &[67, 62], 0, 1, 4096, places), away(NO_CALL, places));
-        assert_eq!(turn(17, &[67], 0, 0, 4095, places), away(NO_CALL, places));
-    }
-    for way in [2, 3, 255] {
-        assert_eq!(turn(2, &[67, 62], way, 1, 4096, 5), away(NO_CALL, 5));
-        assert_eq!(turn(17, &[67], way, 0, 4095, 5), away(NO_CALL, 5));
-    }
-}
-
-#[test]
-fn quick_pages_of_both_widths() {
-    quick_pages(finder_quick_page);
-    quick_pages(finder_quick_page_32);
-}
-
-#[test]
-fn the_longest_themes_of_both_quick_pages() {
-    let away = |result| (result, [77; 2], [77; 2], unanswered(5), true);
-    // more notes than columns: nothing is listed, and the table is filled
-    let none = (0, [77; 2], [77; 2], vec![0, 6, -127, 1, 0], false);
-    for (m, wide, narrow) in [(32, 0, 0), (33, 0, 4), (63, 0, 4), (64, 0, 4), (65, 4, 4), (300, 4, 4)] {
-        let theme = vec![60; m];
-        for (given, expected) in [
-            (page(finder_quick_page, 2, &theme, 0, 1, 4096, 5), wide),
-            (page(finder_quick_page_32, 2, &theme, 0, 1, 4096, 5), narrow),
-        ] {
-            assert_eq!(given, if expected == 0 { none.clone() } else { away(expected) }, "{m} notes");
-        }
-        // 1 and 2 come before it, and all else behind
-        let bad = vec![200; m];
-        for (tracks, first) in [(0, 1), (17, 1), (3, 2)] {
-            assert_eq!(page(finder_quick_page, tracks, &bad, 0, 0, 4095, 5), away(first));
-            assert_eq!(page(finder_quick_page_32, tracks, &bad, 0, 0, 4095, 5), away(first));
-        }
-        assert_eq!(page(finder_quick_page, 2, &bad, 0, 0, 4095, 5), away(if wide == 0 { 5 } else { 4 }));
-        assert_eq!(page(finder_quick_page_32, 2, &bad, 0, 0, 4095, 5), away(if narrow == 0 { 5 } else { 4 }));
-        // an unknown way comes before them all
-        assert_eq!(page(finder_quick_page_32, 0, &bad, 2, 0, 4095, 5), away(NO_CALL));
-    }
-}
-
 /// K with the theme 67 62 and its own sets, exact, at column 1 with shift 0.
 const ASKED: Asked = Asked { cells: &K, tracks: 2, theme: &[67, 62], way: 0, column: 1, shift: 0, sets: &K_SETS };
 
@@ -232,8 +139,8 @@ fn an_explanation_in_numbers() {
     assert_eq!(explain(Asked { column: 3, shift: -3, ..ASKED }), explained([6, 2, 2, 1, 7], &[]));
     assert_eq!(explain(Asked { way: 1, column: 3, shift: 9, ..ASKED }), explained([6, 2, 2, 1, 7], &[]));
     // the longest theme
-    let long = Asked { cells: &[60; 64], tracks: 1, theme: &[60; 64], sets: &[0; 63], ..ASKED };
-    assert_eq!(explain(long), explained([0, 0, 1, 0, 0], &[1; 64]));
+    let long = Asked { cells: &[60; 32], tracks: 1, theme: &[60; 32], sets: &[0; 31], ..ASKED };
+    assert_eq!(explain(long), explained([0, 0, 1, 0, 0], &[1; 32]));
 }
 
 #[test]
@@ -293,18 +200,18 @@ fn a_route_in_numbers() {
     assert_eq!(route(ASKED, 2), (0, vec![2, 1], vec![1]));
     assert_eq!(route(Asked { column: 4, shift: 5, ..ASKED }, 2), (0, vec![2, 2], vec![0]));
     // the longest theme, and the most changes
-    let long = Asked { cells: &[60; 64], tracks: 1, theme: &[60; 64], ..ASKED };
-    assert_eq!(route(long, 65), (0, [vec![1; 64], vec![99]].concat(), vec![0]));
-    let turns: Vec<u8> = (0..64).flat_map(|i| if i % 2 == 0 { [60, 255] } else { [255, 60] }).collect();
-    let long = Asked { cells: &turns, tracks: 2, theme: &[60; 64], ..ASKED };
-    assert_eq!(route(long, 64), (0, [1, 2].repeat(32), vec![63]));
+    let long = Asked { cells: &[60; 32], tracks: 1, theme: &[60; 32], ..ASKED };
+    assert_eq!(route(long, 33), (0, [vec![1; 32], vec![99]].concat(), vec![0]));
+    let turns: Vec<u8> = (0..32).flat_map(|i| if i % 2 == 0 { [60, 255] } else { [255, 60] }).collect();
+    let long = Asked { cells: &turns, tracks: 2, theme: &[60; 32], ..ASKED };
+    assert_eq!(route(long, 32), (0, [1, 2].repeat(16), vec![31]));
 }
 
 #[test]
 fn a_refused_route() {
     // the buffer has places for the route, or too few; refusals 1 to 5 and 13 come before
     let refused = |asked: Asked| {
-        let results = [0, 1, asked.theme.len(), 80].map(|places| {
+        let results = [0, 1, asked.theme.len(), 40].map(|places| {
             let before = vec![99; places];
             let (result, route, answer) = asked.route(&before, 1);
             assert_eq!((route, answer), (before, unanswered(1)));
@@ -318,8 +225,7 @@ fn a_refused_route() {
     assert_eq!(refused(Asked { tracks: 2, theme: &[200], column: 0, ..WANDERS }), 2);
     assert_eq!(refused(Asked { cells: &[60, 67, 128], theme: &[200], column: 0, ..WANDERS }), 3 + 2 * 256);
     assert_eq!(refused(Asked { theme: &[200], column: 0, ..WANDERS }), 4);
-    assert_eq!(refused(Asked { theme: &[60; 65], column: 0, ..WANDERS }), 4);
-    assert_eq!(refused(Asked { theme: &[60; 64], column: 1, ..WANDERS }), 13);
+    assert_eq!(refused(Asked { theme: &[60; 33], column: 0, ..WANDERS }), 4);
     assert_eq!(refused(Asked { theme: &[60, 62, 200], column: 0, ..WANDERS }), 5 + 2 * 256);
     for column in [0, 2, 3, 4, 5, 2048, 65535] {
         assert_eq!(refused(Asked { column, ..WANDERS }), 13);

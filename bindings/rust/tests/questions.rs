@@ -8,9 +8,9 @@ use finder::{occurs, pairs, prepare, Prepared, Refusal, Summary, Way, TABLE_LEN}
 const WAYS: [Way; 2] = [Way::Exact, Way::Octave];
 
 /// The theme's table, by its definition.
-fn table_of(theme: &[u8]) -> Vec<u64> {
+fn table_of(theme: &[u8]) -> Vec<u32> {
     let has = |l: usize, i: usize| l >> (i32::from(theme[i + 1]) - i32::from(theme[i])).rem_euclid(12) & 1 == 0;
-    let word = |l| (0..theme.len() - 1).filter(|i| has(l, *i)).fold(!0, |word: u64, i| word & !(1 << i));
+    let word = |l| (0..theme.len() - 1).filter(|i| has(l, *i)).fold(!0, |word: u32, i| word & !(1 << i));
     (0..TABLE_LEN).map(word).collect()
 }
 
@@ -95,7 +95,6 @@ fn questions_at_the_ends_of_the_range() {
         assert!(ask_own(&long, 1, &[60, 61], way));
         assert!(!ask_own(&long, 1, &[60, 61, 61], way));
         assert!(ask_own(&long, 1, &[60; 32], way));
-        assert!(ask_own(&long, 1, &[60; 64], way));
         // one column, or one with a pitch: no theme has room
         assert!(!ask_own(&[60], 1, &[60, 60], way));
         assert!(!ask_own(&[60, R, R], 1, &[60, 60], way));
@@ -173,9 +172,7 @@ fn the_question_refuses_in_order() {
     assert_eq!(ask(&[60, R, 62], 1, &[60, 62], &[4091, 4095], 65535, 0), Err((8, 0)));
     assert_eq!(ask(&[60, R, 62], 1, &[60, 62], &[4091, 4095], 65535, 4096), Err((12, 0)));
     assert_eq!(ask(&[60, R, 62], 1, &[60, 62], &[4091, 4095], 4091, 4096), Ok(true));
-    // a theme of 65 notes, none of which is a pitch, and themes of 33 and 64
-    assert_eq!(ask(&K, 2, &[200; 65], &K_SETS, 3193, 4096), Err((4, 0)));
-    assert_eq!(ask(&K, 2, &[200; 64], &K_SETS, 3193, 4096), Err((5, 0)));
-    assert_eq!(ask(&K, 2, &[60; 33], &K_SETS, 3193, 4096), Ok(false));
-    assert_eq!(ask(&K, 2, &[60; 64], &K_SETS, 3193, 4096), Ok(false));
+    // a theme of 33 notes, of which one is none, and a theme of 32
+    assert_eq!(ask(&K, 2, &[200; 33], &K_SETS, 3193, 4096), Err((4, 0)));
+    assert_eq!(ask(&K, 2, &[60; 32], &K_SETS, 3193, 4096), Ok(false));
 }

@@ -6,10 +6,10 @@ mod third;
 
 use calls::{heard, Random};
 use finder::{
-    explain, occurs, pairs, plain_page, plain_pairs, prepare, quick_page, quick_page_32, route, route_into, update, AnyWay,
-    Bookmark, Pair, Prepared, Refusal, Summary, Way,
+    explain, occurs, pairs, plain_page, plain_pairs, prepare, quick_page, route, route_into, update, AnyWay, Bookmark, Pair,
+    Prepared, Refusal, Summary,
 };
-use third::{summary_of, Call, Lent, Search};
+use third::{summary_of, Call, Lent};
 
 /// Each call that takes the way, against the third finder. How many pairs the last page has; none where it is refused.
 fn same(call: &Call) -> Option<usize> {
@@ -24,7 +24,7 @@ fn same(call: &Call) -> Option<usize> {
 
     let mut after = lent.clone();
     let answer = plain_page(cells, *tracks, theme, *way, *bookmark, &mut after.columns, &mut after.shifts);
-    assert_eq!((answer, after), call.page(Search::Plain), "plain {call:?}");
+    assert_eq!((answer, after), call.page(false), "plain {call:?}");
     let written = answer.ok().map(|page| page.written);
 
     let pair = Pair { column: bookmark.column, shift: bookmark.shift };
@@ -40,27 +40,10 @@ fn same(call: &Call) -> Option<usize> {
     let answer = explain(cells, *tracks, theme, way, pair, &lent.sets);
     assert_eq!(answer, call.explain(pair), "explanation {call:?}");
 
-    same_quick(call, way)
-}
-
-/// Both quick pages, against the third finder and beside each other. How many pairs the wide one has; none where it is refused.
-fn same_quick(call: &Call, way: Way) -> Option<usize> {
-    let Call { cells, tracks, theme, bookmark, lent, .. } = call;
     let mut after = lent.clone();
     let Lent { sets, table, columns, shifts, .. } = &mut after;
     let answer = quick_page(cells, *tracks, theme, way, *bookmark, sets, table, columns, shifts);
-    assert_eq!((answer, &after), (call.page(Search::Quick).0, &call.page(Search::Quick).1), "quick {call:?}");
-
-    let mut after_32 = lent.clone();
-    let Lent { sets, table_32, columns, shifts, .. } = &mut after_32;
-    let answer_32 = quick_page_32(cells, *tracks, theme, way, *bookmark, sets, table_32, columns, shifts);
-    assert_eq!((answer_32, &after_32), (call.page(Search::Quick32).0, &call.page(Search::Quick32).1), "quick 32 {call:?}");
-
-    if answer.is_ok() && answer_32.is_ok() {
-        assert_eq!((answer, after.columns, after.shifts), (answer_32, after_32.columns, after_32.shifts));
-        let low = |word: &u64| (word >> 32 == 0xffff_ffff).then_some(*word as u32);
-        assert!(after.table.iter().map(low).eq(after_32.table_32.into_iter().map(Some)), "{call:?}");
-    }
+    assert_eq!((answer, after), call.page(true), "quick {call:?}");
     answer.ok().map(|page| page.written)
 }
 
@@ -73,7 +56,7 @@ fn same_list(call: &Call) -> Vec<(u16, i16)> {
     whole.lent.columns = vec![0; room];
     whole.lent.shifts = vec![0; room];
     whole.lent.sets = whole.prepare().1;
-    let (page, lent) = whole.page(Search::Plain);
+    let (page, lent) = whole.page(false);
     let list: Vec<_> = lent.columns.into_iter().zip(lent.shifts).take(page.unwrap().written).collect();
     let mut all = plain_pairs(cells, *tracks, theme, *way).unwrap();
     let given: Vec<_> = all.by_ref().map(|p| (p.column, p.shift)).collect();
@@ -83,7 +66,7 @@ fn same_list(call: &Call) -> Vec<(u16, i16)> {
         let mut all = pairs(cells, *tracks, theme, way).unwrap();
         let given: Vec<_> = all.by_ref().map(|p| (p.column, p.shift)).collect();
         assert_eq!(given, list);
-        assert_eq!(all.looks(), u64::from(whole.page(Search::Quick).0.unwrap().looks));
+        assert_eq!(all.looks(), u64::from(whole.page(true).0.unwrap().looks));
         // the question by the score's own sets is about this list
         let prepared = Prepared::new(cells, *tracks).unwrap();
         assert_eq!((Ok(prepared.summary()), prepared.sets().to_vec()), whole.prepare());
@@ -119,9 +102,6 @@ struct Met {
     /// lists with a pair that reaches over a column without a pitch, of moved tunes and of written ones
     moved_over: usize,
     written_over: usize,
-    /// pages with pairs of themes of more than 32 notes, of moved tunes and of written ones
-    moved_long: usize,
-    written_long: usize,
     /// bookmarks in such a column, with a pair behind
     bookmarks: usize,
     /// sets that make a candidate of a column from which too few are left
@@ -146,14 +126,10 @@ impl Met {
         if !own_key {
             self.question(call, &list);
         }
-        let (with_pairs, with_over, with_long) = if own_key {
-            (&mut self.written, &mut self.written_over, &mut self.written_long)
-        } else {
-            (&mut self.moved, &mut self.moved_over, &mut self.moved_long)
-        };
+        let (with_pairs, with_over) =
+            if own_key { (&mut self.written, &mut self.written_over) } else { (&mut self.moved, &mut self.moved_over) };
         *with_pairs += usize::from(pairs > 0);
         *with_over += usize::from(over);
-        *with_long += usize::from(pairs > 0 && call.theme.len() > 32);
         let heard = heard(&call.cells, call.tracks);
         self.bookmarks += usize::from(pairs > 0 && !heard.contains(&call.bookmark.column.into()));
         // the sets from a column on to the last one with a pitch, one for each interval of the theme
@@ -185,7 +161,7 @@ fn short_scores() {
     for _ in 0..40000 {
         met.all(&random.call(4, 12, 6));
     }
-    let Met { moved, written, moved_over, written_over, bookmarks, too_few, yes, lacking, candidates, by_other_sets, .. } = met;
+    let Met { moved, written, moved_over, written_over, bookmarks, too_few, yes, lacking, candidates, by_other_sets } = met;
     assert!(moved > 4000 && written > 1000, "{met:?}");
     assert!(moved_over > 1000 && written_over > 300 && bookmarks > 300 && too_few > 300, "{met:?}");
     assert!(yes > 5000 && lacking > 5000 && candidates > 1000 && by_other_sets > 200, "{met:?}");
@@ -196,37 +172,23 @@ fn scores_within_all_limits() {
     let mut random = Random(0x1234_5678_9abc_def1);
     let mut met = Met::default();
     for _ in 0..1500 {
-        met.all(&random.call(16, 150, 64));
+        met.all(&random.call(16, 150, 32));
     }
-    let Met { moved, written, moved_over, written_over, moved_long, written_long, .. } = met;
-    assert!(moved > 150 && written > 30 && moved_over > 80 && written_over > 20, "{met:?}");
-    assert!(moved_long > 30 && written_long > 5, "{met:?}");
-}
-
-#[test]
-fn themes_about_as_long_as_a_register() {
-    let mut random = Random(0x0064_0032_0033_0065);
-    let mut met = Met::default();
-    for round in 0..4000 {
-        let m = [31, 32, 33, 62, 63, 64][round % 6];
-        met.all(&random.call_of(16, m..=m + 60, m..=m));
-    }
-    let Met { moved, written, moved_over, written_over, moved_long, written_long, yes, candidates, .. } = met;
-    assert!(moved > 150 && written > 50 && moved_over > 80 && written_over > 20, "{met:?}");
-    assert!(moved_long > 100 && written_long > 30 && yes > 150 && candidates > 100, "{met:?}");
+    let Met { moved, written, moved_over, written_over, .. } = met;
+    assert!(moved > 250 && written > 50 && moved_over > 80 && written_over > 20, "{met:?}");
 }
 
 #[test]
 fn longest_scores() {
     let mut random = Random(0xfeed_beef_cafe_0001);
     for round in 0..24 {
-        let mut call = random.call(16, 2048, 64);
+        let mut call = random.call(16, 2048, 32);
         if round % 3 == 0 {
             let (tracks, n) = ([1, 3, 16][round % 9 / 3], 2048);
             call.tracks = tracks;
             call.cells = random.bytes(n * tracks, 40, 9);
             random.silence(&mut call.cells, tracks, n);
-            let m = [2, 5, 32, 33, 48, 62, 63, 64][round / 3];
+            let m = 32.min(2 + round);
             if heard(&call.cells, tracks).len() >= m {
                 call.theme = random.picked(&call.cells, tracks, m, call.way);
             }
@@ -292,7 +254,7 @@ fn updated(call: &Call) -> (Result<Summary, Refusal>, Vec<u16>) {
 fn change_after_change() {
     let mut random = Random(0xc4a1_9e00_0b5e_0004);
     for round in 0..60 {
-        let mut call = if round < 4 { random.call(16, 2048, 64) } else { random.call(16, 150, 64) };
+        let mut call = if round < 4 { random.call(16, 2048, 32) } else { random.call(16, 150, 32) };
         let mut prepared = Prepared::new(&call.cells, call.tracks).unwrap();
         for _ in 0..50 {
             random.change(&mut call);
@@ -315,8 +277,6 @@ fn change_after_change() {
 fn damaged_calls() {
     let mut random = Random(0x0dd0_1ead_5eed_0002);
     let (mut refused, mut numbers, mut unexplained, mut unrouted) = (0, [0; 20], [0; 8], [0; 15]);
-    // themes that only the 32-bit quick page refuses, and of those that it would refuse, other refusals that come first
-    let (mut long, mut before_long) = (0, [0; 4]);
     for _ in 0..60000 {
         let mut call = random.call(4, 12, 6);
         for _ in 0..random.from(1, 3) {
@@ -332,16 +292,6 @@ fn damaged_calls() {
         if let Err(refusal) = call.check_explanation() {
             unexplained[usize::from(refusal.number)] += 1;
         }
-        if (33..=64).contains(&call.theme.len()) {
-            match (call.check_pages(Search::Quick), call.check_pages(Search::Quick32)) {
-                (Ok(()), Err(Refusal { number: 4, place: 0 })) => long += 1,
-                (Err(wide), Err(narrow)) if wide.number < 4 => {
-                    assert_eq!(wide, narrow);
-                    before_long[usize::from(wide.number)] += 1;
-                }
-                (_, narrow) => assert_eq!(narrow, Err(Refusal { number: 4, place: 0 })),
-            }
-        }
         let Bookmark { column, shift } = call.bookmark;
         if let Err(refusal) = call.check_route(Pair { column, shift }) {
             unrouted[usize::from(refusal.number)] += 1;
@@ -352,7 +302,6 @@ fn damaged_calls() {
     for number in [1, 2, 3, 4, 5, 6, 7, 8, 12, 19] {
         assert!(numbers[number] > 500, "{numbers:?}");
     }
-    assert!(long > 500 && before_long[1..].iter().all(|many| *many > 20), "{long} {before_long:?}");
     // and of the explainer
     assert!(unexplained[1..].iter().all(|many| *many > 500), "{unexplained:?}");
     // and of the router; of the damaged calls few have a bookmark that is a listed pair

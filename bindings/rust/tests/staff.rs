@@ -60,18 +60,18 @@ column 2, shift 0: tracks 2 1, 1 change
 #[test]
 fn a_long_tune_goes_on_below() {
     let chords: String = (0..2048).map(|k| format!("chord{}\t{}\n", "\t-".repeat(15), k % 128)).collect();
-    let notes: String = (64..128).map(|note| format!("\t{note}")).collect();
+    let notes: String = (96..128).map(|note| format!("\t{note}")).collect();
     let path = file_with("long.txt", &format!("theme\texact{notes}\n{chords}"));
-    let picture = drawn(&path, "1985", "0");
+    let picture = drawn(&path, "2017", "0");
     let lines: Vec<&str> = picture.lines().collect();
-    // 65 columns, the first of them in front of the tune: four times 14 and 9, each of 17 lines, with an empty line between
-    assert_eq!(lines.len(), 5 * 17 + 4 + 1);
+    // 33 columns, the first of them in front of the tune: twice 14 and 5, each of 17 lines
+    assert_eq!(lines.len(), 3 * 17 + 2 + 1);
     assert!(lines[..lines.len() - 1].iter().all(|line| line.len() < 80));
-    assert_eq!(lines[0], format!("column  {}", (1984..1998).map(|k| k.to_string()).collect::<Vec<_>>().join(" ")));
-    assert_eq!((lines[16].starts_with("track 16  63   64*  65* "), lines[17]), (true, ""));
-    assert_eq!(lines[71..=72], ["", "column  2040 2041 2042 2043 2044 2045 2046 2047 2048"]);
-    assert_eq!(lines[88], "track 16 119* 120* 121* 122* 123* 124* 125* 126* 127*");
-    assert_eq!(lines[89], format!("column 1985, shift 0: tracks{}, 0 changes", " 16".repeat(64)));
+    assert_eq!(lines[0], format!("column  {}", (2016..2030).map(|k| k.to_string()).collect::<Vec<_>>().join(" ")));
+    assert_eq!((lines[16].starts_with("track 16  95   96*  97* "), lines[17]), (true, ""));
+    assert_eq!(lines[35..=36], ["", "column  2044 2045 2046 2047 2048"]);
+    assert_eq!(lines[52], "track 16 123* 124* 125* 126* 127*");
+    assert_eq!(lines[53], format!("column 2017, shift 0: tracks{}, 0 changes", " 16".repeat(32)));
 }
 
 #[test]

@@ -65,7 +65,7 @@ fn faulty_inputs() {
         (format!("theme\tminor\t67\t62\n{CHORDS}"), 1),
         (format!("theme\texact\t67\n{CHORDS}"), 1),
         (format!("theme\texact\t67\t-\n{CHORDS}"), 1),
-        (format!("theme\texact{}\n{CHORDS}", "\t60".repeat(65)), 1),
+        (format!("theme\texact{}\n{CHORDS}", "\t60".repeat(33)), 1),
         (theme.to_string(), 2),
         (theme.trim_end().to_string(), 1),
         (format!("{theme}{}", CHORDS.trim_end()), 6),
@@ -90,16 +90,12 @@ fn faulty_inputs() {
 
 #[test]
 fn right_inputs_at_the_limits() {
-    // as many notes as the lister takes, one more, and as many as the library does
-    for m in [32, 33, 64] {
-        let theme = format!("theme\toctave{}\n", "\t127".repeat(m));
-        let path = file_with("limits.txt", &format!("{theme}{}", format!("chord{}\n", "\t0".repeat(16)).repeat(2048)));
-        let last = 2049 - m;
-        let listed = format!("listed: tracks{}\nthe sets keep column {last}\n", " 1".repeat(m));
-        assert_eq!(run(&[&path, &last.to_string(), "5"]), (Some(0), listed, String::new()));
-        let few = format!("from column {} on there are too few columns with a pitch\n", last + 1);
-        assert_eq!(run(&[&path, &(last + 1).to_string(), "5"]), (Some(0), few, String::new()));
-    }
+    let theme = format!("theme\toctave{}\n", "\t127".repeat(32));
+    let path = file_with("limits.txt", &format!("{theme}{}", format!("chord{}\n", "\t0".repeat(16)).repeat(2048)));
+    let listed = format!("listed: tracks{}\nthe sets keep column 2017\n", " 1".repeat(32));
+    assert_eq!(run(&[&path, "2017", "5"]), (Some(0), listed, String::new()));
+    let few = "from column 2018 on there are too few columns with a pitch\n".to_string();
+    assert_eq!(run(&[&path, "2018", "5"]), (Some(0), few, String::new()));
     let path = file_with("one_column.txt", "theme\texact\t60\t62\nchord\t-\n");
     let few = "from column 1 on there are too few columns with a pitch\n".to_string();
     assert_eq!(run(&[&path, "1", "0"]), (Some(0), few, String::new()));

@@ -1,8 +1,7 @@
 //! The worked examples: pages to try by hand, and the limits.
 
 use finder::{
-    pairs, plain_page, plain_pairs, prepare, quick_page, quick_page_32, AnyWay, Bookmark, Page, Pair, Refusal, Way,
-    MOST_NOTES_32, TABLE_LEN,
+    pairs, plain_page, plain_pairs, prepare, quick_page, AnyWay, Bookmark, Page, Pair, Refusal, Way, TABLE_LEN,
 };
 
 /// Five columns of two tracks.
@@ -48,19 +47,11 @@ fn plain_pages(cells: &[u8], tracks: usize, theme: &[u8], way: impl Into<AnyWay>
     pages(way.first(), room, |at, columns, shifts| plain_page(cells, tracks, theme, way, at, columns, shifts))
 }
 
-/// The pages of the quick search, which are those of the 32-bit one where the theme is short enough for it.
 fn quick_pages(cells: &[u8], tracks: usize, theme: &[u8], way: Way, room: usize) -> Vec<Turned> {
     let sets = sets_of(cells, tracks);
-    let wide = pages(way.first(), room, |at, columns, shifts| {
+    pages(way.first(), room, |at, columns, shifts| {
         quick_page(cells, tracks, theme, way, at, &sets, &mut [5; TABLE_LEN], columns, shifts)
-    });
-    if theme.len() <= MOST_NOTES_32 {
-        let narrow = pages(way.first(), room, |at, columns, shifts| {
-            quick_page_32(cells, tracks, theme, way, at, &sets, &mut [5; TABLE_LEN], columns, shifts)
-        });
-        assert_eq!(wide, narrow);
-    }
-    wide
+    })
 }
 
 /// The whole list, which both searches give, with the looks of each.
@@ -156,10 +147,7 @@ fn one_track() {
     assert_eq!(list(&[120, 0], 1, &[0, 12], Way::Exact).0, []);
     assert_eq!(list(&[120, 0], 1, &[0, 12], Way::Octave).0, [(1, 0)]);
     assert_eq!(written_list(&[0, 127, 0, 127], 1, &[0, 127]), [(1, 0), (3, 0)]);
-    for m in [31, 32, 33, 63, 64] {
-        let theme = vec![60; m];
-        assert_eq!(written_list(&[60; 72], 1, &theme), (1..=73 - m as u16).map(|j| (j, 0)).collect::<Vec<_>>());
-    }
+    assert_eq!(written_list(&[60; 40], 1, &[60; 32]), (1..=9).map(|j| (j, 0)).collect::<Vec<_>>());
 }
 
 #[test]
@@ -250,10 +238,9 @@ fn limits() {
     };
     let long = vec![60; 2048 * 16];
     assert_eq!(refused(&K, 2, &[60]), Some((4, 0)));
-    assert_eq!(refused(&K, 2, &[60; 65]), Some((4, 0)));
+    assert_eq!(refused(&K, 2, &[60; 33]), Some((4, 0)));
     assert_eq!(refused(&K, 2, &[60; 2]), None);
-    assert_eq!(refused(&K, 2, &[60; 33]), None);
-    assert_eq!(refused(&K, 2, &[60; 64]), None);
+    assert_eq!(refused(&K, 2, &[60; 32]), None);
     assert_eq!(refused(&long, 16, &[60; 2]), None);
     assert_eq!(refused(&long[..2048], 1, &[60; 2]), None);
     assert_eq!(refused(&long[..2049], 1, &[60; 2]), Some((2, 0)));
@@ -291,7 +278,6 @@ fn iterator_goes_on_over_pages() {
 fn refusals_say_why() {
     let said = |number, place| Refusal { number, place }.to_string();
     assert_eq!(said(3, 12), "3: cell 12 is neither a pitch nor a rest");
-    assert_eq!(said(4, 0), "4: a theme must have 2 to 64 notes, and 2 to 32 for the 32-bit quick page");
     assert_eq!(said(12, 0), "12: the summary is not that of the sets");
     assert_eq!(said(19, 0), "19: the score has no such column");
 }

@@ -5,7 +5,6 @@ use mathlib.Core.Bool.{Bool, false, not, ◌||◌}
 use mathlib.Core.Logic.{◌↔◌}
 use mathlib.Core.List.{List, [], ◌∷◌, ◌++◌}
 use Prim.Native.Nat.{ℕ, zero, suc, ◌+◌, ◌-◌, ◌%◌, ◌≤◌}
-use native.Mathlib.Nat.{le_trans}
 use native.Mathlib.Omega.{arith}
 use lib.Dec.{eqb, ltb}
 use lib.IntN.{ℤ, pos, ◌+ℤ◌}
@@ -125,26 +124,6 @@ module _ (range : Range) (n : ℕ) (b : Bookmark) (columns : List ℕ) (shifts :
     λ c. let r = (row9_clear columns shifts).0 c.0 in (r.0, r.1, (row10_clear range n b).0 c.1.0),
   )
 
--- ---- what is accepted for some notes at most is accepted for more
-
-pub accepted_more : {most more : ℕ} {cells : List ℕ} {h : ℕ} {theme : List ℕ} → most ≤ more → Accepted most cells h theme → Accepted more cells h theme
-accepted_more q a =
-    record {
-      tracks_some = a.tracks_some;
-      tracks_few = a.tracks_few;
-      columns_whole = a.columns_whole;
-      columns_some = a.columns_some;
-      columns_few = a.columns_few;
-      cells_good = a.cells_good;
-      notes_some = a.notes_some;
-      notes_few = le_trans a.notes_few q;
-      notes_good = a.notes_good;
-    }
-
-pub page_more : {most more : ℕ} {cells : List ℕ} {h : ℕ} {theme : List ℕ} {way : AnyWay} {b : Bookmark} {columns : List ℕ} {shifts : List ℤ}
-    → most ≤ more → PageAsks most cells h theme way b columns shifts → PageAsks more cells h theme way b columns shifts
-page_more q a = record { accepted = accepted_more q a.accepted; room = a.room; same_room = a.same_room; marked = a.marked }
-
 -- ---- a call is asked right exactly where none of its rows applies
 
 module _ (cells : List ℕ) (h : ℕ) (theme : List ℕ) (way : AnyWay) (b : Bookmark) (columns : List ℕ) (shifts : List ℤ) where
@@ -169,9 +148,9 @@ module _ (cells : List ℕ) (h : ℕ) (theme : List ℕ) (way : AnyWay) (b : Boo
     λ c. let d = clear_split request page c in page_asks ((accepted_clear most_notes cells h theme).1 d.0) (page_right.1 d.1),
   )
 
-module _ (most : ℕ) (cells : List ℕ) (h : ℕ) (theme : List ℕ) (way : Way) (b : Bookmark) (sets table columns : List ℕ) (shifts : List ℤ) where
+module _ (cells : List ℕ) (h : ℕ) (theme : List ℕ) (way : Way) (b : Bookmark) (sets table columns : List ℕ) (shifts : List ℤ) where
   abbrev asked : List Row
-  asked = request_rows most cells h theme
+  asked = request_rows most_notes cells h theme
 
   abbrev lent : List Row
   lent = sets_rows cells h sets (length table)
@@ -179,16 +158,16 @@ module _ (most : ℕ) (cells : List ℕ) (h : ℕ) (theme : List ℕ) (way : Way
   abbrev after : List Row
   after = page_rows (range_of way) (columns_in cells h) b (length columns) (length shifts)
 
-  pub quick_clear : QuickAsks most cells h theme way b sets table columns shifts ↔ Clear (quick_rows most cells h theme way b sets table columns shifts)
+  pub quick_clear : QuickAsks cells h theme way b sets table columns shifts ↔ Clear (quick_rows cells h theme way b sets table columns shifts)
   quick_clear = (
-    λ a. clear_append asked (lent ++ after) ((accepted_clear most cells h theme).0 a.plain.accepted)
+    λ a. clear_append asked (lent ++ after) ((accepted_clear most_notes cells h theme).0 a.plain.accepted)
         (clear_append lent after ((sets_clear cells h sets table).0 (a.with_sets, a.table_long))
         ((page_right cells h theme (Moved way) b columns shifts).0 (a.plain.room, a.plain.same_room, a.plain.marked))),
     λ c. let d = clear_split asked (lent ++ after) c in
         let e = clear_split lent after d.1 in
         let s = (sets_clear cells h sets table).1 e.0 in
         record {
-          plain = page_asks cells h theme (Moved way) b columns shifts ((accepted_clear most cells h theme).1 d.0) ((page_right cells h theme (Moved way) b columns shifts).1 e.1);
+          plain = page_asks cells h theme (Moved way) b columns shifts ((accepted_clear most_notes cells h theme).1 d.0) ((page_right cells h theme (Moved way) b columns shifts).1 e.1);
           with_sets = s.0;
           table_long = s.1;
         },

@@ -9,7 +9,6 @@ use Rattle.asking.proofs.checks.check_page
 use Rattle.asking.proofs.checks.check_plain
 use Rattle.asking.proofs.checks.check_with_sets
 use Rattle.asking.proofs.checks.check_quick
-use Rattle.asking.proofs.checks_32.check_quick_32
 
 pub check_theme_unique : Settles check_theme.Kinds.ps check_theme.Kinds.r check_theme.Reads.Post
 check_theme_unique κs args x y = (settled_unique x.meets y.meets, refl)
@@ -28,6 +27,3 @@ check_with_sets_unique κs args x y = (settled_unique x.meets y.meets, refl)
 
 pub check_quick_unique : Settles check_quick.Kinds.ps check_quick.Kinds.r check_quick.Reads.Post
 check_quick_unique κs args x y = (settled_unique x.meets y.meets, refl)
-
-pub check_quick_32_unique : Settles check_quick_32.Kinds.ps check_quick_32.Kinds.r check_quick_32.Reads.Post
-check_quick_32_unique κs args x y = (settled_unique x.meets y.meets, refl)

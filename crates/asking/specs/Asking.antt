@@ -50,8 +50,8 @@ pub record PageAsks (most : ℕ) (cells : List ℕ) (h : ℕ) (theme : List ℕ)
 abbrev pub PlainAsks : (cells : List ℕ) (h : ℕ) (theme : List ℕ) → AnyWay → Bookmark → (columns : List ℕ) (shifts : List ℤ) → Type 0
 PlainAsks cells h theme way b columns shifts = PageAsks most_notes cells h theme way b columns shifts
 
--- what a quick call asks for: a theme of `most` notes at most, also sets, and a theme table of 4,096 places
-pub record QuickAsks (most : ℕ) (cells : List ℕ) (h : ℕ) (theme : List ℕ) (way : Way) (b : Bookmark) (sets table columns : List ℕ) (shifts : List ℤ) : Type 0 where
-  pub plain : PageAsks most cells h theme (Moved way) b columns shifts
+-- what a quick call asks for: also sets, and a theme table of 4,096 places
+pub record QuickAsks (cells : List ℕ) (h : ℕ) (theme : List ℕ) (way : Way) (b : Bookmark) (sets table columns : List ℕ) (shifts : List ℤ) : Type 0 where
+  pub plain : PageAsks most_notes cells h theme (Moved way) b columns shifts
   pub with_sets : AcceptedSets cells h sets
   pub table_long : length table ≡ table_words

@@ -3,8 +3,4 @@ use Rattle.std.specs.Prelude.{ℕ}
 
 -- the most notes of a theme
 abbrev pub most_notes : ℕ
-most_notes = 64
-
--- the most notes where words of 32 bits are used: in the 32-bit quick search, and in the lister
-abbrev pub narrow_notes : ℕ
-narrow_notes = 32
+most_notes = 32

@@ -12,7 +12,7 @@ use Rattle.ways.specs.declared.bookmark.Bookmark.{Bookmark}
 use Rattle.ways.specs.Way.{Range, range_of, range_as}
 use Rattle.asking.specs.Limits.{most_notes}
 
--- 4: the theme has fewer than two notes, or more than `most`, which a call names: 64, or 32 in the 32-bit quick search
+-- 4: the theme has fewer than two notes, or more than `most`, which a call names: 32
 abbrev pub row4 : (most : ℕ) (theme : List ℕ) → Row
 row4 most theme = row 4 (ltb (length theme) 2 || ltb most (length theme)) 0
 
@@ -52,9 +52,9 @@ request_rows most cells h theme = row1 h ∷ row2 cells h ∷ row3 cells ∷ the
 abbrev pub sets_rows : (cells : List ℕ) (h : ℕ) (sets : List ℕ) (table : ℕ) → List Row
 sets_rows cells h sets table = row6 cells h sets ∷ row7 sets ∷ row8 table ∷ []
 
--- a score and a theme of `most` notes at most, with lent sets and a table of this length: 1 to 8
-abbrev pub with_sets_rows : (most : ℕ) (cells : List ℕ) (h : ℕ) (theme sets : List ℕ) (table : ℕ) → List Row
-with_sets_rows most cells h theme sets table = request_rows most cells h theme ++ sets_rows cells h sets table
+-- a score and a theme, with lent sets and a table of this length: 1 to 8
+abbrev pub with_sets_rows : (cells : List ℕ) (h : ℕ) (theme sets : List ℕ) (table : ℕ) → List Row
+with_sets_rows cells h theme sets table = request_rows most_notes cells h theme ++ sets_rows cells h sets table
 
 -- two buffers of these lengths, and a bookmark: 9, 10
 abbrev pub page_rows : Range → (n : ℕ) → Bookmark → (r other : ℕ) → List Row
@@ -67,7 +67,7 @@ abbrev pub plain_rows : (cells : List ℕ) (h : ℕ) (theme : List ℕ) → AnyW
 plain_rows cells h theme way b columns shifts =
     request_rows most_notes cells h theme ++ page_rows (range_as way) (columns_in cells h) b (length columns) (length shifts)
 
--- quick, for themes of `most` notes at most: 1 to 10
-abbrev pub quick_rows : (most : ℕ) (cells : List ℕ) (h : ℕ) (theme : List ℕ) → Way → Bookmark → (sets table columns : List ℕ) (shifts : List ℤ) → List Row
-quick_rows most cells h theme way b sets table columns shifts =
-    request_rows most cells h theme ++ sets_rows cells h sets (length table) ++ page_rows (range_of way) (columns_in cells h) b (length columns) (length shifts)
+-- quick: 1 to 10
+abbrev pub quick_rows : (cells : List ℕ) (h : ℕ) (theme : List ℕ) → Way → Bookmark → (sets table columns : List ℕ) (shifts : List ℤ) → List Row
+quick_rows cells h theme way b sets table columns shifts =
+    request_rows most_notes cells h theme ++ sets_rows cells h sets (length table) ++ page_rows (range_of way) (columns_in cells h) b (length columns) (length shifts)

@@ -43,18 +43,17 @@ pub fn check_plain(
     check_page(way, columns_in(cells, tracks), bookmark, r, other)
 }
 
-// Refusals 1 to 8, for a score and a theme of `most` notes at most, with lent sets and a table as long as `table`.
+// Refusals 1 to 8, for a score and a theme with lent sets and a table as long as `table`.
 pub fn check_with_sets(
     cells: &[u8],
     tracks: usize,
     theme: &[u8],
-    most: usize,
     sets: &[u16],
     table: usize,
 ) -> Verdict
-    ensures { result ≡ verdict (with_sets_rows most cells.now tracks theme.now sets.now table) }
+    ensures { result ≡ verdict (with_sets_rows cells.now tracks theme.now sets.now table) }
 {
-    if let Verdict::Refused(e) = check_request(cells, tracks, theme, most) {
+    if let Verdict::Refused(e) = check_request(cells, tracks, theme, MOST_NOTES) {
         return Verdict::Refused(e);
     }
     if let Verdict::Refused(e) = check_sets(cells, tracks, sets) {
@@ -78,9 +77,9 @@ pub fn check_quick(
     r: usize,
     other: usize,
 ) -> Verdict
-    ensures { result ≡ verdict (with_sets_rows most_notes cells.now tracks theme.now sets.now table ++ page_rows (range_of way) (columns_in cells.now tracks) bookmark r other) }
+    ensures { result ≡ verdict (with_sets_rows cells.now tracks theme.now sets.now table ++ page_rows (range_of way) (columns_in cells.now tracks) bookmark r other) }
 {
-    if let Verdict::Refused(e) = check_with_sets(cells, tracks, theme, MOST_NOTES, sets, table) {
+    if let Verdict::Refused(e) = check_with_sets(cells, tracks, theme, sets, table) {
         return Verdict::Refused(e);
     }
     let n = columns_in(cells, tracks);

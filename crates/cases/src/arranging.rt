@@ -4,7 +4,6 @@ use crate::edges::{fill_edge, fill_edge_theme};
 use crate::random::fill_theme;
 use crate::worlds::spell;
 use gapped::drawing::fill;
-use gapped::pulses::{fill_pulse_theme, fill_pulses};
 use gapped::sparse::{fill_sparse, fill_sparse_theme};
 use gapped::spreads::{fill_spread, fill_spread_theme};
 use jobs::buffers::{Cells, Sets, Theme};
@@ -26,7 +25,6 @@ fn put_score(cells: &mut Cells, source: Source, k: usize, a: Ask) {
         Source::Beats => spell(cells, many, k, 2, 2),
         Source::Spread => fill_spread(cells, many, k),
         Source::Sparse => fill_sparse(cells, many, a.h, k),
-        Source::Pulses => fill_pulses(cells, many, k),
     }
 }
 
@@ -39,7 +37,6 @@ fn put_theme(cells: &[u8], theme: &mut Theme, source: Source, k: usize, a: Ask) 
         Source::Gaps | Source::Beats => spell(theme, 3, k, 2, 1),
         Source::Spread => fill_spread_theme(theme),
         Source::Sparse => fill_sparse_theme(cells, theme, a, k),
-        Source::Pulses => fill_pulse_theme(theme, a.notes, k),
     }
 }
 

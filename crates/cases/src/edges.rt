@@ -1,14 +1,13 @@
 // Edges: scores of one pitch all over, or of rests only, with a theme of equal notes; and scores in which a rising theme stands
-// in the last columns alone, each note in another track, whole or with its last note too high. The themes have two notes, 31
-// or 32, or are long ones, and the scores one column less than the theme has notes, as many, one more, or many more.
+// in the last columns alone, each note in another track, whole or with its last note too high. The themes have up to 32 notes,
+// and the scores one column less than the theme has notes, as many, one more, or many more.
 
 ghost use Rattle.std.specs.Prelude.{◌<◌};
 
-use jobs::buffers::NOTE_PLACES;
 use jobs::changes::{at, none};
 use jobs::job::{Head, Job, Source};
-use jobs::shapes::{LENGTHS, ask_of, long_notes, room_of, taken, way_of};
-use second::asks::{Ask, Call, NARROW_NOTES, columns_of};
+use jobs::shapes::{ask_of, room_of, way_of};
+use second::asks::{Ask, Call, columns_of};
 use second::totals::{less_one, more, put_byte};
 use second::ways::{lowest, shift_at, span};
 
@@ -24,25 +23,17 @@ fn tracks_of(e: usize) -> usize
     if e / 4 % 2 == 0 { 1 } else { 16 }
 }
 
-// The numbers of notes: three, and the long ones. Of the kinds with one track or many there are eight before them.
-const SIZES: usize = 3 + LENGTHS;
-
-const COLUMNS_FROM: usize = 8 * SIZES;
-
-const EDGES: usize = 4 * COLUMNS_FROM;
-
 fn notes_of(e: usize) -> usize {
-    match e / 8 % SIZES {
+    match e / 8 % 3 {
         0 => 2,
         1 => 31,
-        2 => 32,
-        k => long_notes(k - 3),
+        _ => 32,
     }
 }
 
 fn columns_in(e: usize) -> usize {
     let m = notes_of(e);
-    match e / COLUMNS_FROM % 4 {
+    match e / 24 % 4 {
         0 => less_one(m),
         1 => m,
         2 => more(m, 1),
@@ -62,7 +53,7 @@ fn edge_note(e: usize, i: usize) -> u8 {
     if kind_of(e) < 2 {
         return 60;
     }
-    40 + (i % 80) as u8
+    40 + (i % 64) as u8
 }
 
 // The same as it stands in the score: of the spoilt ones the last is too high.
@@ -105,7 +96,7 @@ pub fn fill_edge(cells: &mut [u8], many: usize, e: usize) {
 }
 
 pub fn fill_edge_theme(theme: &mut [u8], e: usize) {
-    for i in 0..NOTE_PLACES {
+    for i in 0..32 {
         put_byte(theme, i, edge_note(e, i));
     }
 }
@@ -135,17 +126,6 @@ fn edge_ask(e: usize, way: usize, room: usize) -> Ask {
     )
 }
 
-// From four bookmarks, at five rooms, in three ways.
-pub const EDGE_JOBS: usize = 60 * EDGES;
-
-// Whether an edge is tried at a room: a long theme at two of the five.
-fn tried_at(e: usize, room: usize) -> bool {
-    if notes_of(e) <= NARROW_NOTES {
-        return true;
-    }
-    more(e, room) % 5 < 2
-}
-
 // Each edge in all ways, at all rooms: the whole list, and a page from each other bookmark.
 pub fn edge_job(k: usize) -> Job {
     let e = k / 60;
@@ -153,7 +133,7 @@ pub fn edge_job(k: usize) -> Job {
     let a = from_mark(edge_ask(e, k % 3, k / 3 % 5), p, more(before(e), 1));
     let c = none();
     Job {
-        tried: tried_at(e, k / 3 % 5),
+        tried: true,
         source: Source::Edge,
         sets_of: e,
         score: e,
@@ -162,21 +142,13 @@ pub fn edge_job(k: usize) -> Job {
         c,
         d: c,
         call: call_in(k % 3),
-        whole: whole_at(p, a.notes),
+        whole: p == 0,
         deep: false,
         loud: false,
         head: Head::Quiet,
         low: 0,
         high: 0,
     }
-}
-
-// The list is whole from the first bookmark on; a theme that is too long has none.
-fn whole_at(p: usize, m: usize) -> bool {
-    if p == 0 {
-        return taken(m);
-    }
-    false
 }
 
 fn call_in(way: usize) -> Call {

@@ -1,30 +1,36 @@
 // The families of jobs, one after the other: every job by its number.
 
-use crate::edges::{EDGE_JOBS, edge_job};
+use crate::edges::edge_job;
 use crate::random::{random_job, sparse_job};
 use crate::worlds::world_job;
 use gapped::beats::{lent_job, mark_job, wrong_set_job};
 use gapped::gaps::gaps_job;
-use gapped::pulses::{PULSE_JOBS, pulse_job};
-use gapped::spreads::{SPREAD_JOBS, spread_job};
+use gapped::spreads::spread_job;
 use jobs::job::Job;
-use jobs::refused::{DUE_JOBS, END_JOBS, due_job, end_job};
+use jobs::refused::{due_job, end_job};
 use jobs::worked::worked_job;
 
-// How many jobs of each family there are: 35 cases four times; what is refused; 4,452 scores with 36 themes, in three ways, and
-// their sets; 1,500 rounds of ten; and the edges.
+// How many jobs of each family there are: 35 cases four times; 64 ends at three places, in two ways by three calls and in
+// written by one; 121 pairs of refusals by nine pairs of faults, in the same ways by the same calls; 4,452 scores with 36
+// themes, in three ways, and their sets; 1,500 rounds of ten; and 96 edges from four bookmarks at five rooms, in three ways.
 const CASES: usize = 140;
+
+const ENDS: usize = 1344;
+
+const DUES: usize = 7623;
 
 const WORLDS: usize = 485268;
 
 const ROUNDS: usize = 15000;
 
-const GENERAL: usize = CASES + END_JOBS + DUE_JOBS + WORLDS + ROUNDS + EDGE_JOBS;
+const EDGES: usize = 5760;
+
+const GENERAL: usize = CASES + ENDS + DUES + WORLDS + ROUNDS + EDGES;
 
 // The same of those with columns that hold no pitch: 1,053 scores with twelve themes in three ways, their sets, and twelve
 // themes by the sets of another score; 2,728 scores and their sets of 0 and 4095 with four themes in two ways; 64 scores with
-// four themes from seven columns at three shifts in three ways, and with two wrong sets at five places; themes that are spread;
-// 400 rounds of ten; and long themes over pulses.
+// four themes from seven columns at three shifts in three ways, and with two wrong sets at five places; 324 scores from five
+// bookmarks in three ways; and 400 rounds of ten.
 const GAPS: usize = 51597;
 
 const LENT: usize = 21824;
@@ -33,11 +39,11 @@ const MARKS: usize = 16128;
 
 const WRONG_SETS: usize = 640;
 
+const SPREADS: usize = 4860;
+
 const SPARSE: usize = 4000;
 
-const GAPPED: usize = GAPS + LENT + MARKS + WRONG_SETS + SPREAD_JOBS + SPARSE;
-
-const JOBS: usize = GENERAL + GAPPED + PULSE_JOBS;
+const JOBS: usize = GENERAL + GAPS + LENT + MARKS + WRONG_SETS + SPREADS + SPARSE;
 
 pub fn number_of_jobs() -> usize {
     JOBS
@@ -56,14 +62,14 @@ fn general_job(k: usize) -> Job {
         return worked_job(k);
     }
     let from_ends = k - CASES;
-    if from_ends < END_JOBS {
+    if from_ends < ENDS {
         return end_job(from_ends);
     }
-    let from_dues = from_ends - END_JOBS;
-    if from_dues < DUE_JOBS {
+    let from_dues = from_ends - ENDS;
+    if from_dues < DUES {
         return due_job(from_dues);
     }
-    let from_worlds = from_dues - DUE_JOBS;
+    let from_worlds = from_dues - DUES;
     if from_worlds < WORLDS {
         return world_job(from_worlds);
     }
@@ -74,8 +80,8 @@ fn general_job(k: usize) -> Job {
     edge_job(from_rounds - ROUNDS)
 }
 
-// Small scores with gaps, beats by all sets of 0 and 4095, from every bookmark and with a wrong set, spread themes, sparse
-// scores, and pulses.
+// Small scores with gaps, beats by all sets of 0 and 4095, from every bookmark and with a wrong set, spread themes, and sparse
+// scores.
 fn gapped_job(k: usize) -> Job {
     if k < GAPS {
         return gaps_job(k);
@@ -93,12 +99,8 @@ fn gapped_job(k: usize) -> Job {
         return wrong_set_job(from_wrong);
     }
     let from_spreads = from_wrong - WRONG_SETS;
-    if from_spreads < SPREAD_JOBS {
+    if from_spreads < SPREADS {
         return spread_job(from_spreads);
     }
-    let from_sparse = from_spreads - SPREAD_JOBS;
-    if from_sparse < SPARSE {
-        return sparse_job(from_sparse);
-    }
-    pulse_job(from_sparse - SPARSE)
+    sparse_job(from_spreads - SPREADS)
 }

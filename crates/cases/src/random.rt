@@ -4,7 +4,7 @@
 use gapped::drawing::{draw, note_of, start_in};
 use jobs::changes::{at, none};
 use jobs::job::{Head, Job, Source};
-use jobs::shapes::{ask_of, long_notes, room_of, taken, way_of};
+use jobs::shapes::{ask_of, room_of, way_of};
 use second::asks::{Ask, Call, columns_of};
 use second::totals::{more, put_byte, size};
 use second::ways::{Way, shift_at, span};
@@ -17,44 +17,31 @@ pub fn fill_theme(cells: &[u8], theme: &mut [u8], a: Ask, round: usize) {
     }
 }
 
-// The columns of a round: mostly few. Those of a long theme are some more than its notes.
+// The columns of a round: mostly few.
 fn columns_in(round: usize) -> usize {
-    match round % 16 {
-        0 => more(draw(round, 2, 200), 1),
-        3 => more(notes_in(round), draw(round, 2, 120)),
-        _ => more(draw(round, 2, 24), 1),
+    if round % 16 == 0 {
+        return more(draw(round, 2, 200), 1);
     }
+    more(draw(round, 2, 24), 1)
 }
 
 // The notes of a round: mostly few.
 fn notes_in(round: usize) -> usize {
-    match round % 16 {
-        3 => long_notes(round / 16),
-        11 => more(draw(round, 3, 31), 2),
-        _ => more(draw(round, 3, 3), 2),
+    if round % 8 == 3 {
+        return more(draw(round, 3, 31), 2);
     }
+    more(draw(round, 3, 3), 2)
 }
-
-// How many shapes of large scores there are, and the rounds of them.
-const SHAPES: usize = 12;
-
-const LARGE: usize = 2 * SHAPES;
 
 // The shape of a large score.
 fn large(k: usize, way: Way) -> Ask {
     match k {
-        0 => ask_of(16, 2048, 64, way, 4000),
+        0 => ask_of(16, 2048, 32, way, 4000),
         1 => ask_of(16, 2048, 2, way, 4000),
         2 => ask_of(1, 2048, 2, way, 7),
         3 => ask_of(5, 2047, 3, way, 300),
         4 => ask_of(16, 31, 32, way, 3),
-        5 => ask_of(16, 32, 32, way, 3),
-        6 => ask_of(16, 2048, 33, way, 40),
-        7 => ask_of(3, 2048, 63, way, 2),
-        8 => ask_of(2, 2048, 64, way, 3),
-        9 => ask_of(16, 2048, 32, way, 4000),
-        10 => ask_of(16, 2048, 65, way, 7),
-        _ => ask_of(16, 64, 64, way, 3),
+        _ => ask_of(16, 32, 32, way, 3),
     }
 }
 
@@ -71,8 +58,8 @@ fn shape(round: usize, way: Way) -> Ask {
 
 // What is asked in a round: of the largest scores first.
 fn asked(round: usize, way: Way) -> Ask {
-    if round < LARGE {
-        return large(round % SHAPES, way);
+    if round < 12 {
+        return large(round % 6, way);
     }
     shape(round, way)
 }
@@ -112,8 +99,8 @@ fn round_job(k: usize, source: Source) -> Job {
         c,
         d: c,
         call: call_at(what),
-        whole: whole_at(what, a.notes),
-        deep: deep_at(round, what),
+        whole: whole_at(what),
+        deep: round % 8 == 0,
         loud: false,
         head: Head::Quiet,
         low: 0,
@@ -162,21 +149,9 @@ fn way_at(what: usize) -> Way {
     }
 }
 
-// The whole table is looked at after the pages of some rounds that are no lists, long themes among them.
-fn deep_at(round: usize, what: usize) -> bool {
+fn whole_at(what: usize) -> bool {
     match what {
-        6 | 7 => match round % 16 {
-            0 | 3 | 8 => true,
-            _ => false,
-        },
-        _ => false,
-    }
-}
-
-// A theme that is too long has no list.
-fn whole_at(what: usize, m: usize) -> bool {
-    match what {
-        2 | 3 | 4 | 5 | 8 => taken(m),
+        2 | 3 | 4 | 5 | 8 => true,
         _ => false,
     }
 }

@@ -87,20 +87,12 @@ pub fn world_job(k: usize) -> Job {
         d: c,
         call: call_of(y),
         whole: y < 108,
-        deep: deep_at(x, y),
+        deep: x == 0,
         loud: false,
         head: Head::Quiet,
         low: 0,
         high: 0,
     }
-}
-
-// The whole table is looked at in the first scores, in exact; the way plays no part in it.
-fn deep_at(x: usize, y: usize) -> bool {
-    if x == 0 {
-        return y % 3 == 0;
-    }
-    false
 }
 
 // The sets are tried last. In written, which comes third, there are plain pages alone.

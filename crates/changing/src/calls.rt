@@ -84,7 +84,7 @@ fn ask_moved(
     cells: &[u8],
     theme: &[u8],
     sets: &[u16],
-    table: &mut [u64],
+    table: &mut [u32],
     a: Ask,
     way: Way,
     summary: u16,
@@ -125,7 +125,7 @@ pub fn ask_question(
     cells: &[u8],
     theme: &[u8],
     sets: &[u16],
-    table: &mut [u64],
+    table: &mut [u32],
     a: Ask,
     summary: u16,
 ) -> Said {

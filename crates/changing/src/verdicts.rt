@@ -3,13 +3,12 @@
 
 use judging::answers::refused;
 use judging::compare::{Fault, differs, sets_fault, table_fault};
-use judging::marks::same_sets;
 use noting::answers::Said;
 use second::asks::Ask;
 use second::away::Away;
 use second::questions::{lacks, occurs, question_refusal};
 use second::summaries::summary;
-use second::totals::more;
+use second::totals::{more, set};
 use second::updates::{update_refusal, update_right};
 
 // Whether the answer is the refusal that is due, 0 for none.
@@ -42,7 +41,7 @@ pub fn question_fault(
     cells: &[u8],
     theme: &[u8],
     sets: &[u16],
-    table: &[u64],
+    table: &[u32],
     a: Ask,
     deep: bool,
     lent: u16,
@@ -58,7 +57,17 @@ pub fn question_fault(
             return answer;
         }
     }
-    table_fault(theme, table, a, deep, said.number)
+    table_fault(theme, table, a, deep, refused(said.number, said.place))
+}
+
+// Whether sets from one place to another are the same in two buffers.
+fn same_sets(s: &[u16], t: &[u16], from: usize, to: usize) -> bool {
+    for i in from..to {
+        if set(s, i) != set(t, i) {
+            return false;
+        }
+    }
+    true
 }
 
 // The summary that an accepted call gives, of the sets as they then are.

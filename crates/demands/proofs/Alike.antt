@@ -15,7 +15,6 @@ use Rattle.ways.specs.declared.way.AnyWay.TheVariants.{Moved}
 use Rattle.ways.specs.declared.bookmark.Pair.{Pair}
 use Rattle.ways.specs.declared.bookmark.Bookmark.{Bookmark}
 use Rattle.ways.specs.Way.{range_of}
-use Rattle.asking.proofs.Rows.{accepted_more}
 use Rattle.asking.specs.Limits.{most_notes}
 use Rattle.asking.specs.Asking.{Accepted, InRange, PlainAsks, QuickAsks}
 use Rattle.paging.specs.declared.page.Turn.{Turn}
@@ -48,8 +47,8 @@ near_turned n = turned n.written n.next n.finished n.looks
 turned_near : {t u : Turn} → NoDearer (Turned t) (Turned u) → Near t u
 turned_near (turned a b c d) = record { written = a; next = b; finished = c; looks = d }
 
-module _ {w : ℕ} (few : w ≤ most_notes) (cells : List ℕ) (h : ℕ) (theme : List ℕ) (way : Way) (a : Accepted w cells h theme) (r : ℕ) (room : 1 ≤ r)
-    {plain quick : Bookmark → Lent → Leaf} (p : PlainCall cells h theme (Moved way) plain) (q : QuickCall w cells h theme way (sets (score_of cells h)) quick) where
+module _ (cells : List ℕ) (h : ℕ) (theme : List ℕ) (way : Way) (a : Accepted most_notes cells h theme) (r : ℕ) (room : 1 ≤ r)
+    {plain quick : Bookmark → Lent → Leaf} (p : PlainCall cells h theme (Moved way) plain) (q : QuickCall cells h theme way (sets (score_of cells h)) quick) where
   abbrev inside : Bookmark → Type 0
   inside b = InRange (range_of way) (length (score_of cells h)) b
 
@@ -57,11 +56,11 @@ module _ {w : ℕ} (few : w ≤ most_notes) (cells : List ℕ) (h : ℕ) (theme 
   page_same : {b : Bookmark} {t t' : Turn} {pairs pairs' : List Pair} → inside b → Turns plain r b t pairs → Turns quick r b t' pairs'
       → (pairs' ≡ pairs) × Near t' t
   page_same {b} {t} {t'} {pairs} {pairs'} i x y =
-      let c = plain_calls cells h theme (Moved way) (accepted_more few a) r room in
-      let s = quick_same cells h theme way a b y.buffers few (q.table b y.buffers) (q.long b y.buffers) in
-      let defined : Leaf = quick_page w cells h theme way b (sets (score_of cells h)) (q.table b y.buffers) y.buffers in
+      let c = plain_calls cells h theme (Moved way) a r room in
+      let s = quick_same cells h theme way a b y.buffers (q.table b y.buffers) (q.long b y.buffers) in
+      let defined : Leaf = quick_page cells h theme way b (sets (score_of cells h)) (q.table b y.buffers) y.buffers in
       let e : quick b y.buffers ≡ defined = pages_leaf (q.promises b y.buffers).pages in
-      let mine = turns_same (plainly cells h theme (accepted_more few a) r room (Moved way) p) i x in
+      let mine = turns_same (plainly cells h theme a r room (Moved way) p) i x in
       let answered : Turned t' ≡ defined.answer = sym y.answered ∙ ap (λ (l : Leaf). l.answer) e in
       let other : (plain_page cells h theme (Moved way) b y.buffers).answer ≡ Turned t = call_answer c b i y.buffers y.room ∙ ap Turned (sym mine.0) in
       let near : Near t' t =
@@ -80,7 +79,7 @@ module _ {w : ℕ} (few : w ≤ most_notes) (cells : List ℕ) (h : ℕ) (theme 
   reading_same i (last x e) (more y f g) = let s = page_same i x y in absurd (true≢false (sym e ∙ sym s.1.finished ∙ f))
   reading_same i (more x e g) (last y f) = let s = page_same i x y in absurd (true≢false (sym f ∙ s.1.finished ∙ e))
   reading_same {b} i (more {t = t} x e g) (more {pages = pages'} {turns = turns'} y f k) =
-      let c = plainly cells h theme (accepted_more few a) r room (Moved way) p in
+      let c = plainly cells h theme a r room (Moved way) p in
       let s = page_same i x y in
       let n : inside t.next = subst (λ (z : Turn). inside z.next) (sym (turns_same c i x).0) (next_range _ c.right r room b) in
       let m = reading_same n g (subst (λ (z : Bookmark). Reading quick r z pages' turns') s.1.next k) in
@@ -88,25 +87,25 @@ module _ {w : ℕ} (few : w ≤ most_notes) (cells : List ℕ) (h : ℕ) (theme 
 
 -- ---- one page from any bookmark, of answers that meet the contracts
 
-module _ {w : ℕ} (few : w ≤ most_notes) (cells : List ℕ) (h : ℕ) (theme : List ℕ) (way : Way) (b : Bookmark) (buffers buffers' : Lent) (table : List ℕ)
+module _ (cells : List ℕ) (h : ℕ) (theme : List ℕ) (way : Way) (b : Bookmark) (buffers buffers' : Lent) (table : List ℕ)
     (same : length buffers'.columns ≡ length buffers.columns) {t u : Turn} {after after' : Lent} {table' : List ℕ}
     (p : PlainPages cells h theme (Moved way) b buffers (Turned u) after)
-    (q : QuickPages w cells h theme way b (sets (score_of cells h)) table buffers' (Turned t) table' after') where
+    (q : QuickPages cells h theme way b (sets (score_of cells h)) table buffers' (Turned t) table' after') where
   plain_asks : PlainAsks cells h theme (Moved way) b buffers.columns buffers.shifts
   plain_asks = (plain_turned cells h theme (Moved way) b buffers).0 (u, sym p.pages.answers)
 
-  quick_asks : QuickAsks w cells h theme way b (sets (score_of cells h)) table buffers'.columns buffers'.shifts
-  quick_asks = (quick_turned w cells h theme way b (sets (score_of cells h)) table buffers').0 (t, sym q.pages.answers)
+  quick_asks : QuickAsks cells h theme way b (sets (score_of cells h)) table buffers'.columns buffers'.shifts
+  quick_asks = (quick_turned cells h theme way b (sets (score_of cells h)) table buffers').0 (t, sym q.pages.answers)
 
   -- the defined calls meet their own contracts
   by_plain : PlainCall cells h theme (Moved way) (plain_page cells h theme (Moved way))
   by_plain c l = record { pages = record { answers = refl; writes = refl } }
 
-  by_quick : QuickCall w cells h theme way (sets (score_of cells h)) (λ c l. quick_page w cells h theme way c (sets (score_of cells h)) table l)
+  by_quick : QuickCall cells h theme way (sets (score_of cells h)) (λ c l. quick_page cells h theme way c (sets (score_of cells h)) table l)
   by_quick =
       record {
         table = λ c l. table;
-        table' = λ c l. quick_table w cells h theme way c (sets (score_of cells h)) table l;
+        table' = λ c l. quick_table cells h theme way c (sets (score_of cells h)) table l;
         long = λ c l. quick_asks.table_long;
         promises = λ c l. record { pages = record { answers = refl; writes = refl }; fills_table = refl };
       }
@@ -115,7 +114,7 @@ module _ {w : ℕ} (few : w ≤ most_notes) (cells : List ℕ) (h : ℕ) (theme 
   one_page =
       let r = length buffers.columns in
       let s =
-      page_same few cells h theme way quick_asks.plain.accepted r plain_asks.room by_plain by_quick
+      page_same cells h theme way plain_asks.accepted r plain_asks.room by_plain by_quick
       (subst (λ (n : ℕ). InRange (range_of way) n b) (sym (score_length cells h)) plain_asks.marked)
       (record {
         buffers = buffers;

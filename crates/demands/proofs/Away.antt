@@ -94,20 +94,20 @@ plain_away cells h theme way b buffers p =
       unwritten = λ r x. p.pages.writes ∙ plain_kept cells h theme way b buffers r (sym e ∙ x);
     }
 
-pub quick_away : (w : ℕ) (cells : List ℕ) (h : ℕ) (theme : List ℕ) (way : Way) (b : Bookmark) (sets table : List ℕ) (buffers : Lent)
-    {answer : Page} {table' : List ℕ} {after : Lent} → QuickPages w cells h theme way b sets table buffers answer table' after
-    → TurnsAway (1 ∷ 2 ∷ 3 ∷ 4 ∷ 5 ∷ 6 ∷ 7 ∷ 8 ∷ 9 ∷ 10 ∷ []) (rows_of_quick w cells h theme way b sets table buffers)
+pub quick_away : (cells : List ℕ) (h : ℕ) (theme : List ℕ) (way : Way) (b : Bookmark) (sets table : List ℕ) (buffers : Lent)
+    {answer : Page} {table' : List ℕ} {after : Lent} → QuickPages cells h theme way b sets table buffers answer table' after
+    → TurnsAway (1 ∷ 2 ∷ 3 ∷ 4 ∷ 5 ∷ 6 ∷ 7 ∷ 8 ∷ 9 ∷ 10 ∷ []) (rows_of_quick cells h theme way b sets table buffers)
     (λ r. answer ≡ Refused r) ((t : Turn) × (answer ≡ Turned t)) ((after ≡ buffers) × (table' ≡ table))
-quick_away w cells h theme way b sets table buffers p =
+quick_away cells h theme way b sets table buffers p =
     let e = p.pages.answers in
-    let v = clear_verdict (rows_of_quick w cells h theme way b sets table buffers) in
-    let a = quick_turned w cells h theme way b sets table buffers in
-    let c = quick_clear w cells h theme way b sets table buffers.columns buffers.shifts in
+    let v = clear_verdict (rows_of_quick cells h theme way b sets table buffers) in
+    let a = quick_turned cells h theme way b sets table buffers in
+    let c = quick_clear cells h theme way b sets table buffers.columns buffers.shifts in
     record {
       order = refl;
-      exactly = λ k q. let f = quick_refused w cells h theme way b sets table buffers k q in (λ x. f.0 (sym e ∙ x), λ x. e ∙ f.1 x);
+      exactly = λ k q. let f = quick_refused cells h theme way b sets table buffers k q in (λ x. f.0 (sym e ∙ x), λ x. e ∙ f.1 x);
       otherwise = (λ x. v.0 (c.0 (a.0 (x.0, sym e ∙ x.1))), λ x. let t = a.1 (c.1 (v.1 x)) in (t.0, e ∙ t.1));
-      unwritten = λ r x. let k = quick_kept w cells h theme way b sets table buffers r (sym e ∙ x) in (p.pages.writes ∙ k.0, p.fills_table ∙ k.1);
+      unwritten = λ r x. let k = quick_kept cells h theme way b sets table buffers r (sym e ∙ x) in (p.pages.writes ∙ k.0, p.fills_table ∙ k.1);
     }
 
 pub occurs_away : (cells : List ℕ) (h : ℕ) (theme : List ℕ) (way : Way) (sets : List ℕ) (summary : Summary) (table : List ℕ)

@@ -1,8 +1,7 @@
 -- The three demands hold, and what is wanted of the question, of the update, of the explainer and of the router. Assumes nothing.
 use mathlib.Core.Path.{◌≡◌, refl, subst}
 use mathlib.Core.List.{List}
-use Prim.Native.Nat.{ℕ, ◌≤◌}
-use native.Mathlib.Omega.{arith}
+use Prim.Native.Nat.{ℕ}
 use Rattle.score.specs.Score.{score_of}
 use Rattle.score.specs.Sets.{sets}
 use Rattle.score.specs.Refusals.{judge}
@@ -14,14 +13,13 @@ use Rattle.ways.specs.declared.bookmark.Bookmark.{Bookmark}
 use Rattle.asking.specs.Limits.{most_notes}
 use Rattle.asking.specs.Refusals.{request_rows}
 use Rattle.asking.specs.Asking.{Accepted}
-use Rattle.asking.proofs.Rows.{accepted_clear, accepted_more}
+use Rattle.asking.proofs.Rows.{accepted_clear}
 use Rattle.paging.specs.declared.page.Turn.{Turn}
 use Rattle.paging.specs.declared.page.Page.TheVariants.{Turned}
 use Rattle.paging.specs.Lent.{Lent}
 use Rattle.paging.proofs.Bookmarks.{first_range}
-use Rattle.search.proofs.Widths.{widths_alike}
 use Rattle.search.specs.Page.{plain_page, quick_page, quick_table, QuickPages}
-use Rattle.filter.specs.Limits.{word_bits, narrow_bits}
+use Rattle.filter.specs.Limits.{word_bits}
 use Rattle.filter.specs.Table.{theme_table}
 use Rattle.occurring.specs.declared.question.Occurrence.TheVariants.{Refused as Unanswered}
 use Rattle.occurring.specs.Occurring.{quick_list, by_list, occurs_rows}
@@ -30,7 +28,7 @@ use Rattle.explaining.specs.Explaining.{explanation}
 use Rattle.explaining.proofs.Refusing.{passed_asks}
 use Rattle.routing.proofs.MeantRoute.{meant_there, meant_unique}
 use Rattle.routing.proofs.RouteAnswers.{routes_there}
-use Rattle.demands.specs.Demands.{Width, wide, narrow, RightRequest, Demand1, Demand2, Demand3, Question, Update, Explainer, Router}
+use Rattle.demands.specs.Demands.{RightRequest, Demand1, Demand2, Demand3, Question, Update, Explainer, Router}
 use Rattle.demands.proofs.Away.{prepares_away, plain_away, quick_away, occurs_away, updates_away, explains_away}
 use Rattle.demands.proofs.Away.{routes_away}
 use Rattle.demands.proofs.True.{own_sets_left, plain_stands, written_free, quick_stands, prepared_intervals, prepared_summary, updated_summary}
@@ -44,13 +42,8 @@ use Rattle.demands.proofs.Routings.{routed_unlisted, routed_listed, routed_writt
 use Rattle.demands.proofs.Routings.{routed_count, routed_least, meant_as_exact}
 
 -- a right score and theme are accepted
-accepted : {most : ℕ} {cells : List ℕ} {h : ℕ} {theme : List ℕ} → RightRequest most cells h theme → Accepted most cells h theme
-accepted {most} {cells} {h} {theme} e = (accepted_clear most cells h theme).1 (verdict_clear (request_rows most cells h theme) e)
-
--- neither width is over the most notes
-width_most : {w : ℕ} → Width w → w ≤ most_notes
-width_most wide = omega arith
-width_most narrow = omega arith
+accepted : {cells : List ℕ} {h : ℕ} {theme : List ℕ} → RightRequest cells h theme → Accepted most_notes cells h theme
+accepted {cells} {h} {theme} e = (accepted_clear most_notes cells h theme).1 (verdict_clear (request_rows most_notes cells h theme) e)
 
 pub demand1 : Demand1
 demand1 =
@@ -61,9 +54,9 @@ demand1 =
       plain_answers = λ cells h theme way b buffers.
           let f = plain_page cells h theme way b buffers in
           (f.answer, (f.buffers, record { pages = record { answers = refl; writes = refl } }));
-      quick_answers = λ w width cells h theme way b sets table buffers.
-          let f = quick_page w cells h theme way b sets table buffers in
-          (f.answer, (quick_table w cells h theme way b sets table buffers, (f.buffers, record { pages = record { answers = refl; writes = refl }; fills_table = refl })));
+      quick_answers = λ cells h theme way b sets table buffers.
+          let f = quick_page cells h theme way b sets table buffers in
+          (f.answer, (quick_table cells h theme way b sets table buffers, (f.buffers, record { pages = record { answers = refl; writes = refl }; fills_table = refl })));
       question_answers = λ cells h theme way sets summary table.
           let rows = occurs_rows cells h theme sets summary table in (
             judge rows Unanswered (by_list (quick_list way (score_of cells h) theme sets)),
@@ -76,7 +69,7 @@ demand1 =
           (f.answer, (f.sets, record { answers = refl; writes = refl }));
       preparation = prepares_away;
       plain = plain_away;
-      quick = λ w width. quick_away w;
+      quick = quick_away;
       question = occurs_away;
       update = updates_away;
       router = routes_away;
@@ -87,7 +80,7 @@ pub demand2 : Demand2
 demand2 =
     record {
       plain = plain_stands;
-      quick = λ w width. quick_stands w;
+      quick = quick_stands;
       prepared = prepared_intervals;
       summary = prepared_summary;
       summary_after = updated_summary;
@@ -98,15 +91,13 @@ demand3 =
     record {
       plain = λ cells h theme way a r room p. plain_all cells h theme (accepted a) r room way p;
       written = written_free;
-      quick = λ w width cells h theme way a r room lent s q. quick_own cells h theme (accepted a) r room way (own_call cells h theme (accepted a) r room way s q);
-      same_page = λ w width cells h theme way b buffers buffers' table same lent s {t} {u} {after} {after'} {table'} p q.
-          one_page (width_most width) cells h theme way b buffers buffers' table same p
-          (subst (λ (l : List ℕ). QuickPages w cells h theme way b l table buffers' (Turned t) table' after') (own_sets_left s) q);
-      same = λ w width cells h theme way a r room lent s p q x y.
-          reading_same (width_most width) cells h theme way (accepted a) r room p (own_call cells h theme (accepted a) r room way s q)
-          (first_range (plainly cells h theme (accepted_more (width_most width) (accepted a)) r room (Moved way) p).right.narrow _) x y;
-      widths_alike = λ cells h theme way b sets table table₂ buffers p q.
-          widths_alike word_bits narrow_bits cells h theme way b sets table table₂ buffers p q;
+      quick = λ cells h theme way a r room lent s q. quick_own cells h theme (accepted a) r room way (own_call cells h theme (accepted a) r room way s q);
+      same_page = λ cells h theme way b buffers buffers' table same lent s {t} {u} {after} {after'} {table'} p q.
+          one_page cells h theme way b buffers buffers' table same p
+          (subst (λ (l : List ℕ). QuickPages cells h theme way b l table buffers' (Turned t) table' after') (own_sets_left s) q);
+      same = λ cells h theme way a r room lent s p q x y.
+          reading_same cells h theme way (accepted a) r room p (own_call cells h theme (accepted a) r room way s q)
+          (first_range (plainly cells h theme (accepted a) r room (Moved way) p).right.narrow _) x y;
     }
 
 pub question : Question

@@ -86,12 +86,12 @@ module _ (cells : List ℕ) (h : ℕ) (theme : List ℕ) (way : Way) (sets : Lis
   said = (occurs_clear cells h theme way sets summary table o clear).0
 
   pub asked_pages : (table₂ : List ℕ) (buffers : Lent) {table₂' : List ℕ} {t : Turn} {after : Lent}
-      → QuickPages word_bits cells h theme way (first_bookmark (range_as (Moved way))) sets table₂ buffers (Turned t) table₂' after
+      → QuickPages cells h theme way (first_bookmark (range_as (Moved way))) sets table₂ buffers (Turned t) table₂' after
       → ((answer ≡ Somewhere) ↔ (1 ≤ t.written)) × ((answer ≡ Nowhere) ↔ (t.written ≡ 0))
   asked_pages table₂ buffers {t = t} q =
       let list = quick_list way (score_of cells h) theme sets in
       let r = length buffers.columns in
-      let room = ((quick_turned word_bits cells h theme way (first_bookmark (range_of way)) sets table₂ buffers).0 (t, sym q.pages.answers)).plain.room in
+      let room = ((quick_turned cells h theme way (first_bookmark (range_of way)) sets table₂ buffers).0 (t, sym q.pages.answers)).plain.room in
       let w = first_written cells h theme way sets table₂ buffers q in (
         same_yes said (subst (λ (n : ℕ). (by_list list ≡ Somewhere) ↔ (1 ≤ n)) (sym w) (take_yes r room list)),
         same_yes said (subst (λ (n : ℕ). (by_list list ≡ Nowhere) ↔ (n ≡ 0)) (sym w) (take_no r room list)),
@@ -104,7 +104,7 @@ module _ (cells : List ℕ) (h : ℕ) (theme : List ℕ) (way : Way) (sets : Lis
 
   pub asked_lacking : lacking theme summary.0 ≡ true → answer ≡ Nowhere
   asked_lacking l =
-      let (prepared, last) = clear_split (with_sets_rows most_notes cells h theme sets (length table)) (row12 sets summary ∷ []) clear in
+      let (prepared, last) = clear_split (with_sets_rows cells h theme sets (length table)) (row12 sets summary ∷ []) clear in
       let (request, lent) = clear_split (request_rows most_notes cells h theme) (sets_rows cells h sets (length table)) prepared in
       let same : summaryIn sets ≡ summary.0 = eqb-true (summaryIn sets) summary.0 (not-false (eqb (summaryIn sets) summary.0) last.0) in
       said
@@ -125,7 +125,7 @@ module _ (cells : List ℕ) (h : ℕ) (theme : List ℕ) (way : Way) (a : Accept
 
   rows_clear : Clear (occurs_rows cells h theme sets s table)
   rows_clear =
-      clear_append (with_sets_rows most_notes cells h theme sets (length table)) (row12 sets s ∷ [])
+      clear_append (with_sets_rows cells h theme sets (length table)) (row12 sets s ∷ [])
       (clear_append (request_rows most_notes cells h theme) (sets_rows cells h sets (length table)) ((accepted_clear most_notes cells h theme).0 a)
       ((sets_clear cells h sets table).0 (subst (AcceptedSets cells h) (sym own) own_sets, long)))
       (ap not (eq-eqb (summaryIn sets) s.0 (ap (λ (x : Summary). x.0) (sym sum))), tt)

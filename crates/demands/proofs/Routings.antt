@@ -95,7 +95,7 @@ module _ (cells : List ℕ) (h : ℕ) (theme : List ℕ) (way : AnyWay) (pair : 
 
   -- ---- a right request
 
-  module _ (right : RightRequest most_notes cells h theme) where
+  module _ (right : RightRequest cells h theme) where
     by_pair : verdict rows ≡ verdict (pair_rows way score theme pair lent)
     by_pair = judge_accepted Away Passed (request_rows most_notes cells h theme) (pair_rows way score theme pair lent) right
 

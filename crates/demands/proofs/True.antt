@@ -55,12 +55,12 @@ pub written_free : (cells : List ℕ) (h : ℕ) (theme : List ℕ) (b : Bookmark
     → PlainPages cells h theme Written b buffers (Turned t) after → t.looks ≡ 0
 written_free cells h theme b buffers {t} p = written_looks cells h theme b buffers t (sym p.pages.answers)
 
-pub quick_stands : (w : ℕ) (cells : List ℕ) (h : ℕ) (theme : List ℕ) (way : Way) (b : Bookmark) (sets table : List ℕ) (buffers : Lent)
-    {t : Turn} {table' : List ℕ} {after : Lent} → QuickPages w cells h theme way b sets table buffers (Turned t) table' after
+pub quick_stands : (cells : List ℕ) (h : ℕ) (theme : List ℕ) (way : Way) (b : Bookmark) (sets table : List ℕ) (buffers : Lent)
+    {t : Turn} {table' : List ℕ} {after : Lent} → QuickPages cells h theme way b sets table buffers (Turned t) table' after
     → {pair : Pair} → In pair (read_pairs t.written after) → Stands way (score_of cells h) theme pair
-quick_stands w cells h theme way b sets table buffers {t} p m =
+quick_stands cells h theme way b sets table buffers {t} p m =
     let e = p.pages.answers in
-    let a = (quick_turned w cells h theme way b sets table buffers).0 (t, sym e) in
+    let a = (quick_turned cells h theme way b sets table buffers).0 (t, sym e) in
     let u = quick_page_lem cells h theme way b buffers a.plain sets table a.with_sets a.table_long in
     quick_true cells h theme b buffers way a.plain sets table a.with_sets a.table_long
     (read_same (turned_same (e ∙ u.answered)) p.pages.writes m)

@@ -21,6 +21,7 @@ use Rattle.ways.specs.Way.{range_as}
 use Rattle.ways.specs.Bookmarks.{first_bookmark}
 use Rattle.asking.specs.Limits.{most_notes}
 use Rattle.asking.specs.Asking.{Accepted}
+use Rattle.filter.specs.Limits.{word_bits}
 use Rattle.filter.specs.Table.{theme_table}
 use Rattle.paging.specs.declared.page.Page.{Page}
 use Rattle.paging.specs.Lent.{Lent}
@@ -44,14 +45,23 @@ use Rattle.demands.proofs.True.{own_sets_left}
 pub pages_leaf : {page leaf : Leaf} → Pages page leaf.answer leaf.buffers → leaf ≡ page
 pages_leaf p = ap₂ (λ (x : Page) (l : Lent). record { answer = x; buffers = l }) p.answers p.writes
 
-module _ {w : ℕ} (cells : List ℕ) (h : ℕ) (theme : List ℕ) (a : Accepted w cells h theme) (r : ℕ) (room : 1 ≤ r) where
+module _ (cells : List ℕ) (h : ℕ) (theme : List ℕ) (a : Accepted most_notes cells h theme) (r : ℕ) (room : 1 ≤ r) where
   abbrev score : List (List ℕ)
   score = score_of cells h
 
   -- ---- a call that meets its promise turns the pages of its search
 
-  quickly : (way : Way) {call : Bookmark → Lent → Leaf} → QuickCall w cells h theme way (sets score) call
-      → Calls (quick_search w way score theme (theme_table w theme) (sets score)) r call
+  pub plainly : (way : AnyWay) {call : Bookmark → Lent → Leaf} → PlainCall cells h theme way call → Calls (search_as way score theme) r call
+  plainly way p =
+      let c = plain_calls cells h theme way a r room in
+      record {
+        right = c.right;
+        some_room = room;
+        turns = λ b buffers i m. pages_leaf (p b buffers).pages ∙ c.turns b buffers i m;
+      }
+
+  quickly : (way : Way) {call : Bookmark → Lent → Leaf} → QuickCall cells h theme way (sets score) call
+      → Calls (quick_search word_bits way score theme (theme_table word_bits theme) (sets score)) r call
   quickly way q =
       let c = quick_calls cells h theme way a r room (sets score) own_sets q.table q.long in
       record {
@@ -79,30 +89,18 @@ module _ {w : ℕ} (cells : List ℕ) (h : ℕ) (theme : List ℕ) (a : Accepted
         looked = λ reading. omega (arith, l.looked reading, few);
       }
 
+  pub plain_all : (way : AnyWay) {call : Bookmark → Lent → Leaf} → PlainCall cells h theme way call → ListsAll cells h theme way r call
+  plain_all way p = lists_all way (search_lists (plainly way p)) (all_looks_le cells h theme way)
+
   module _ (way : Way) where
-    pub quick_own : {call : Bookmark → Lent → Leaf} → QuickCall w cells h theme way (sets score) call → ListsAll cells h theme (Moved way) r call
+    pub quick_own : {call : Bookmark → Lent → Leaf} → QuickCall cells h theme way (sets score) call → ListsAll cells h theme (Moved way) r call
     quick_own {call} q =
         lists_all (Moved way)
-        (subst (λ (list : List Pair). Lists call r (first_bookmark (range_as (Moved way))) list (candidate_looks w way score theme (sets score)))
+        (subst (λ (list : List Pair). Lists call r (first_bookmark (range_as (Moved way))) list (candidate_looks way score theme (sets score)))
         (own_listed cells h theme way a) (search_lists (quickly way q)))
-        (le_trans (quick_looks_less cells h theme way w (theme_table w theme) (sets score)) (all_looks_le cells h theme (Moved way)))
+        (le_trans (quick_looks_less cells h theme way word_bits (theme_table word_bits theme) (sets score)) (all_looks_le cells h theme (Moved way)))
 
     -- with the sets that a preparation left
-    pub own_call : {lent after : List ℕ} {s : Summary} {call : Bookmark → Lent → Leaf} → Prepares cells h lent (Prepared s) after → QuickCall w cells h theme way after call
-        → QuickCall w cells h theme way (sets score) call
-    own_call {call = call} p q = subst (λ (s : List ℕ). QuickCall w cells h theme way s call) (own_sets_left p) q
-
--- ---- plain
-
-module _ (cells : List ℕ) (h : ℕ) (theme : List ℕ) (a : Accepted most_notes cells h theme) (r : ℕ) (room : 1 ≤ r) where
-  pub plainly : (way : AnyWay) {call : Bookmark → Lent → Leaf} → PlainCall cells h theme way call → Calls (search_as way (score_of cells h) theme) r call
-  plainly way p =
-      let c = plain_calls cells h theme way a r room in
-      record {
-        right = c.right;
-        some_room = room;
-        turns = λ b buffers i m. pages_leaf (p b buffers).pages ∙ c.turns b buffers i m;
-      }
-
-  pub plain_all : (way : AnyWay) {call : Bookmark → Lent → Leaf} → PlainCall cells h theme way call → ListsAll cells h theme way r call
-  plain_all way p = lists_all cells h theme a r room way (search_lists (plainly way p)) (all_looks_le cells h theme way)
+    pub own_call : {lent after : List ℕ} {s : Summary} {call : Bookmark → Lent → Leaf} → Prepares cells h lent (Prepared s) after → QuickCall cells h theme way after call
+        → QuickCall cells h theme way (sets score) call
+    own_call {call = call} p q = subst (λ (s : List ℕ). QuickCall cells h theme way s call) (own_sets_left p) q

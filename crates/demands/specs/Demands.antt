@@ -2,7 +2,7 @@
 -- away, and that nothing is then written. `Demand2`: what is listed and what is prepared is true. `Demand3`: pages joined are
 -- the whole list, and quick pages hold the same. Beside them what is wanted of four further calls: `Question`, whether a theme
 -- occurs at all, `Update`, of the sets after one column was changed, `Explainer`, why a pair is listed or not, and `Router`, who
--- plays a listed pair. That all of them hold is `proofs/Demands`. The calls are the eight on which the others rest;
+-- plays a listed pair. That all of them hold is `proofs/Demands`. The calls are the seven on which the others rest;
 -- `docs/CONTRACTS.md` has them all. That every call ends is no field: the check proves of every function that it is safe and
 -- ends, and no public call has a `requires`. Assumes nothing.
 use Rattle.std.specs.Prelude.{◌≡◌, Bool, true, false, ◌↔◌, ◌⊎◌, ℕ, ◌+◌, ◌-◌, ◌/◌, ◌≤◌, ◌<◌, ℤ, pos, ◌+ℤ◌, length, get_or, take, drop, ◌≤ℤ◌}
@@ -32,7 +32,7 @@ use Rattle.ways.specs.Way.{Holds, lowest, highest, range_as}
 use Rattle.ways.specs.Bookmarks.{first_bookmark}
 use Rattle.asking.specs.Limits.{most_notes}
 use Rattle.asking.specs.Refusals.{request_rows}
-use Rattle.filter.specs.Limits.{word_bits, narrow_bits}
+use Rattle.filter.specs.Limits.{word_bits}
 use Rattle.filter.specs.Table.{theme_table}
 use Rattle.paging.specs.declared.page.Turn.{Turn}
 use Rattle.paging.specs.declared.page.Page.{Page}
@@ -65,13 +65,6 @@ use Rattle.updating.specs.declared.changes.Change.{Change}
 use Rattle.updating.specs.declared.changes.Change.TheVariants.{Updated, Refused as Unchanged}
 use Rattle.updating.specs.Updating.{heard_before, update_rows, Updates, OneChanged}
 
--- ---- the two quick calls: by words of 64 bits, for themes of 2 to 64 notes, and by words of 32 bits, for themes of 2 to 32. What is
--- said of a quick call is said of both, once, over the width w
-
-pub data Width : (w : ℕ) → Type 0 where
-  wide : Width word_bits
-  narrow : Width narrow_bits
-
 -- ---- demand 1: every call has an answer to all that it may be given. What is bad gets its refusal and its place, exactly on its row, and then
 -- no buffer is written that is lent for writing
 
@@ -93,8 +86,8 @@ pub record Demand1 : Type 0 where
   pub preparation_answers : (cells : List ℕ) (h : ℕ) (lent : List ℕ) → (a : Preparation) × ((after : List ℕ) × Prepares cells h lent a after)
   pub plain_answers : (cells : List ℕ) (h : ℕ) (theme : List ℕ) (way : AnyWay) (b : Bookmark) (buffers : Lent)
       → (a : Page) × ((after : Lent) × PlainPages cells h theme way b buffers a after)
-  pub quick_answers : (w : ℕ) → Width w → (cells : List ℕ) (h : ℕ) (theme : List ℕ) (way : Way) (b : Bookmark) (sets table : List ℕ) (buffers : Lent)
-      → (a : Page) × ((table' : List ℕ) × ((after : Lent) × QuickPages w cells h theme way b sets table buffers a table' after))
+  pub quick_answers : (cells : List ℕ) (h : ℕ) (theme : List ℕ) (way : Way) (b : Bookmark) (sets table : List ℕ) (buffers : Lent)
+      → (a : Page) × ((table' : List ℕ) × ((after : Lent) × QuickPages cells h theme way b sets table buffers a table' after))
   pub question_answers : (cells : List ℕ) (h : ℕ) (theme : List ℕ) (way : Way) (sets : List ℕ) (summary : Summary) (table : List ℕ)
       → (a : Occurrence) × ((table' : List ℕ) × Occurs cells h theme way sets summary table a table')
   pub explainer_answers : (cells : List ℕ) (h : ℕ) (theme : List ℕ) (way : Way) (pair : Pair) (sets : List ℕ)
@@ -110,9 +103,9 @@ pub record Demand1 : Type 0 where
       → PlainPages cells h theme way b buffers answer after
       → TurnsAway (1 ∷ 2 ∷ 3 ∷ 4 ∷ 5 ∷ 9 ∷ 10 ∷ []) (rows_of_plain cells h theme way b buffers)
       (λ r. answer ≡ Refused r) ((t : Turn) × (answer ≡ Turned t)) (after ≡ buffers)
-  pub quick : (w : ℕ) → Width w → (cells : List ℕ) (h : ℕ) (theme : List ℕ) (way : Way) (b : Bookmark) (sets table : List ℕ) (buffers : Lent)
-      {answer : Page} {table' : List ℕ} {after : Lent} → QuickPages w cells h theme way b sets table buffers answer table' after
-      → TurnsAway (1 ∷ 2 ∷ 3 ∷ 4 ∷ 5 ∷ 6 ∷ 7 ∷ 8 ∷ 9 ∷ 10 ∷ []) (rows_of_quick w cells h theme way b sets table buffers)
+  pub quick : (cells : List ℕ) (h : ℕ) (theme : List ℕ) (way : Way) (b : Bookmark) (sets table : List ℕ) (buffers : Lent)
+      {answer : Page} {table' : List ℕ} {after : Lent} → QuickPages cells h theme way b sets table buffers answer table' after
+      → TurnsAway (1 ∷ 2 ∷ 3 ∷ 4 ∷ 5 ∷ 6 ∷ 7 ∷ 8 ∷ 9 ∷ 10 ∷ []) (rows_of_quick cells h theme way b sets table buffers)
       (λ r. answer ≡ Refused r) ((t : Turn) × (answer ≡ Turned t)) ((after ≡ buffers) × (table' ≡ table))
   pub question : (cells : List ℕ) (h : ℕ) (theme : List ℕ) (way : Way) (sets : List ℕ) (summary : Summary) (table : List ℕ)
       {answer : Occurrence} {table' : List ℕ} → Occurs cells h theme way sets summary table answer table'
@@ -156,9 +149,9 @@ pub record Demand2 : Type 0 where
   pub plain : (cells : List ℕ) (h : ℕ) (theme : List ℕ) (way : AnyWay) (b : Bookmark) (buffers : Lent) {t : Turn} {after : Lent}
       → PlainPages cells h theme way b buffers (Turned t) after
       → {pair : Pair} → In pair (read_pairs t.written after) → StandsAs way (score_of cells h) theme pair
-  -- of the two that move it, by words of either width
-  pub quick : (w : ℕ) → Width w → (cells : List ℕ) (h : ℕ) (theme : List ℕ) (way : Way) (b : Bookmark) (sets table : List ℕ) (buffers : Lent)
-      {t : Turn} {table' : List ℕ} {after : Lent} → QuickPages w cells h theme way b sets table buffers (Turned t) table' after
+  -- of the two that move it
+  pub quick : (cells : List ℕ) (h : ℕ) (theme : List ℕ) (way : Way) (b : Bookmark) (sets table : List ℕ) (buffers : Lent)
+      {t : Turn} {table' : List ℕ} {after : Lent} → QuickPages cells h theme way b sets table buffers (Turned t) table' after
       → {pair : Pair} → In pair (read_pairs t.written after) → Stands way (score_of cells h) theme pair
   pub prepared : (cells : List ℕ) (h : ℕ) (lent : List ℕ) {s : Summary} {after : List ℕ} → Prepares cells h lent (Prepared s) after
       → IntervalsOf (score_of cells h) after
@@ -171,21 +164,21 @@ pub record Demand2 : Type 0 where
 -- has read every pair that stands, once and in order, in each of the three ways; quick pages by the score's own sets hold the
 -- same pairs, bookmarks and ends, with no more looks; a list of L pairs takes L / r + 1 pages
 
--- no row of a score and a theme of `most` notes at most applies (1 to 5)
-abbrev pub RightRequest : (most : ℕ) (cells : List ℕ) (h : ℕ) (theme : List ℕ) → Type 0
-RightRequest most cells h theme = verdict (request_rows most cells h theme) ≡ Passed
+-- no row of a score and a theme applies (1 to 5)
+abbrev pub RightRequest : (cells : List ℕ) (h : ℕ) (theme : List ℕ) → Type 0
+RightRequest cells h theme = verdict (request_rows most_notes cells h theme) ≡ Passed
 
 -- any call that promises what a plain or a quick call does, at every bookmark and for whatever buffers it is lent. A quick call
--- has words of w bits, and is lent these sets, and at each call any table of 4,096 places
+-- is lent these sets, and at each call any table of 4,096 places
 abbrev pub PlainCall : (cells : List ℕ) (h : ℕ) (theme : List ℕ) → AnyWay → (Bookmark → Lent → Leaf) → Type 0
 PlainCall cells h theme way call = (b : Bookmark) (buffers : Lent) → PlainPages cells h theme way b buffers (call b buffers).answer (call b buffers).buffers
 
-pub record QuickCall (w : ℕ) (cells : List ℕ) (h : ℕ) (theme : List ℕ) (way : Way) (sets : List ℕ) (call : Bookmark → Lent → Leaf) : Type 0 where
+pub record QuickCall (cells : List ℕ) (h : ℕ) (theme : List ℕ) (way : Way) (sets : List ℕ) (call : Bookmark → Lent → Leaf) : Type 0 where
   pub table : Bookmark → Lent → List ℕ
   pub table' : Bookmark → Lent → List ℕ
   pub long : (b : Bookmark) (buffers : Lent) → length (table b buffers) ≡ table_words
   pub promises : (b : Bookmark) (buffers : Lent)
-      → QuickPages w cells h theme way b sets (table b buffers) buffers (call b buffers).answer (table' b buffers) (call b buffers).buffers
+      → QuickPages cells h theme way b sets (table b buffers) buffers (call b buffers).answer (table' b buffers) (call b buffers).buffers
 
 -- with room r and from the first bookmark: whatever buffers are lent there is a reading; and of every reading the pages,
 -- joined, hold exactly the pairs that stand, each once and in order; there are L / r + 1 of them; and their looks are within
@@ -209,32 +202,28 @@ pub data NoneDearer : (quick plain : List Turn) → Type 0 where
 
 pub record Demand3 : Type 0 where
   -- all three ways
-  pub plain : (cells : List ℕ) (h : ℕ) (theme : List ℕ) (way : AnyWay) → RightRequest most_notes cells h theme → (r : ℕ) → 1 ≤ r
+  pub plain : (cells : List ℕ) (h : ℕ) (theme : List ℕ) (way : AnyWay) → RightRequest cells h theme → (r : ℕ) → 1 ≤ r
       → {call : Bookmark → Lent → Leaf} → PlainCall cells h theme way call → ListsAll cells h theme way r call
   -- as the tune is written, no page takes a look
   pub written : (cells : List ℕ) (h : ℕ) (theme : List ℕ) (b : Bookmark) (buffers : Lent) {t : Turn} {after : Lent}
       → PlainPages cells h theme Written b buffers (Turned t) after → t.looks ≡ 0
-  -- with the sets that a preparation left for that same score, the two ways that move the theme, by words of either width
-  pub quick : (w : ℕ) → Width w → (cells : List ℕ) (h : ℕ) (theme : List ℕ) (way : Way) → RightRequest w cells h theme → (r : ℕ) → 1 ≤ r
+  -- with the sets that a preparation left for that same score, the two ways that move the theme
+  pub quick : (cells : List ℕ) (h : ℕ) (theme : List ℕ) (way : Way) → RightRequest cells h theme → (r : ℕ) → 1 ≤ r
       → (lent : List ℕ) {s : Summary} {sets : List ℕ} → Prepares cells h lent (Prepared s) sets
-      → {call : Bookmark → Lent → Leaf} → QuickCall w cells h theme way sets call → ListsAll cells h theme (Moved way) r call
+      → {call : Bookmark → Lent → Leaf} → QuickCall cells h theme way sets call → ListsAll cells h theme (Moved way) r call
   -- and then every page holds what the plain one does, page after page from the first bookmark, or one page from any bookmark
-  pub same_page : (w : ℕ) → Width w → (cells : List ℕ) (h : ℕ) (theme : List ℕ) (way : Way) (b : Bookmark) (buffers buffers' : Lent) (table : List ℕ)
+  pub same_page : (cells : List ℕ) (h : ℕ) (theme : List ℕ) (way : Way) (b : Bookmark) (buffers buffers' : Lent) (table : List ℕ)
       → length buffers'.columns ≡ length buffers.columns
       → (lent : List ℕ) {s : Summary} {sets : List ℕ} → Prepares cells h lent (Prepared s) sets
       → {t u : Turn} {after after' : Lent} {table' : List ℕ} → PlainPages cells h theme (Moved way) b buffers (Turned u) after
-      → QuickPages w cells h theme way b sets table buffers' (Turned t) table' after'
+      → QuickPages cells h theme way b sets table buffers' (Turned t) table' after'
       → (read_pairs t.written after' ≡ read_pairs u.written after) × NoDearer (Turned t) (Turned u)
-  pub same : (w : ℕ) → Width w → (cells : List ℕ) (h : ℕ) (theme : List ℕ) (way : Way) → RightRequest w cells h theme → (r : ℕ) → 1 ≤ r
+  pub same : (cells : List ℕ) (h : ℕ) (theme : List ℕ) (way : Way) → RightRequest cells h theme → (r : ℕ) → 1 ≤ r
       → (lent : List ℕ) {s : Summary} {sets : List ℕ} → Prepares cells h lent (Prepared s) sets
-      → {plainly quickly : Bookmark → Lent → Leaf} → PlainCall cells h theme (Moved way) plainly → QuickCall w cells h theme way sets quickly
+      → {plainly quickly : Bookmark → Lent → Leaf} → PlainCall cells h theme (Moved way) plainly → QuickCall cells h theme way sets quickly
       → {pages pages' : List (List Pair)} {turns turns' : List Turn}
       → Reading plainly r (first_bookmark (range_as (Moved way))) pages turns → Reading quickly r (first_bookmark (range_as (Moved way))) pages' turns'
       → (pages' ≡ pages) × NoneDearer turns' turns
-  -- whatever sets are lent: where both quick calls turn a page, from the same bookmark and of the same buffers, it is the same page
-  pub widths_alike : (cells : List ℕ) (h : ℕ) (theme : List ℕ) (way : Way) (b : Bookmark) (sets table table₂ : List ℕ) (buffers : Lent)
-      {t u : Turn} {table' table₂' : List ℕ} {after after₂ : Lent} → QuickPages word_bits cells h theme way b sets table buffers (Turned t) table' after
-      → QuickPages narrow_bits cells h theme way b sets table₂ buffers (Turned u) table₂' after₂ → (u ≡ t) × (after₂ ≡ after)
 
 -- ---- the question: a yes exactly where there is something to find
 
@@ -248,10 +237,10 @@ pub record Question : Type 0 where
   pub by_pages : (cells : List ℕ) (h : ℕ) (theme : List ℕ) (way : Way) (sets : List ℕ) (summary : Summary) (table table₂ : List ℕ) (buffers : Lent)
       {answer : Occurrence} {table' table₂' : List ℕ} {t : Turn} {after : Lent} → Occurs cells h theme way sets summary table answer table'
       → (answer ≡ Somewhere) ⊎ (answer ≡ Nowhere)
-      → QuickPages word_bits cells h theme way (first_bookmark (range_as (Moved way))) sets table₂ buffers (Turned t) table₂' after
+      → QuickPages cells h theme way (first_bookmark (range_as (Moved way))) sets table₂ buffers (Turned t) table₂' after
       → ((answer ≡ Somewhere) ↔ (1 ≤ t.written)) × ((answer ≡ Nowhere) ↔ (t.written ≡ 0))
   -- with the sets and the summary that a preparation of that same score left: a yes exactly where the theme stands at all
-  pub own : (cells : List ℕ) (h : ℕ) (theme : List ℕ) (way : Way) → RightRequest most_notes cells h theme
+  pub own : (cells : List ℕ) (h : ℕ) (theme : List ℕ) (way : Way) → RightRequest cells h theme
       → (lent : List ℕ) {s : Summary} {sets : List ℕ} → Prepares cells h lent (Prepared s) sets
       → (table : List ℕ) → length table ≡ table_words → {answer : Occurrence} {table' : List ℕ} → Occurs cells h theme way sets s table answer table'
       → ((answer ≡ Somewhere) ↔ ((pair : Pair) × Stands way (score_of cells h) theme pair))
@@ -393,18 +382,18 @@ pub record Explainer : Type 0 where
 pub record Router : Type 0 where
   -- refusal 13, exactly where the pair does not stand, in each of the three ways and whatever is lent
   pub unlisted : (cells : List ℕ) (h : ℕ) (theme : List ℕ) (way : AnyWay) (pair : Pair) (lent : List ℕ)
-      {answer : Routed} {after : List ℕ} → Routes cells h theme way pair lent answer after → RightRequest most_notes cells h theme
+      {answer : Routed} {after : List ℕ} → Routes cells h theme way pair lent answer after → RightRequest cells h theme
       → (answer ≡ Unrouted (record { number = 13; place = 0 })) ↔ (StandsAs way (score_of cells h) theme pair → ⊥)
   -- and so, with a place for each note, a route is answered exactly where the full list has the pair, read by plain pages of any
   -- room
   pub in_list : (cells : List ℕ) (h : ℕ) (theme : List ℕ) (way : AnyWay) (pair : Pair) (lent : List ℕ)
-      {answer : Routed} {after : List ℕ} → Routes cells h theme way pair lent answer after → RightRequest most_notes cells h theme
+      {answer : Routed} {after : List ℕ} → Routes cells h theme way pair lent answer after → RightRequest cells h theme
       → length theme ≤ length lent
       → (r : ℕ) → 1 ≤ r → {call : Bookmark → Lent → Leaf} → PlainCall cells h theme way call
       → {pages : List (List Pair)} {turns : List Turn} → Reading call r (first_bookmark (range_as way)) pages turns
       → ((n : ℕ) × (answer ≡ Changes n)) ↔ In pair (join pages)
   -- every pair that stands in an accepted score has a route that is meant, and only one
-  pub exactly_one : (cells : List ℕ) (h : ℕ) (theme : List ℕ) (way : AnyWay) (pair : Pair) → RightRequest most_notes cells h theme
+  pub exactly_one : (cells : List ℕ) (h : ℕ) (theme : List ℕ) (way : AnyWay) (pair : Pair) → RightRequest cells h theme
       → StandsAs way (score_of cells h) theme pair
       → (route : List ℕ) × (TheRoute way (score_of cells h) theme pair route
       × ((other : List ℕ) → TheRoute way (score_of cells h) theme pair other → other ≡ route))

@@ -6,7 +6,7 @@ use crate::every::{by_every, routes_over};
 use crate::pairs::listed;
 use crate::paths::{Best, Path};
 use crate::spots::hold_notes;
-use second::asks::{Ask, MOST_NOTES};
+use second::asks::Ask;
 use second::away::{Away, of_score, of_theme, row};
 
 // The methods: every route, or what lies ahead.
@@ -45,7 +45,7 @@ fn barred(cells: &[u8], theme: &[u8], a: Ask) -> Away {
     if score.number != 0 {
         return score;
     }
-    let notes = of_theme(theme, a.notes, MOST_NOTES);
+    let notes = of_theme(theme, a.notes);
     if notes.number != 0 {
         return notes;
     }

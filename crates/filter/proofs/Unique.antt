@@ -4,22 +4,14 @@ use Rattle.std.proofs.Common.{refl}
 use Rattle.theory.specs.Settled.{Settles}
 use Rattle.theory.proofs.Unique.{settled_unique, ◌beside◌}
 use Rattle.filter.proofs.table.fill_table
-use Rattle.filter.proofs.table_32.fill_table_32
 use Rattle.filter.proofs.register.step
-use Rattle.filter.proofs.register.step_32
 use Rattle.filter.proofs.register.marks
 
 pub fill_table_unique : Settles fill_table.Kinds.ps fill_table.Kinds.r fill_table.Reads.Post
 fill_table_unique κs args x y = (refl, refl beside settled_unique x.meets y.meets beside refl)
 
-pub fill_table_32_unique : Settles fill_table_32.Kinds.ps fill_table_32.Kinds.r fill_table_32.Reads.Post
-fill_table_32_unique κs args x y = (refl, refl beside settled_unique x.meets y.meets beside refl)
-
 pub step_unique : Settles step.Kinds.ps step.Kinds.r step.Reads.Post
 step_unique κs args x y = (settled_unique x.meets y.meets, refl)
-
-pub step_32_unique : Settles step_32.Kinds.ps step_32.Kinds.r step_32.Reads.Post
-step_32_unique κs args x y = (settled_unique x.meets y.meets, refl)
 
 pub marks_unique : Settles marks.Kinds.ps marks.Kinds.r marks.Reads.Post
 marks_unique κs args x y = (settled_unique x.meets y.meets, refl)

@@ -3,27 +3,20 @@
 ghost use Rattle.std.specs.Prelude.{◌≡◌, ◌%◌, ◌==◌};
 ghost use Rattle.theory.specs.Bits.{bit};
 ghost use Rattle.theory.specs.Register as Register;
-ghost use Rattle.filter.specs.Limits.{word_bits, narrow_bits};
+ghost use Rattle.filter.specs.Limits.{word_bits};
 
 use crate::limits::WORD_BITS;
 
 // One word more: the register is doubled with its top bit lost, then or-ed with the word.
-pub fn step(register: u64, word: u64) -> u64
+pub fn step(register: u32, word: u32) -> u32
     ensures { result ≡ Register.step word_bits register word }
-{
-    std::num::wrapping_add_u64(register, register) | word
-}
-
-// The same of a register of 32 bits.
-pub fn step_32(register: u32, word: u32) -> u32
-    ensures { result ≡ Register.step narrow_bits register word }
 {
     std::num::wrapping_add_u32(register, register) | word
 }
 
 // Whether the register marks a column: its bit `top` is zero. For candidates of a theme of m notes that is bit m - 2, for the tune
-// as it is written bit m - 1. Bits go round: bit 64 is bit 0. A register of 32 bits is the same number in 64.
-pub fn marks(register: u64, top: u32) -> bool
+// as it is written bit m - 1. Bits go round: bit 32 is bit 0.
+pub fn marks(register: u32, top: u32) -> bool
     ensures { result ≡ (bit register (top % word_bits) == 0) }
 {
     (register >> (top % WORD_BITS)) & 1 == 0

@@ -3,21 +3,21 @@
 // The set of no interval, 4095, has a word of ones. Every other set has a lowest interval, and its word is the word of the set
 // without that interval, and-ed with the word of that interval alone.
 
-ghost use Rattle.std.specs.Prelude.{◌≡◌};
+ghost use Rattle.std.specs.Prelude.{◌≡◌, ◌<◌};
+ghost use Rattle.score.specs.Limits.{highest_set};
 ghost use Rattle.filter.specs.Limits.{word_bits};
 ghost use Rattle.filter.specs.Table.{table_after};
-ghost use Rattle.filter.specs.LowestInterval.{interval_words};
+ghost use Rattle.filter.specs.LowestInterval.{interval_words, LowestInterval};
 
-use crate::lowest::lowest_interval;
 use score::{HIGHEST_SET, Pitch, TABLE_WORDS, interval_of};
 
-// The word of each interval alone: a 0 for each place where it stands in the theme. From the 65th interval on the mark is 0 and
+// The word of each interval alone: a 0 for each place where it stands in the theme. From the 33rd interval on the mark is 0 and
 // takes nothing away.
-fn interval_words(theme: &[u8]) -> [u64; 12]
+fn interval_words(theme: &[u8]) -> [u32; 12]
     ensures { result ≡ interval_words word_bits theme.now }
 {
-    let mut words = [0xffff_ffff_ffff_ffff; 12];
-    let mut mark: u64 = 1;
+    let mut words = [0xffff_ffff; 12];
+    let mut mark: u32 = 1;
     let mut i = 0;
     while i + 1 < theme.len() {
         let note = theme[i];
@@ -31,7 +31,15 @@ fn interval_words(theme: &[u8]) -> [u64; 12]
     words
 }
 
-// The whole table of a theme, whatever it held. Of a theme with more than 65 notes a word has the first 64 intervals. A theme
+// The lowest interval of a set that has one: the place of its lowest 0, which is the lowest 1 of `!set`.
+fn lowest_interval(set: usize) -> usize
+    requires { set < highest_set }
+    ensures { LowestInterval set result }
+{
+    usize::trailing_zeros(!set) as usize
+}
+
+// The whole table of a theme, whatever it held. Of a theme with more than 33 notes a word has the first 32 intervals. A theme
 // without notes, and a table that is not 4,096 long, leave it as it is.
 //
 // Adding 1 to a set turns its lowest 0 into a 1 and the ones below it into zeros, and the or puts those back. So
@@ -43,12 +51,12 @@ fn interval_words(theme: &[u8]) -> [u64; 12]
 //     entry 3583 = entry 4095 & word of 9        3583 | 3584 = 4095
 //     entry 3450 = entry 3451 & word of 0        3450 | 3451 = 3451
 //
-// The theme 60 62 69 has the interval 2 and then 7, so the word of 2 ends in 1110 and is all ones before, the word of 7 ends in
-// 1101, those of the others are ones, and entries 3451 and 3450 both end in 1100.
+// The theme 60 62 69 has the interval 2 and then 7, so the word of 2 is 0xffff_fffe, the word of 7 is 0xffff_fffd, those of the
+// others are ones, and entries 3451 and 3450 are both 0xffff_fffc.
 //
 // 3450 is even, as half of the sets are. An even set has the interval 0, and without it is the odd set after it. So each turn
 // fills two entries: an odd one, and from it the even one before it.
-pub fn fill_table(theme: &[u8], table: &mut [u64])
+pub fn fill_table(theme: &[u8], table: &mut [u32])
     ensures { table.new ≡ table_after word_bits theme.now table.old }
 {
     if theme.len() == 0 {
@@ -60,7 +68,7 @@ pub fn fill_table(theme: &[u8], table: &mut [u64])
     let words = interval_words(theme);
     // 4095 has no interval, and 4094 has the interval 0 alone
     let mut even = HIGHEST_SET as usize - 1;
-    table[even + 1] = 0xffff_ffff_ffff_ffff;
+    table[even + 1] = 0xffff_ffff;
     table[even] = words[0];
     while 0 < even {
         even -= 2;

@@ -6,7 +6,7 @@ use mathlib.Core.Path.{◌≡◌, refl}
 use mathlib.Core.Bool.{Bool, true, false, cond}
 use mathlib.Core.List.{List, [], ◌∷◌}
 use Prim.Native.Nat.{ℕ, zero, suc, ◌+◌, ◌-◌, ◌^◌, ◌≤◌, ◌<◌, zero-le}
-use native.Mathlib.Nat.{mul-le-mul, lt_of_le_of_lt, le_refl}
+use native.Mathlib.Nat.{mul-le-mul, lt_of_le_of_lt}
 use native.Mathlib.Omega.{arith}
 use lib.Dec.{ltb}
 use lib.ListN.{length, length-map}
@@ -40,7 +40,8 @@ use Rattle.ways.specs.declared.bookmark.Pair.{Pair}
 use Rattle.asking.specs.Limits.{most_notes}
 use Rattle.asking.specs.Asking.{Accepted}
 use Rattle.asking.specs.Refusals.{row4, row5, row8, bad_note, page_rows}
-use Rattle.asking.proofs.Rows.{row1_clear, row2_clear, row4_clear, row6_clear, plain_clear, quick_clear, accepted_more}
+use Rattle.asking.proofs.Rows.{row1_clear, row2_clear, row4_clear, row6_clear, plain_clear, quick_clear}
+use Rattle.filter.specs.Limits.{word_bits}
 use Rattle.filter.specs.Table.{theme_table}
 use Rattle.walking.specs.Starts.{Place, looks}
 use Rattle.paging.specs.Lent.{Lent}
@@ -101,12 +102,10 @@ score_small cells h rows more = (
   λ a. (λ e. nowhere, λ b. (λ e. record { place = omega (arith, some_first bad_cell cells e, cells_few cells h a b) }, λ d. more b)),
 )
 
--- a call takes `most` notes at most, which are no more than the most of all
-theme_small : {most : ℕ} → most ≤ most_notes → (theme : List ℕ) (rows : List Row) → SmallRows rows
-    → SmallRows (row4 most theme ∷ row5 theme ∷ rows)
-theme_small {most} few theme rows more = (
+theme_small : (theme : List ℕ) (rows : List Row) → SmallRows rows → SmallRows (row4 most_notes theme ∷ row5 theme ∷ rows)
+theme_small theme rows more = (
   λ e. nowhere,
-  λ a. (λ e. record { place = omega (arith, few, some_first bad_note theme e, ((row4_clear most theme).0 a).1) }, λ d. more),
+  λ a. (λ e. record { place = omega (arith, some_first bad_note theme e, ((row4_clear most_notes theme).0 a).1) }, λ d. more),
 )
 
 sets_small : (cells : List ℕ) (h : ℕ) (sets : List ℕ) (rows : List Row) → (row2 cells h).applies ≡ false → SmallRows rows
@@ -147,8 +146,7 @@ module _ (cells : List ℕ) (h : ℕ) (sets : List ℕ) where
       let rows = row6 cells h sets ∷ row7 sets ∷ last in
       judge_small (λ (o : Occurrence). SmallSingle (of_occurrence o)) Unanswered (by_list list) (λ r s. s) (occurs_rows cells h theme sets summary table)
       (score_small cells h (row4 most_notes theme ∷ row5 theme ∷ rows)
-      (λ b. theme_small (le_refl most_notes) theme rows (sets_small cells h sets last b (λ e. nowhere, λ d. (λ e. nowhere, λ d. tt {0})))))
-      (λ c. list_small list)
+      (λ b. theme_small theme rows (sets_small cells h sets last b (λ e. nowhere, λ d. (λ e. nowhere, λ d. tt {0}))))) (λ c. list_small list)
 
 -- the verdict of rows, and so what a route says
 abbrev SmallVerdict : Verdict → Type 0
@@ -164,7 +162,7 @@ routed_small cells h theme way pair lent {said} a = step (verdict (route_rows ce
         let last = pair_rows way (score_of cells h) theme pair lent in
         judge_small SmallVerdict Away Passed (λ r s. s) (route_rows cells h theme way pair lent)
         (score_small cells h (row4 most_notes theme ∷ row5 theme ∷ last)
-        (λ b. theme_small (le_refl most_notes) theme last (λ e. nowhere, λ d. (λ e. nowhere, λ d. tt {0})))) (λ c. tt {0})
+        (λ b. theme_small theme last (λ e. nowhere, λ d. (λ e. nowhere, λ d. tt {0})))) (λ c. tt {0})
 
     step : (v : Verdict) → verdict (route_rows cells h theme way pair lent) ≡ v → SmallVerdict v → SmallSingle (of_routed said)
     step Passed e s = rw (a.accepted e).counted (tt {0})
@@ -197,8 +195,7 @@ explanation_small cells h theme way pair sets =
     let fit = fit_of score theme pair.column in
     judge_small (λ (e : Explanation). SmallReason (of_reason e.reason)) (λ r. bare (Unexplained r)) (explained way score theme pair sets) (λ r s. s)
     (explain_rows cells h theme sets)
-    (score_small cells h (row4 most_notes theme ∷ row5 theme ∷ rows)
-    (λ b. theme_small (le_refl most_notes) theme rows (sets_small cells h sets [] b (tt {0}))))
+    (score_small cells h (row4 most_notes theme ∷ row5 theme ∷ rows) (λ b. theme_small theme rows (sets_small cells h sets [] b (tt {0}))))
     (λ c. either_small (no_shift way pair.shift) NoShift (reason_at way score theme pair sets fit) (tt {0}) (at_small way score theme pair sets fit))
 
 -- ---- a page: each pair costs a look at least
@@ -261,24 +258,22 @@ module _ (cells : List ℕ) (h : ℕ) (theme : List ℕ) (b : Bookmark) (buffers
       let S = search_as way (score_of cells h) theme in
       judge_small (λ (l : Leaf). SmallPage l.answer) (away buffers) (leaf S b buffers) (λ r s. s) (rows_of_plain cells h theme way b buffers)
       (score_small cells h (row4 most_notes theme ∷ row5 theme ∷ page)
-      (λ e. theme_small (le_refl most_notes) theme page (page_small (range_as way) (columns_in cells h) b r (length buffers.shifts))))
+      (λ e. theme_small theme page (page_small (range_as way) (columns_in cells h) b r (length buffers.shifts))))
       (λ c. record { written = found_few way ((plain_clear cells h theme way b buffers.columns buffers.shifts).1 c).accepted })
 
-  -- by words of any width up to the most notes
-  pub quick_small : (w : ℕ) → w ≤ most_notes → (way : Way) (sets table : List ℕ)
-      → SmallPage (quick_page w cells h theme way b sets table buffers).answer
+  pub quick_small : (way : Way) (sets table : List ℕ) → SmallPage (quick_page cells h theme way b sets table buffers).answer
   unfolding quick_page
-  quick_small w few way sets table =
+  quick_small way sets table =
       let page = page_rows (range_of way) (columns_in cells h) b r (length buffers.shifts) in
       let rows = row6 cells h sets ∷ row7 sets ∷ row8 (length table) ∷ page in
-      let S = quick_search w way (score_of cells h) theme (theme_table w theme) sets in
-      judge_small (λ (l : Leaf). SmallPage l.answer) (away buffers) (leaf S b buffers) (λ r s. s) (rows_of_quick w cells h theme way b sets table buffers)
-      (score_small cells h (row4 w theme ∷ row5 theme ∷ rows)
-      (λ e. theme_small few theme rows
+      let S = quick_search word_bits way (score_of cells h) theme (theme_table word_bits theme) sets in
+      judge_small (λ (l : Leaf). SmallPage l.answer) (away buffers) (leaf S b buffers) (λ r s. s) (rows_of_quick cells h theme way b sets table buffers)
+      (score_small cells h (row4 most_notes theme ∷ row5 theme ∷ rows)
+      (λ e. theme_small theme rows
       (sets_small cells h sets (row8 (length table) ∷ page) e
       (λ t. nowhere, λ t. page_small (range_of way) (columns_in cells h) b r (length buffers.shifts)))))
-      (λ c. let a = accepted_more few ((quick_clear w cells h theme way b sets table buffers.columns buffers.shifts).1 c).plain.accepted in
+      (λ c. let a = ((quick_clear cells h theme way b sets table buffers.columns buffers.shifts).1 c).plain.accepted in
       record {
         written = few_looks S (looks_some way (heard_of (score_of cells h)) theme a.notes_some)
-            (lt_of_le_of_lt (quick_page_le cells h theme way b r w (theme_table w theme) sets) (most_fits cells h theme a));
+            (lt_of_le_of_lt (quick_page_le cells h theme way b r word_bits (theme_table word_bits theme) sets) (most_fits cells h theme a));
       })

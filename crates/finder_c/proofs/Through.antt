@@ -4,7 +4,7 @@
 use mathlib.Core.Path.{◌≡◌, refl, sym, ap, ap₂, ◌∙◌, subst, subst₂}
 use mathlib.Core.Bool.{Bool, true, false, ◌||◌, true≢false}
 use mathlib.Core.List.{List}
-use Prim.Native.Nat.{ℕ, ◌≤◌}
+use Prim.Native.Nat.{ℕ}
 use lib.Dec.{eqb, ltb}
 use lib.IntN.{ℤ, pos}
 use lib.ListN.{length}
@@ -17,7 +17,6 @@ use Rattle.updating.specs.Updating.{Updates}
 use Rattle.ways.specs.declared.way.Way.{Way}
 use Rattle.ways.specs.declared.way.AnyWay.{AnyWay}
 use Rattle.ways.specs.declared.bookmark.Pair.{Pair}
-use Rattle.asking.specs.Limits.{most_notes}
 use Rattle.paging.specs.declared.page.Page.{Page}
 use Rattle.paging.specs.Lent.{Lent}
 use Rattle.paging.specs.Page.{Leaf, Pages}
@@ -119,12 +118,11 @@ pub plain_pages_small : {cells : List ℕ} {h : ℕ} {theme : List ℕ} {way : A
 plain_pages_small {cells} {h} {theme} {way} {column} {shift} {buffers} r =
     subst SmallPage (sym r.pages.answers) (plain_small cells h theme (bookmark column shift) buffers way)
 
--- by words of any width up to the most notes
-pub quick_pages_small : {w : ℕ} {cells : List ℕ} {h : ℕ} {theme : List ℕ} {way : Way} {column : ℕ} {shift : ℤ} {sets table table' : List ℕ}
+pub quick_pages_small : {cells : List ℕ} {h : ℕ} {theme : List ℕ} {way : Way} {column : ℕ} {shift : ℤ} {sets table table' : List ℕ}
     {buffers after : Lent} {p : Page}
-    → QuickPages w cells h theme way (bookmark column shift) sets table buffers p table' after → w ≤ most_notes → SmallPage p
-quick_pages_small {w} {cells} {h} {theme} {way} {column} {shift} {sets} {table} {buffers = buffers} r few =
-    subst SmallPage (sym r.pages.answers) (quick_small cells h theme (bookmark column shift) buffers w few way sets table)
+    → QuickPages cells h theme way (bookmark column shift) sets table buffers p table' after → SmallPage p
+quick_pages_small {cells} {h} {theme} {way} {column} {shift} {sets} {table} {buffers = buffers} r =
+    subst SmallPage (sym r.pages.answers) (quick_small cells h theme (bookmark column shift) buffers way sets table)
 
 -- a page in numbers
 page_through : {page : Leaf} {p : Page} {buffers after : Lent} {answer answer' : List ℤ} {r : ℤ} {none : Bool} → none ≡ false → Pages page p after
@@ -137,8 +135,8 @@ module _ {cells : List ℕ} {h : ℕ} {theme : List ℕ} {way column : ℕ} {shi
       → CPlainPages cells h theme way column shift buffers answer (pos not_called) buffers answer
   plain_none e = record { leaves = leaves_none e }
 
-  pub quick_none : {w : ℕ} {sets table : List ℕ} {buffers : Lent} {answer : List ℤ} → no_call octave way answer_numbers (length answer) ≡ true
-      → CQuickPages w cells h theme way column shift sets table buffers answer (pos not_called) table buffers answer
+  pub quick_none : {sets table : List ℕ} {buffers : Lent} {answer : List ℤ} → no_call octave way answer_numbers (length answer) ≡ true
+      → CQuickPages cells h theme way column shift sets table buffers answer (pos not_called) table buffers answer
   quick_none e = record { leaves = leaves_none e; fills_table = rw e }
 
   pub plain_through : {buffers after : Lent} {answer answer' : List ℤ} {w : AnyWay} {z : ℤ} {p : Page} {r : ℤ}
@@ -150,13 +148,13 @@ module _ {cells : List ℕ} {h : ℕ} {theme : List ℕ} {way column : ℕ} {shi
       let b = subst₂ (λ (w : AnyWay) (z : ℤ). PlainPages cells h theme w (bookmark column z) buffers p after) v k a in
       record { leaves = page_through e b.pages n ns }
 
-  pub quick_through : {w : ℕ} {sets table table' : List ℕ} {buffers after : Lent} {answer answer' : List ℤ} {asked : Way} {z : ℤ} {p : Page} {r : ℤ}
-      → no_call octave way answer_numbers (length answer) ≡ false → asked ≡ way_of way → z ≡ shift
-      → QuickPages w cells h theme asked (bookmark column z) sets table buffers p table' after
+  pub quick_through : {sets table table' : List ℕ} {buffers after : Lent} {answer answer' : List ℤ} {w : Way} {z : ℤ} {p : Page} {r : ℤ}
+      → no_call octave way answer_numbers (length answer) ≡ false → w ≡ way_of way → z ≡ shift
+      → QuickPages cells h theme w (bookmark column z) sets table buffers p table' after
       → r ≡ page_number p → answer' ≡ page_numbers p answer
-      → CQuickPages w cells h theme way column shift sets table buffers answer r table' after answer'
-  quick_through {w} {sets} {table} {table'} {buffers} {after} {answer} {p = p} e v k a n ns =
-      let b = subst₂ (λ (asked : Way) (z : ℤ). QuickPages w cells h theme asked (bookmark column z) sets table buffers p table' after) v k a in
+      → CQuickPages cells h theme way column shift sets table buffers answer r table' after answer'
+  quick_through {sets} {table} {table'} {buffers} {after} {answer} {p = p} e v k a n ns =
+      let b = subst₂ (λ (w : Way) (z : ℤ). QuickPages cells h theme w (bookmark column z) sets table buffers p table' after) v k a in
       record { leaves = page_through e b.pages n ns; fills_table = rw e b.fills_table }
 
 -- ---- finder_explain

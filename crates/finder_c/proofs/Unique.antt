@@ -23,7 +23,6 @@ use Rattle.finder_c.proofs.calls.finder_plain_page
 use Rattle.finder_c.proofs.calls.finder_quick_page
 use Rattle.finder_c.proofs.calls.finder_explain
 use Rattle.finder_c.proofs.calls.finder_route
-use Rattle.finder_c.proofs.calls_32.finder_quick_page_32
 
 c_leaves_unique : {Buffers : Type 0} {none : Bool} {buffers : Buffers} {answer : List ℤ} {left : CLeft Buffers} {r r' : ℤ} {b b' : Buffers} {a a' : List ℤ}
     → CLeaves none buffers answer left r b a → CLeaves none buffers answer left r' b' a' → (r ≡ r') × (b ≡ b') × (a ≡ a')
@@ -49,9 +48,9 @@ module _ {cells : List ℕ} {h : ℕ} {theme : List ℕ} {way column : ℕ} {shi
       → CPlainPages cells h theme way column shift buffers answer r' l' a' → (r ≡ r') × (l ≡ l') × (a ≡ a')
   c_plain_unique p q = c_leaves_unique p.leaves q.leaves
 
-  pub c_quick_unique : {w : ℕ} {sets table t t' : List ℕ} {r r' : ℤ} {l l' : Lent} {a a' : List ℤ}
-      → CQuickPages w cells h theme way column shift sets table buffers answer r t l a
-      → CQuickPages w cells h theme way column shift sets table buffers answer r' t' l' a'
+  pub c_quick_unique : {sets table t t' : List ℕ} {r r' : ℤ} {l l' : Lent} {a a' : List ℤ}
+      → CQuickPages cells h theme way column shift sets table buffers answer r t l a
+      → CQuickPages cells h theme way column shift sets table buffers answer r' t' l' a'
       → ((r ≡ r') × (l ≡ l') × (a ≡ a')) × (t ≡ t')
   c_quick_unique p q = (c_leaves_unique p.leaves q.leaves, p.fills_table ∙ sym q.fills_table)
 
@@ -97,14 +96,6 @@ finder_plain_page_unique κs args x y =
 
 pub finder_quick_page_unique : Settles finder_quick_page.Kinds.ps finder_quick_page.Kinds.r finder_quick_page.Reads.Post
 finder_quick_page_unique κs args x y =
-    let ((result, lent, answer), table) = c_quick_unique x.meets y.meets in (
-      result,
-      refl beside refl beside refl beside refl beside refl beside refl beside refl
-          beside table beside same_columns lent beside same_shifts lent beside answer beside refl,
-    )
-
-pub finder_quick_page_32_unique : Settles finder_quick_page_32.Kinds.ps finder_quick_page_32.Kinds.r finder_quick_page_32.Reads.Post
-finder_quick_page_32_unique κs args x y =
     let ((result, lent, answer), table) = c_quick_unique x.meets y.meets in (
       result,
       refl beside refl beside refl beside refl beside refl beside refl beside refl

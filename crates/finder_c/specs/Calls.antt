@@ -95,13 +95,13 @@ pub record CPlainPages (cells : List ℕ) (h : ℕ) (theme : List ℕ) (way colu
   pub leaves : CLeaves (no_call written way answer_numbers (length answer)) buffers answer
       (leaf_left (plain_page cells h theme (any_way_of way) (bookmark column shift) buffers) answer) result after answer'
 
--- a quick call leaves a table, too, of words of w bits; one call has words of 64 bits, another of 32
-pub record CQuickPages (w : ℕ) (cells : List ℕ) (h : ℕ) (theme : List ℕ) (way column : ℕ) (shift : ℤ) (sets table : List ℕ)
+-- a quick call leaves a table, too
+pub record CQuickPages (cells : List ℕ) (h : ℕ) (theme : List ℕ) (way column : ℕ) (shift : ℤ) (sets table : List ℕ)
     (buffers : Lent) (answer : List ℤ) (result : ℤ) (table' : List ℕ) (after : Lent) (answer' : List ℤ) : Type 0 where
   pub leaves : CLeaves (no_call octave way answer_numbers (length answer)) buffers answer
-      (leaf_left (quick_page w cells h theme (way_of way) (bookmark column shift) sets table buffers) answer) result after answer'
+      (leaf_left (quick_page cells h theme (way_of way) (bookmark column shift) sets table buffers) answer) result after answer'
   pub fills_table : table' ≡ cond (no_call octave way answer_numbers (length answer)) table
-      (quick_table w cells h theme (way_of way) (bookmark column shift) sets table buffers)
+      (quick_table cells h theme (way_of way) (bookmark column shift) sets table buffers)
 
 -- ---- the explanation; no buffer is lent but the answer
 

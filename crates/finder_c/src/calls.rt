@@ -1,7 +1,6 @@
 // The exported calls. A slice is a pointer and a length in C, and a number is itself. No call asks anything of its caller
 // but that the memory lent is there: what cannot be answered is refused, and a refused call writes nothing.
 
-ghost use Rattle.filter.specs.Limits.{word_bits};
 ghost use Rattle.paging.specs.Lent.{lent};
 ghost use Rattle.finder_c.specs.Calls.{CPrepares, CUpdates, COccurs, CPlainPages, CQuickPages, CExplains, CRoutes};
 
@@ -56,8 +55,8 @@ pub extern "C" fn finder_update(
 }
 
 // Whether the theme stands anywhere, in exact or octave, with the prepared sets of the score and their summary: 0, and 1 or 0 for
-// yes or no in `answer`; the theme's table, 4,096 words of 64 bits, is left in `table`. Otherwise the refusal, 1 to 8 or 12, as
-// number + 256 * place; or 255 where `way` is above 1 or `answer` is not 1 long.
+// yes or no in `answer`; the theme's table is left in `table`. Otherwise the refusal, 1 to 8 or 12, as number + 256 * place; or
+// 255 where `way` is above 1 or `answer` is not 1 long.
 #[unsafe(no_mangle)]
 pub extern "C" fn finder_occurs(
     cells: &[u8],
@@ -66,7 +65,7 @@ pub extern "C" fn finder_occurs(
     way: u8,
     sets: &[u16],
     summary: u16,
-    table: &mut [u64],
+    table: &mut [u32],
     answer: &mut [i64],
 ) -> i64
     ensures { COccurs cells.now tracks theme.now way sets.now summary table.old answer.old result table.new answer.new }
@@ -122,8 +121,8 @@ pub extern "C" fn finder_plain_page(
     told_page(p, answer)
 }
 
-// A quick page: the same of exact and octave, with the prepared sets of the score; the theme's table, 4,096 words of 64 bits, is
-// left in `table`. Refuses 1 to 10; way 2 gives 255. `finder_quick_page_32`, in `calls_32`, has a table of 32-bit words.
+// A quick page: the same of exact and octave, with the prepared sets of the score; the theme's table is left in `table`.
+// Refuses 1 to 10; way 2 gives 255.
 #[unsafe(no_mangle)]
 pub extern "C" fn finder_quick_page(
     cells: &[u8],
@@ -133,12 +132,12 @@ pub extern "C" fn finder_quick_page(
     column: u16,
     shift: i16,
     sets: &[u16],
-    table: &mut [u64],
+    table: &mut [u32],
     columns: &mut [u16],
     shifts: &mut [i16],
     answer: &mut [i64],
 ) -> i64
-    ensures { CQuickPages word_bits cells.now tracks theme.now way column shift sets.now table.old (lent columns.old shifts.old) answer.old result table.new (lent columns.new shifts.new) answer.new }
+    ensures { CQuickPages cells.now tracks theme.now way column shift sets.now table.old (lent columns.old shifts.old) answer.old result table.new (lent columns.new shifts.new) answer.new }
 {
     if no_call(OCTAVE, way, ANSWER_NUMBERS, answer.len()) {
         return NOT_CALLED;

@@ -2,11 +2,9 @@
 // `routing`, with numbers for ways and answers.
 //
 // `limits` names the numbers of an answer, `single` puts the answers of one number into one kind, `told` says an answer in
-// numbers, `reasons` an explanation, and `calls` has the exported functions, which include/finder.h declares; `calls_32` has the
-// one whose table is of 32-bit words.
+// numbers, `reasons` an explanation, and `calls` has the exported functions, which include/finder.h declares.
 
 pub mod calls;
-pub mod calls_32;
 mod limits;
 mod reasons;
 mod single;

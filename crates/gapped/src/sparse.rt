@@ -38,8 +38,8 @@ fn nth_heard(cells: &[u8], h: usize, n: usize, k: usize) -> usize {
     j
 }
 
-// The column from which a round's theme is cut: one with a pitch, at which the theme has room where it has any.
-pub fn cut_column(cells: &[u8], a: Ask, round: usize) -> usize {
+// A column with a pitch, at which the theme has room where it has any.
+fn column_in(cells: &[u8], a: Ask, round: usize) -> usize {
     let n = columns_of(a.cells, a.h);
     let starts = starts_among(heard_columns(cells, a.h, n), a.notes);
     nth_heard(cells, a.h, n, start_in(starts, round))
@@ -48,7 +48,7 @@ pub fn cut_column(cells: &[u8], a: Ask, round: usize) -> usize {
 // A round's theme, from a column on: each note about the next column with a pitch.
 pub fn fill_sparse_theme(cells: &[u8], theme: &mut [u8], a: Ask, round: usize) {
     let n = columns_of(a.cells, a.h);
-    let mut j = cut_column(cells, a, round);
+    let mut j = column_in(cells, a, round);
     for i in 0..a.notes {
         put_byte(theme, i, note_of(cells, a.h, j, a.notes, round, i));
         j = next_heard(cells, a.h, n, j);

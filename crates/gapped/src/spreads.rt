@@ -1,26 +1,14 @@
 // A rising theme spread over a score: no, one or many empty columns before it, between each two of its notes, and behind it;
-// each note in another track, the theme whole or with its last note too high. It has 2, 31 or 32
-// notes, or is a long one.
+// each note in another track, the theme whole or with its last note too high. It has 2, 31 or 32 notes.
 
 ghost use Rattle.std.specs.Prelude.{◌<◌};
 
-use jobs::buffers::NOTE_PLACES;
 use jobs::changes::{at, none};
 use jobs::job::{Head, Job, Source};
-use jobs::shapes::{LENGTHS, ask_of, long_notes, room_of, taken, way_of};
-use second::asks::{Ask, Call, NARROW_NOTES};
+use jobs::shapes::{ask_of, room_of, way_of};
+use second::asks::{Ask, Call};
 use second::totals::{less_one, more, product, put_byte};
 use second::ways::{lowest, shift_at, span};
-
-// From which number of a score on each choice goes on: of whole or spoilt and one track or many there are four, then come the
-// numbers of notes, the strides, and the empty columns before and behind.
-const STRIDES_FROM: usize = 4 * SIZES;
-
-const BEFORE_FROM: usize = 3 * STRIDES_FROM;
-
-const BEHIND_FROM: usize = 3 * BEFORE_FROM;
-
-pub const SPREAD_JOBS: usize = 15 * 3 * BEHIND_FROM;
 
 // There is at least one track.
 fn tracks_of(e: usize) -> usize
@@ -29,15 +17,11 @@ fn tracks_of(e: usize) -> usize
     if e / 2 % 2 == 0 { 1 } else { 16 }
 }
 
-// The numbers of notes: three, and the long ones.
-const SIZES: usize = 3 + LENGTHS;
-
 fn notes_of(e: usize) -> usize {
-    match e / 4 % SIZES {
+    match e / 4 % 3 {
         0 => 2,
         1 => 31,
-        2 => 32,
-        k => long_notes(k - 3),
+        _ => 32,
     }
 }
 
@@ -45,7 +29,7 @@ fn notes_of(e: usize) -> usize {
 fn stride_of(e: usize) -> usize
     ensures { 0 < result }
 {
-    match e / STRIDES_FROM % 3 {
+    match e / 12 % 3 {
         0 => 1,
         1 => 2,
         _ => 4,
@@ -63,11 +47,11 @@ fn empty_at(k: usize) -> usize {
 
 // The empty columns before the theme, and those behind it.
 fn before(e: usize) -> usize {
-    empty_at(e / BEFORE_FROM)
+    empty_at(e / 36)
 }
 
 fn behind(e: usize) -> usize {
-    empty_at(e / BEHIND_FROM)
+    empty_at(e / 108)
 }
 
 fn columns_in(e: usize) -> usize {
@@ -79,7 +63,7 @@ fn columns_in(e: usize) -> usize {
 
 // Note i of the theme, from 0.
 fn spread_note(i: usize) -> u8 {
-    40 + (i % 80) as u8
+    40 + (i % 64) as u8
 }
 
 // The same as it stands in the score: of the spoilt ones the last is too high. Behind the theme there are rests.
@@ -120,7 +104,7 @@ pub fn fill_spread(cells: &mut [u8], many: usize, e: usize) {
 }
 
 pub fn fill_spread_theme(theme: &mut [u8]) {
-    for i in 0..NOTE_PLACES {
+    for i in 0..32 {
         put_byte(theme, i, spread_note(i));
     }
 }
@@ -140,25 +124,15 @@ fn from_mark(a: Ask, p: usize, e: usize) -> Ask {
     }
 }
 
-// Whether a score is tried: a long theme in one of three, such that each two of its strides and empty columns come together.
-fn chosen(e: usize) -> bool {
-    if notes_of(e) <= NARROW_NOTES {
-        return true;
-    }
-    more(more(e / STRIDES_FROM, e / BEFORE_FROM), e / BEHIND_FROM) % 3 == 0
-}
-
 // Where the theme stands in the first column there is none before it.
 fn tried_at(p: usize, e: usize) -> bool {
     if p == 3 {
-        if before(e) == 0 {
-            return false;
-        }
+        return 0 < before(e);
     }
-    chosen(e)
+    true
 }
 
-// Each score in all ways: the whole list, and a page from each other bookmark.
+// Each of 324 scores in all ways: the whole list, and a page from each other bookmark.
 pub fn spread_job(k: usize) -> Job {
     let e = k / 15;
     let p = k / 3 % 5;
@@ -180,21 +154,13 @@ pub fn spread_job(k: usize) -> Job {
         c,
         d: c,
         call: call_in(k % 3),
-        whole: whole_at(p, a.notes),
+        whole: p == 0,
         deep: false,
         loud: false,
         head: Head::Quiet,
         low: 0,
         high: 0,
     }
-}
-
-// The list is whole from the first bookmark on; a theme that is too long has none.
-fn whole_at(p: usize, m: usize) -> bool {
-    if p == 0 {
-        return taken(m);
-    }
-    false
 }
 
 fn call_in(way: usize) -> Call {

@@ -6,7 +6,7 @@ use crate::answers::{
 use crate::columns::against_column;
 use crate::intervals::by_intervals;
 use crate::notes::by_notes;
-use second::asks::{Ask, MOST_NOTES, columns_of};
+use second::asks::{Ask, columns_of};
 use second::away::{Away, of_length, of_score, of_sets, of_theme};
 use second::ways::Way;
 
@@ -25,7 +25,7 @@ fn refusal(cells: &[u8], theme: &[u8], sets: &[u16], a: Ask) -> Away {
     if score.number != 0 {
         return score;
     }
-    let notes = of_theme(theme, a.notes, MOST_NOTES);
+    let notes = of_theme(theme, a.notes);
     if notes.number != 0 {
         return notes;
     }

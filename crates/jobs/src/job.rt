@@ -14,7 +14,6 @@ pub enum Source {
     Beats,
     Spread,
     Sparse,
-    Pulses,
 }
 
 // What is written before a job: nothing, the case, the end of a range, or the refusals that are due.
@@ -39,7 +38,7 @@ pub struct Job {
     pub a: Ask,
     pub c: Change,
     pub d: Change,
-    // the call, and whether it is tried page after page; a quick one is tried by words of both widths
+    // the call, and whether it is tried page after page
     pub call: Call,
     pub whole: bool,
     // whether the whole table is looked at

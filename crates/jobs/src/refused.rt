@@ -1,23 +1,20 @@
 // What is turned away: both ends of every range, each refusal alone, and each two together. Every job here is one call on
-// changes to an accepted one: of the four in turn, or, in written, of the plain one.
+// changes to an accepted one: of the three in turn, or, in written, of the plain one.
 
 use crate::changes::{Change, What, changed, none, place_of, placed, what_of};
 use crate::job::{Head, Job, Source};
 use crate::shapes::{ask_of, way_of};
-use second::asks::{Ask, Call, most_notes};
+use second::asks::{Ask, Call};
 use second::totals::{more, product, size16};
 use second::ways::{Way, counted};
 
 // The ends of the ranges: what is changed, and four numbers that it gets. A shift goes by its own number.
-const ROWS: usize = 17;
-
-const ENDS: [[u16; 5]; ROWS] = [
+const ENDS: [[u16; 5]; 16] = [
     [1, 0, 1, 16, 17],
     [2, 0, 1, 2048, 2049],
     [3, 9, 10, 11, 12],
     [4, 127, 128, 254, 255],
     [5, 1, 2, 32, 33],
-    [5, 34, 63, 64, 65],
     [6, 0, 127, 128, 255],
     [7, 0, 3, 4, 5],
     [8, 0, 4095, 4096, 65535],
@@ -36,7 +33,7 @@ const FAULTS: [[u16; 9]; 10] = [
     [1, 0, 0, 1, 0, 17, 1, 0, 255],
     [3, 0, 9, 2, 0, 0, 2, 0, 2049],
     [4, 0, 128, 4, 5, 200, 4, 9, 254],
-    [5, 0, 1, 5, 0, 65, 5, 0, 0],
+    [5, 0, 1, 5, 0, 33, 5, 0, 0],
     [6, 0, 128, 6, 1, 255, 6, 2, 200],
     [7, 0, 3, 7, 0, 5, 7, 0, 0],
     [8, 0, 4096, 8, 1, 65535, 8, 3, 5000],
@@ -45,26 +42,14 @@ const FAULTS: [[u16; 9]; 10] = [
     [13, 0, 0, 13, 0, 7, 14, 0, 3],
 ];
 
-// How many there are of either: 68 ends at three places, and 121 pairs of refusals by nine pairs of faults.
-const ENDS_AT_ONE: usize = 4 * ROWS;
+// How many jobs try all three calls, in exact and octave: 64 ends at three places, and 121 pairs of refusals by nine pairs of
+// faults. The jobs in written come after them.
+const THREEFOLD_ENDS: usize = 1152;
 
-const ENDS_IN_ALL: usize = 3 * ENDS_AT_ONE;
-
-const DUES_IN_ALL: usize = 1089;
-
-// How many jobs try them by all four calls, in exact and in octave. The jobs in written come after those.
-const CALLS: usize = 4;
-
-const FOURFOLD_ENDS: usize = CALLS * ENDS_IN_ALL;
-
-const FOURFOLD_DUES: usize = CALLS * DUES_IN_ALL;
-
-pub const END_JOBS: usize = 2 * FOURFOLD_ENDS + ENDS_IN_ALL;
-
-pub const DUE_JOBS: usize = 2 * FOURFOLD_DUES + DUES_IN_ALL;
+const THREEFOLD_DUES: usize = 6534;
 
 fn end_item(row: usize, i: usize) -> u16 {
-    if row < ROWS {
+    if row < 16 {
         if i < 5 {
             return ENDS[row][i];
         }
@@ -91,27 +76,16 @@ fn end(k: usize, p: u8) -> Change {
     }
 }
 
-// The number of a fault: a theme of too many notes has one more than the call takes.
-fn fault_value(call: Call, what: What, value: u16) -> u16 {
-    if let What::Notes = what {
-        if 2 < value {
-            return (more(most_notes(call), 1) % 65536) as u16;
-        }
-    }
-    value
-}
-
-// The fault of a refusal, 0 for none, by its variant, for a call.
-fn fault(call: Call, number: usize, variant: usize) -> Change {
+// The fault of a refusal, 0 for none, by its variant.
+fn fault(number: usize, variant: usize) -> Change {
     if number == 0 {
         return none();
     }
     let at = product(variant, 3);
-    let what = what_of(fault_item(number - 1, at));
     Change {
-        what,
+        what: what_of(fault_item(number - 1, at)),
         place: size16(fault_item(number - 1, more(at, 1))),
-        value: fault_value(call, what, fault_item(number - 1, more(at, 2))),
+        value: fault_item(number - 1, more(at, 2)),
     }
 }
 
@@ -120,15 +94,14 @@ fn accepted(way: Way) -> Ask {
     ask_of(2, 5, 3, way, 4)
 }
 
-// Whether a call gives a refusal: preparation 1, 2, 3, 6; plain 1 to 5, 9, 10; quick, by words of either width, 1 to 10. Of 0
-// none does.
+// Whether a call gives a refusal: preparation 1, 2, 3, 6; plain 1 to 5, 9, 10; quick 1 to 10. Of 0 none does.
 fn gives(call: Call, number: usize) -> bool {
     match call {
         Call::Prepare => match number {
             1 | 2 | 3 | 6 => true,
             _ => false,
         },
-        Call::Quick | Call::Narrow => 0 < number,
+        Call::Quick => 0 < number,
         _ => match number {
             0 | 6 | 7 | 8 => false,
             _ => true,
@@ -169,7 +142,7 @@ fn refused_job(way: Way, c: Change, d: Change, call: Call, head: Head) -> Job {
     }
 }
 
-// Whether a call is the first of those that are tried in a way: of the four, or of the plain one alone.
+// Whether a call is the first of those that are tried in a way: of the three, or of the plain one alone.
 fn first_call(way: Way, call: Call) -> bool {
     match call {
         Call::Prepare => true,
@@ -181,7 +154,7 @@ fn first_call(way: Way, call: Call) -> bool {
 // Whether it is the last of them.
 pub fn last_call(way: Way, call: Call) -> bool {
     match call {
-        Call::Narrow => true,
+        Call::Quick => true,
         Call::Plain => !counted(way),
         _ => false,
     }
@@ -197,11 +170,10 @@ fn head_at(way: Way, call: Call, head: Head) -> Head {
 }
 
 fn call_at(k: usize) -> Call {
-    match k % CALLS {
+    match k % 3 {
         0 => Call::Prepare,
         1 => Call::Plain,
-        2 => Call::Quick,
-        _ => Call::Narrow,
+        _ => Call::Quick,
     }
 }
 
@@ -221,10 +193,10 @@ fn highest_of(what: What) -> u16 {
     if let What::Set = what { 4095 } else { 127 }
 }
 
-// The e-th end of a range, of 68 at each place.
+// The e-th end of a range, of 64 at each place.
 fn ended(way: Way, e: usize, call: Call) -> Job {
-    let p = (e / ENDS_AT_ONE % 3) as u8;
-    let c = end(e % ENDS_AT_ONE, p);
+    let p = (e / 64 % 3) as u8;
+    let c = end(e % 64, p);
     let what = c.what;
     let mut j = refused_job(
         way,
@@ -239,14 +211,10 @@ fn ended(way: Way, e: usize, call: Call) -> Job {
 
 // Both ends of every range, at each place, in all ways.
 pub fn end_job(k: usize) -> Job {
-    if k < 2 * FOURFOLD_ENDS {
-        return ended(
-            way_of(k / FOURFOLD_ENDS),
-            k % FOURFOLD_ENDS / CALLS,
-            call_at(k),
-        );
+    if k < THREEFOLD_ENDS {
+        return ended(way_of(k / 576), k % 576 / 3, call_at(k));
     }
-    ended(Way::Written, k - 2 * FOURFOLD_ENDS, Call::Plain)
+    ended(Way::Written, k - THREEFOLD_ENDS, Call::Plain)
 }
 
 // The e-th pair of faults, of nine for each two refusals; the first of the nine is written out.
@@ -256,8 +224,8 @@ fn faulty(way: Way, e: usize, call: Call) -> Job {
     let high = e / 9 % 11;
     let mut j = refused_job(
         way,
-        fault(call, low, variant / 3),
-        fault(call, high, variant % 3),
+        fault(low, variant / 3),
+        fault(high, variant % 3),
         call,
         due_head(way, call, variant),
     );
@@ -271,14 +239,10 @@ fn faulty(way: Way, e: usize, call: Call) -> Job {
 // Each refusal by itself, which stands here as a pair of twice the same, and each two together, each by each of its faults, in
 // all ways.
 pub fn due_job(k: usize) -> Job {
-    if k < 2 * FOURFOLD_DUES {
-        return faulty(
-            way_of(k / FOURFOLD_DUES),
-            k % FOURFOLD_DUES / CALLS,
-            call_at(k),
-        );
+    if k < THREEFOLD_DUES {
+        return faulty(way_of(k / 3267), k % 3267 / 3, call_at(k));
     }
-    faulty(Way::Written, k - 2 * FOURFOLD_DUES, Call::Plain)
+    faulty(Way::Written, k - THREEFOLD_DUES, Call::Plain)
 }
 
 fn due_head(way: Way, call: Call, variant: usize) -> Head {

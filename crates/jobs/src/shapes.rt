@@ -1,6 +1,6 @@
 // The shape of what is asked: a score and a theme of so many tracks, columns and notes, and a room, from the first bookmark on.
 
-use second::asks::{Ask, MOST_NOTES};
+use second::asks::Ask;
 use second::totals::{less_one, product};
 use second::ways::{Way, lowest};
 
@@ -22,23 +22,6 @@ pub fn way_of(k: usize) -> Way {
         1 => Way::Octave,
         _ => Way::Written,
     }
-}
-
-// How many notes a long theme has: one more than the narrow search takes, one less than the most, the most, and one too many.
-pub const LENGTHS: usize = 4;
-
-pub fn long_notes(k: usize) -> usize {
-    match k % LENGTHS {
-        0 => 33,
-        1 => 63,
-        2 => 64,
-        _ => 65,
-    }
-}
-
-// Whether a theme of so many notes is taken. A list is asked for only then.
-pub fn taken(m: usize) -> bool {
-    m <= MOST_NOTES
 }
 
 pub fn ask_of(h: usize, n: usize, m: usize, way: Way, room: usize) -> Ask {

@@ -12,7 +12,7 @@ use Rattle.theory.specs.Lists.{some}
 use Rattle.score.specs.Limits.{most_tracks, most_columns, highest_pitch, rest_cell}
 use Rattle.score.specs.Score.{cut, columns_in, score_of}
 use Rattle.score.specs.Refusals.{bad_cell}
-use Rattle.asking.specs.Limits.{narrow_notes}
+use Rattle.asking.specs.Limits.{most_notes}
 use Rattle.asking.specs.Refusals.{bad_note}
 use Rattle.asking.specs.Asking.{Accepted}
 use Rattle.reading.specs.Reading.{Theme}
@@ -59,7 +59,7 @@ module _ (n h : ℕ) (cells : List ℕ) (some-tracks : 1 ≤ h) (e : length cell
   pub score_is : score_of cells h ≡ cut n h cells
   score_is = ap (λ (k : ℕ). cut k h cells) columns_are
 
-  pub accepted_of : (theme : Theme) → IsTheme theme → h ≤ most_tracks → 1 ≤ n → n ≤ most_columns → Each (IsChord h) (cut n h cells) → Accepted narrow_notes cells h theme.notes
+  pub accepted_of : (theme : Theme) → IsTheme theme → h ≤ most_tracks → 1 ≤ n → n ≤ most_columns → Each (IsChord h) (cut n h cells) → Accepted most_notes cells h theme.notes
   accepted_of theme t few a b r =
       record {
         tracks_some = some-tracks;

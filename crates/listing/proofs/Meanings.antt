@@ -7,7 +7,7 @@ use native.Mathlib.Omega.{arith}
 use lib.ListN.{length, take, drop, length-append}
 use lib.Seq.{take_at}
 use Rattle.theory.specs.Lists.{over, join}
-use Rattle.asking.specs.Limits.{narrow_notes}
+use Rattle.asking.specs.Limits.{most_notes}
 use Rattle.score.specs.Limits.{most_tracks, most_columns, most_cells}
 use Rattle.ways.specs.declared.way.AnyWay.{AnyWay}
 use Rattle.reading.specs.declared.request.Reading.{Reading}
@@ -24,7 +24,7 @@ use Rattle.listing.proofs.Outputs.{meaning_right, cells_long, right_score, right
 
 -- ---- a refused line
 
-pub out_bad : {input theme cells : List ℕ} {r : Reading} {theme' cells' : List ℕ} → Takes input theme cells r theme' cells' → narrow_notes ≤ length theme → most_cells ≤ length cells
+pub out_bad : {input theme cells : List ℕ} {r : Reading} {theme' cells' : List ℕ} → Takes input theme cells r theme' cells' → most_notes ≤ length theme → most_cells ≤ length cells
     → {line : ℕ} → r ≡ Bad line → output input ≡ refused_line line
 unfolding output
 out_bad t few many e = ap answer (took_bad t few many e)

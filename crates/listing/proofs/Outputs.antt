@@ -13,7 +13,7 @@ use lib.Seq.{take_at, drop_at}
 use Rattle.theory.specs.Lists.{join}
 use Rattle.score.specs.Limits.{most_columns}
 use Rattle.score.specs.Score.{cut, score_of}
-use Rattle.asking.specs.Limits.{narrow_notes}
+use Rattle.asking.specs.Limits.{most_notes}
 use Rattle.asking.specs.Asking.{Accepted}
 use Rattle.words.specs.Words.{Read, got, bad}
 use Rattle.reading.specs.Reading.{Theme, chord_line, theme_line}
@@ -138,7 +138,7 @@ module _ (q : Request) (r : Right q) where
   right_score = score_is (length q.columns) r.tracks (join q.columns) r.tracks_some cells_long ∙ cut_join r.tracks q.columns r.columns
 
   -- and it is accepted by every search
-  pub right_accepted : Accepted narrow_notes (join q.columns) r.tracks q.theme.notes
+  pub right_accepted : Accepted most_notes (join q.columns) r.tracks q.theme.notes
   right_accepted =
       accepted_of (length q.columns) r.tracks (join q.columns) r.tracks_some cells_long q.theme r.theme r.tracks_few r.columns_some r.columns_few
       (subst (Each (IsChord r.tracks)) (sym (cut_join r.tracks q.columns r.columns)) r.columns)

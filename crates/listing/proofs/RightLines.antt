@@ -11,7 +11,7 @@ use lib.ListN.{length, drop}
 use lib.Seq.{drop-drop}
 use borrow.Author.Tests.{leb-true, eqb-true}
 use Rattle.theory.specs.Lists.{join}
-use Rattle.asking.specs.Limits.{narrow_notes}
+use Rattle.asking.specs.Limits.{most_notes}
 use Rattle.score.specs.Limits.{most_tracks}
 use Rattle.ways.specs.declared.way.Way.TheVariants.{Exact, Octave}
 use Rattle.ways.specs.declared.way.AnyWay.{AnyWay}
@@ -85,13 +85,13 @@ pub record Sung (text : List ℕ) (theme : Theme) (rest : List ℕ) : Type 0 whe
 
 notes_is : (way : AnyWay) (text : List ℕ) {theme : Theme} {rest : List ℕ} → notes_of way text ≡ got theme rest
     → IsTheme theme × (theme.way ≡ way) × (text ≡ fields_text theme.notes ++ rest)
-notes_is way text {theme} {rest} e = step (counted (leb 2) (fields false narrow_notes text)) refl e
+notes_is way text {theme} {rest} e = step (counted (leb 2) (fields false most_notes text)) refl e
   where
-    step : (r : Read (List ℕ)) → counted (leb 2) (fields false narrow_notes text) ≡ r → next r (λ notes end. got (record { way = way; notes = notes }) end) ≡ got theme rest
+    step : (r : Read (List ℕ)) → counted (leb 2) (fields false most_notes text) ≡ r → next r (λ notes end. got (record { way = way; notes = notes }) end) ≡ got theme rest
         → IsTheme theme × (theme.way ≡ way) × (text ≡ fields_text theme.notes ++ rest)
     step bad p k = absurd (bad_got k)
     step (got notes end) p k =
-        let c = counted_fields (leb 2) false narrow_notes text p in
+        let c = counted_fields (leb 2) false most_notes text p in
         let t : IsTheme (record { way = way; notes = notes })
         = record { notes_some = leb-true 2 (length notes) c.count; notes_few = c.fielded.few; notes = c.fielded.right } in
         subst (λ (u : Theme). IsTheme u × (u.way ≡ way) × (text ≡ fields_text u.notes ++ rest)) (got_value k)

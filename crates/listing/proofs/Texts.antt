@@ -10,7 +10,7 @@ use lib.Dec.{ltb, eqb}
 use lib.ListN.{length, drop}
 use borrow.Author.Tests.{le-leb, ltb-true, ltb-false, ne_eqb, eq-eqb}
 use Rattle.theory.specs.Lists.{join}
-use Rattle.asking.specs.Limits.{narrow_notes}
+use Rattle.asking.specs.Limits.{most_notes}
 use Rattle.score.specs.Limits.{most_tracks, most_columns, highest_pitch, rest_cell}
 use Rattle.ways.specs.declared.way.Way.TheVariants.{Exact, Octave}
 use Rattle.ways.specs.declared.way.AnyWay.{AnyWay}
@@ -143,11 +143,11 @@ pub theme_text_lem : (theme : Theme) (rest : List ℕ) → IsTheme theme → the
 unfolding theme_line
 theme_text_lem theme rest h = step theme.way theme.notes h.notes_some h.notes_few h.notes
   where
-    step : (way : AnyWay) (notes : List ℕ) → 2 ≤ length notes → length notes ≤ narrow_notes → Each IsNote notes
+    step : (way : AnyWay) (notes : List ℕ) → 2 ≤ length notes → length notes ≤ most_notes → Each IsNote notes
         → theme_line (theme_text (record { way = way; notes = notes }) ++ rest) ≡ got (record { way = way; notes = notes }) rest
-    step (Moved Exact) notes s f r = rw (fields_text_lem false narrow_notes notes rest f r, le-leb 2 (length notes) s)
-    step (Moved Octave) notes s f r = rw (fields_text_lem false narrow_notes notes rest f r, le-leb 2 (length notes) s)
-    step Written notes s f r = rw (fields_text_lem false narrow_notes notes rest f r, le-leb 2 (length notes) s)
+    step (Moved Exact) notes s f r = rw (fields_text_lem false most_notes notes rest f r, le-leb 2 (length notes) s)
+    step (Moved Octave) notes s f r = rw (fields_text_lem false most_notes notes rest f r, le-leb 2 (length notes) s)
+    step Written notes s f r = rw (fields_text_lem false most_notes notes rest f r, le-leb 2 (length notes) s)
 
 -- as many cells as the first chord has, which is right for it and for those behind it
 tracks_first : (h : ℕ) → 1 ≤ h → tracks_right 0 h ≡ true

@@ -2,7 +2,7 @@
 -- and no other one is: `proofs/Outputs` and `proofs/Texts`. Assumes nothing.
 use Rattle.std.specs.Prelude.{◌≡◌, ◌⊎◌, cond, List, [], ◌∷◌, ◌++◌, map, ℕ, ◌≤◌, eqb, length}
 use Rattle.theory.specs.Lists.{join}
-use Rattle.asking.specs.Limits.{narrow_notes}
+use Rattle.asking.specs.Limits.{most_notes}
 use Rattle.score.specs.Limits.{most_tracks, most_columns, highest_pitch, rest_cell}
 use Rattle.ways.specs.declared.way.Way.TheVariants.{Exact, Octave}
 use Rattle.ways.specs.declared.way.AnyWay.{AnyWay}
@@ -55,7 +55,7 @@ pub record IsChord (h : ℕ) (column : List ℕ) : Type 0 where
 -- a theme of 2 to 32 notes
 pub record IsTheme (theme : Theme) : Type 0 where
   pub notes_some : 2 ≤ length theme.notes
-  pub notes_few : length theme.notes ≤ narrow_notes
+  pub notes_few : length theme.notes ≤ most_notes
   pub notes : Each IsNote theme.notes
 
 -- within the limits: such a theme, 1 to 16 tracks, 1 to 2,048 chords that all have them

@@ -2,12 +2,12 @@
 
 ghost use Rattle.std.specs.Prelude.{◌≤◌, length};
 ghost use Rattle.score.specs.Limits.{most_cells};
-ghost use Rattle.asking.specs.Limits.{narrow_notes};
+ghost use Rattle.asking.specs.Limits.{most_notes};
 ghost use Rattle.telling.specs.Telling.{told, Tells};
 ghost use Rattle.listing.specs.Answer.{output};
 ghost use Rattle.listing.specs.Listing.{Lists};
 
-use asking::NARROW_NOTES;
+use asking::MOST_NOTES;
 use reading::{Reading, read};
 use score::MOST_CELLS;
 use telling::{ROOM, Telling, refuse, tell};
@@ -27,7 +27,7 @@ pub fn list(input: &[u8], out: &mut [u8]) -> Listing
     if out.len() < ROOM {
         return Listing::Short;
     }
-    let mut theme = [0u8; NARROW_NOTES];
+    let mut theme = [0u8; MOST_NOTES];
     let mut cells = [0u8; MOST_CELLS];
     // there is room, and what is read right is accepted: it is always told
     match answer(input, &mut theme, &mut cells, out) {
@@ -39,7 +39,7 @@ pub fn list(input: &[u8], out: &mut [u8]) -> Listing
 
 // The output, by way of room for a theme and for cells.
 fn answer(input: &[u8], theme: &mut [u8], cells: &mut [u8], out: &mut [u8]) -> Telling
-    requires { (narrow_notes ≤ length theme.old) × (most_cells ≤ length cells.old) }
+    requires { (most_notes ≤ length theme.old) × (most_cells ≤ length cells.old) }
     ensures { Tells (told (output input.now) out.old) result out.new }
 {
     match read(input, theme, cells) {

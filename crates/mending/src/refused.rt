@@ -34,15 +34,12 @@ pub struct Twisted {
 }
 
 // The ends of the ranges: what is changed, and four numbers that it gets.
-const ROWS: usize = 17;
-
-const ENDS: [[u16; 5]; ROWS] = [
+const ENDS: [[u16; 5]; 16] = [
     [1, 0, 1, 16, 17],
     [2, 0, 1, 2048, 2049],
     [3, 9, 10, 11, 12],
     [4, 127, 128, 254, 255],
     [5, 1, 2, 32, 33],
-    [5, 34, 63, 64, 65],
     [6, 0, 127, 128, 255],
     [7, 0, 3, 4, 5],
     [8, 0, 4095, 4096, 65535],
@@ -62,7 +59,7 @@ const FAULTS: [[u16; 9]; 10] = [
     [1, 0, 0, 1, 0, 17, 1, 0, 255],
     [3, 0, 9, 2, 0, 0, 2, 0, 2049],
     [4, 0, 128, 4, 5, 200, 4, 9, 254],
-    [5, 0, 1, 5, 0, 65, 5, 0, 0],
+    [5, 0, 1, 5, 0, 33, 5, 0, 0],
     [6, 0, 128, 6, 1, 255, 6, 2, 200],
     [7, 0, 3, 7, 0, 5, 7, 0, 0],
     [8, 0, 4096, 8, 1, 65535, 8, 3, 5000],
@@ -71,10 +68,8 @@ const FAULTS: [[u16; 9]; 10] = [
     [COLUMN, 0, 0, COLUMN, 0, 6, COLUMN, 0, 65535],
 ];
 
-// How many there are: 68 ends at three places, and 121 pairs of refusals by nine pairs of faults, each by three calls.
-const ENDS_AT_ONE: usize = 4 * ROWS;
-
-const END_CALLS: usize = 9 * ENDS_AT_ONE;
+// How many there are: 64 ends at three places, and 121 pairs of refusals by nine pairs of faults, each by three calls.
+const END_CALLS: usize = 576;
 
 const DUE_CALLS: usize = 3267;
 
@@ -83,7 +78,7 @@ pub fn number_of_refused() -> usize {
 }
 
 fn end_item(row: usize, i: usize) -> u16 {
-    if row < ROWS {
+    if row < 16 {
         if i < 5 {
             return ENDS[row][i];
         }
@@ -183,8 +178,8 @@ fn head_at(k: usize, head: Head) -> Head {
 // Both ends of every range, at each place.
 fn end_call(k: usize) -> Twisted {
     let e = k / 3;
-    let p = (e / ENDS_AT_ONE % 3) as u8;
-    let c = end(e % ENDS_AT_ONE, p);
+    let p = (e / 64 % 3) as u8;
+    let c = end(e % 64, p);
     let d = untwisted();
     Twisted {
         tried: placed(what_of(c.what), p),

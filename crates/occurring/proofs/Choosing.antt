@@ -15,7 +15,6 @@ use Rattle.score.proofs.Judging.{judge_append, judge_next}
 use Rattle.summing.specs.declared.summary.Summary.{Summary}
 use Rattle.summing.specs.Summary.{summary as summaryIn}
 use Rattle.ways.specs.declared.way.Way.{Way}
-use Rattle.asking.specs.Limits.{most_notes}
 use Rattle.asking.specs.Refusals.{with_sets_rows}
 use Rattle.filter.specs.Limits.{word_bits}
 use Rattle.filter.specs.Table.{theme_table}
@@ -25,7 +24,7 @@ use Rattle.occurring.specs.Occurring.{lacking, quick_list, by_list, row12, Occur
 
 module _ (cells : List ℕ) (h : ℕ) (theme : List ℕ) (way : Way) (sets : List ℕ) (s : Summary) (table : List ℕ) where
   abbrev rows : List Row
-  rows = with_sets_rows most_notes cells h theme sets (length table)
+  rows = with_sets_rows cells h theme sets (length table)
 
   module _ {right : Bool} (e : right ≡ eqb (summaryIn sets) s.0) where
     -- a row that does not apply may come last

@@ -30,7 +30,7 @@ use Rattle.occurring.proofs.Absent.{lacking_none}
 
 module _ (cells : List ℕ) (h : ℕ) (theme sets table : List ℕ) where
   abbrev rows : List Row
-  rows = with_sets_rows most_notes cells h theme sets (length table)
+  rows = with_sets_rows cells h theme sets (length table)
 
   -- what is known where none of these rows applies
   pub record Ready : Type 0 where

@@ -22,7 +22,6 @@ use Rattle.ways.specs.declared.bookmark.Pair.{Pair}
 use Rattle.ways.specs.declared.bookmark.Bookmark.{Bookmark}
 use Rattle.ways.specs.Way.{range_of}
 use Rattle.ways.specs.Bookmarks.{first_bookmark}
-use Rattle.asking.specs.Limits.{most_notes}
 use Rattle.asking.specs.Refusals.{with_sets_rows, page_rows}
 use Rattle.asking.proofs.Rows.{page_clear, quick_clear}
 use Rattle.filter.specs.Limits.{word_bits}
@@ -58,15 +57,15 @@ first_found S right r =
     ∙ sym (take_map S.shown r (hits S.hit S.starts))
 
 pub first_written : (cells : List ℕ) (h : ℕ) (theme : List ℕ) (way : Way) (sets table : List ℕ) (buffers : Lent) {t : Turn} {table' : List ℕ} {after : Lent}
-    → QuickPages word_bits cells h theme way (first_bookmark (range_of way)) sets table buffers (Turned t) table' after
+    → QuickPages cells h theme way (first_bookmark (range_of way)) sets table buffers (Turned t) table' after
     → t.written ≡ length (take (length buffers.columns) (quick_list way (score_of cells h) theme sets))
 first_written cells h theme way sets table buffers {t} q =
     let S = quick_search word_bits way (score_of cells h) theme (theme_table word_bits theme) sets in
     let first = first_bookmark (range_of way) in
-    let asks = (quick_turned word_bits cells h theme way first sets table buffers).0 (t, sym q.pages.answers) in
+    let asks = (quick_turned cells h theme way first sets table buffers).0 (t, sym q.pages.answers) in
     let a = asks.plain.accepted in
     let e : Turned t ≡ (leaf S first buffers).answer =
-    q.pages.answers ∙ ap (λ (l : Leaf). l.answer) (quick_leaf word_bits cells h theme way first sets table buffers asks) in
+    q.pages.answers ∙ ap (λ (l : Leaf). l.answer) (quick_leaf cells h theme way first sets table buffers asks) in
     let few : length (score_of cells h) < 65535 = omega (arith, score_length cells h, a.columns_few) in
     let right = quick_right way (score_of cells h) theme a.notes_some few word_bits (theme_table word_bits theme) sets in
     ap (λ (u : Turn). u.written) (turned_same e) ∙ ap length (first_found S right (length buffers.columns))
@@ -76,7 +75,7 @@ module _ (cells : List ℕ) (h : ℕ) (theme : List ℕ) (way : Way) (sets table
   first = first_bookmark (range_of way)
 
   abbrev rows : List Row
-  rows = with_sets_rows most_notes cells h theme sets (length table)
+  rows = with_sets_rows cells h theme sets (length table)
 
   abbrev last_rows : List Row
   last_rows = page_rows (range_of way) (columns_in cells h) first (length buffers.columns) (length buffers.shifts)
@@ -89,20 +88,20 @@ module _ (cells : List ℕ) (h : ℕ) (theme : List ℕ) (way : Way) (sets table
       (page_clear (range_of way) (columns_in cells h) first buffers.columns buffers.shifts).0
       (omega (arith, room.of_columns), room.of_shifts ∙ sym room.of_columns, first_range (way_narrow way) (columns_in cells h))
 
-  page_rows_lem : quick_page word_bits cells h theme way first sets table buffers ≡ judge rows (away buffers) (leaf S first buffers)
+  page_rows_lem : quick_page cells h theme way first sets table buffers ≡ judge rows (away buffers) (leaf S first buffers)
   unfolding quick_page
   page_rows_lem =
       judge_append (away buffers) (leaf S first buffers) rows last_rows
       ∙ ap (judge rows (away buffers)) (judge_clear (away buffers) (leaf S first buffers) last_rows last_clear)
 
-  table_rows : quick_table word_bits cells h theme way first sets table buffers ≡ judge rows (λ r. table) (theme_table word_bits theme)
+  table_rows : quick_table cells h theme way first sets table buffers ≡ judge rows (λ r. table) (theme_table word_bits theme)
   unfolding quick_table
   table_rows =
       judge_append (λ r. table) (theme_table word_bits theme) rows last_rows
       ∙ ap (judge rows (λ r. table)) (judge_clear (λ r. table) (theme_table word_bits theme) last_rows last_clear)
 
   -- a page that is turned
-  module _ {t : Turn} {table' : List ℕ} {after : Lent} (q : QuickPages word_bits cells h theme way first sets table buffers (Turned t) table' after) where
+  module _ {t : Turn} {table' : List ℕ} {after : Lent} (q : QuickPages cells h theme way first sets table buffers (Turned t) table' after) where
     written_is : t.written ≡ length (take 1 (quick_list way (score_of cells h) theme sets))
     written_is =
         first_written cells h theme way sets table buffers q
@@ -111,8 +110,8 @@ module _ (cells : List ℕ) (h : ℕ) (theme : List ℕ) (way : Way) (sets table
     turned_answers : OccursBy rows cells h theme way sets table (cond (eqb t.written 0) Nowhere Somewhere) table'
     turned_answers =
         let clear =
-        (clear_split rows last_rows ((quick_clear word_bits cells h theme way first sets table buffers.columns buffers.shifts).0
-        ((quick_turned word_bits cells h theme way first sets table buffers).0 (t, sym q.pages.answers)))).0 in
+        (clear_split rows last_rows ((quick_clear cells h theme way first sets table buffers.columns buffers.shifts).0
+        ((quick_turned cells h theme way first sets table buffers).0 (t, sym q.pages.answers)))).0 in
         record {
           answers = ap (λ (n : ℕ). cond (eqb n 0) Nowhere Somewhere) written_is
               ∙ first_tells (quick_list way (score_of cells h) theme sets)
@@ -121,7 +120,7 @@ module _ (cells : List ℕ) (h : ℕ) (theme : List ℕ) (way : Way) (sets table
         }
 
   -- and one that is refused
-  refused_answers : {r : Refusal} {table' : List ℕ} {after : Lent} → QuickPages word_bits cells h theme way first sets table buffers (Refused r) table' after
+  refused_answers : {r : Refusal} {table' : List ℕ} {after : Lent} → QuickPages cells h theme way first sets table buffers (Refused r) table' after
       → OccursBy rows cells h theme way sets table (Away r) table'
   refused_answers {r} q =
       record {
@@ -134,11 +133,11 @@ module _ (cells : List ℕ) (h : ℕ) (theme : List ℕ) (way : Way) (sets table
   -- ---- as the code goes: the page's bookmark is the first, and the page is one or the other
 
   module _ {b : Bookmark} {p : Page} {table' : List ℕ} {after : Lent} (begins : b ≡ first)
-      (q : QuickPages word_bits cells h theme way b sets table buffers p table' after) where
-    from_first : {p' : Page} → p ≡ p' → QuickPages word_bits cells h theme way first sets table buffers p' table' after
+      (q : QuickPages cells h theme way b sets table buffers p table' after) where
+    from_first : {p' : Page} → p ≡ p' → QuickPages cells h theme way first sets table buffers p' table' after
     from_first {p'} e =
-        subst (λ (x : Page). QuickPages word_bits cells h theme way first sets table buffers x table' after) e
-        (subst (λ (x : Bookmark). QuickPages word_bits cells h theme way x sets table buffers p table' after) begins q)
+        subst (λ (x : Page). QuickPages cells h theme way first sets table buffers x table' after) e
+        (subst (λ (x : Bookmark). QuickPages cells h theme way x sets table buffers p table' after) begins q)
 
     pub page_without : {t : Turn} → p ≡ Turned t → t.written ≡ 0 → OccursBy rows cells h theme way sets table Nowhere table'
     page_without {t} e z =

@@ -10,7 +10,6 @@ use Rattle.summing.specs.declared.summary.Summary.{Summary}
 use Rattle.summing.specs.Summary.{summary as summaryIn}
 use Rattle.ways.specs.declared.way.Way.{Way}
 use Rattle.ways.specs.declared.bookmark.Pair.{Pair}
-use Rattle.asking.specs.Limits.{most_notes}
 use Rattle.asking.specs.Refusals.{with_sets_rows}
 use Rattle.filter.specs.Limits.{word_bits}
 use Rattle.filter.specs.Table.{theme_interval, theme_table}
@@ -40,7 +39,7 @@ row12 sets summary = row 12 (not (eqb (summaryIn sets) summary.0)) 0
 
 -- 1 to 8, 12, in this order
 abbrev pub occurs_rows : (cells : List ℕ) (h : ℕ) (theme sets : List ℕ) → Summary → (table : List ℕ) → List Row
-occurs_rows cells h theme sets summary table = with_sets_rows most_notes cells h theme sets (length table) ++ row12 sets summary ∷ []
+occurs_rows cells h theme sets summary table = with_sets_rows cells h theme sets (length table) ++ row12 sets summary ∷ []
 
 -- ---- what the call promises
 

@@ -7,7 +7,6 @@
 ghost use Rattle.std.specs.Prelude.{true, not, [], ◌∷◌, ◌++◌, ◌≡◌, eqb, length};
 ghost use Rattle.score.specs.Refusals.{row};
 ghost use Rattle.ways.specs.declared.way.Way.{Way};
-ghost use Rattle.asking.specs.Limits.{most_notes};
 ghost use Rattle.asking.specs.Refusals.{with_sets_rows};
 ghost use Rattle.filter.specs.Limits.{word_bits};
 ghost use Rattle.filter.specs.Table.{table_after};
@@ -15,7 +14,7 @@ ghost use Rattle.summing.specs.Summary.{summary as summaryIn};
 ghost use Rattle.occurring.specs.Occurring.{lacking, OccursBy, Occurs};
 
 use crate::lacking::lacks;
-use asking::{MOST_NOTES, check_with_sets};
+use asking::check_with_sets;
 use filter::fill_table;
 use score::{Refusal, Verdict};
 use search::{AnyWay, Bookmark, Page, Way, quick_page};
@@ -40,7 +39,7 @@ pub fn occurs(
     way: Way,
     sets: &[u16],
     summary: Summary,
-    table: &mut [u64],
+    table: &mut [u32],
 ) -> Occurrence
     ensures { Occurs cells.now tracks theme.now way sets.now summary table.old result table.new }
 {
@@ -66,9 +65,9 @@ fn by_page(
     theme: &[u8],
     way: Way,
     sets: &[u16],
-    table: &mut [u64],
+    table: &mut [u32],
 ) -> Occurrence
-    ensures { OccursBy (with_sets_rows most_notes cells.now tracks theme.now sets.now (length table.old)) cells.now tracks theme.now way sets.now table.old result table.new }
+    ensures { OccursBy (with_sets_rows cells.now tracks theme.now sets.now (length table.old)) cells.now tracks theme.now way sets.now table.old result table.new }
 {
     let mut columns = [0u16; 1];
     let mut shifts = [0i16; 1];
@@ -103,19 +102,12 @@ fn without_walk(
     theme: &[u8],
     sets: &[u16],
     right: bool,
-    table: &mut [u64],
+    table: &mut [u32],
 ) -> Occurrence
     requires { right ≡ true → lacking theme.now (summaryIn sets.now) ≡ true }
-    ensures { (way : Way) → OccursBy (with_sets_rows most_notes cells.now tracks theme.now sets.now (length table.old) ++ row 12 (not right) 0 ∷ []) cells.now tracks theme.now way sets.now table.old result table.new }
+    ensures { (way : Way) → OccursBy (with_sets_rows cells.now tracks theme.now sets.now (length table.old) ++ row 12 (not right) 0 ∷ []) cells.now tracks theme.now way sets.now table.old result table.new }
 {
-    if let Verdict::Refused(e) = check_with_sets(
-        cells,
-        tracks,
-        theme,
-        MOST_NOTES,
-        sets,
-        table.len(),
-    ) {
+    if let Verdict::Refused(e) = check_with_sets(cells, tracks, theme, sets, table.len()) {
         return Occurrence::Refused(e);
     }
     if !right {
@@ -128,7 +120,7 @@ fn without_walk(
 }
 
 // The answer is no, and the table is filled.
-fn nowhere(theme: &[u8], table: &mut [u64]) -> Occurrence
+fn nowhere(theme: &[u8], table: &mut [u32]) -> Occurrence
     ensures value { result ≡ Occurrence.Nowhere }
     ensures table_after { table.new ≡ table_after word_bits theme.now table.old }
 {

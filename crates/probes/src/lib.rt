@@ -1,9 +1,8 @@
 // What is explained in the trials beside their jobs, and which pairs are tried; no explanation is made here.
 //
-// `worked` has cases that can be checked by hand, `crowded` pseudo-random scores of few pitches, `lengthy` those with long
-// themes, and `tried` the columns and shifts at which a score is explained. The functions promise only to be safe and to end.
+// `worked` has cases that can be checked by hand, `crowded` pseudo-random scores of few pitches, and `tried` the columns and
+// shifts at which a score is explained. The functions promise only to be safe and to end.
 
 pub mod crowded;
-pub mod lengthy;
 pub mod tried;
 pub mod worked;

@@ -4,22 +4,19 @@ mod questioning;
 mod refusing;
 
 use editing::edit_all;
-use jobs::buffers::{
-    CELL_PLACES, COUNT_PLACES, Cells, NOTE_PLACES, SET_PLACES, Sets, Table, Tally, Theme,
-    WORD_PLACES,
-};
+use jobs::buffers::{Cells, Sets, Table, Tally, Theme};
 use noting::totals::totals;
 use questioning::ask_all;
 use refusing::refuse_all;
 
 fn main() {
-    let mut cells = [0u8; CELL_PLACES];
-    let mut theme = [0u8; NOTE_PLACES];
-    let mut sets = [0u16; SET_PLACES];
-    let mut old = [0u16; SET_PLACES];
-    let mut fresh = [0u16; SET_PLACES];
-    let mut table = [0u64; WORD_PLACES];
-    let mut tally = [0u64; COUNT_PLACES];
+    let mut cells = [0u8; 34000];
+    let mut theme = [0u8; 64];
+    let mut sets = [0u16; 2100];
+    let mut old = [0u16; 2100];
+    let mut fresh = [0u16; 2100];
+    let mut table = [0u32; 4100];
+    let mut tally = [0u64; 8];
     run(
         &mut cells, &mut theme, &mut sets, &mut old, &mut fresh, &mut table, &mut tally,
     );

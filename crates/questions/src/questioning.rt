@@ -6,12 +6,11 @@ use cases::families::{job, number_of_jobs};
 use changing::turns::{turn_prepare, turn_question};
 use jobs::buffers::{Cells, Sets, Table, Tally, Theme};
 use jobs::job::Job;
-use jobs::shapes::taken;
 use noting::lines::case_answered;
 use noting::notes::{noted_preparation, noted_question};
 use second::asks::{Ask, Call};
 use second::summaries::summary;
-use second::ways::counted;
+use second::ways::{Way, counted};
 
 // Whether a job lists the pairs of a theme, by a quick search too. Of calls by themselves only the quick ones are tried.
 fn lists(call: Call, whole: bool) -> bool {
@@ -30,17 +29,12 @@ fn prepares(call: Call) -> bool {
     }
 }
 
-// Whether a job is a question here: it lists pairs, in a way that has questions. One with a theme that is too long, which has no
-// list, is refused.
-fn asks(call: Call, a: Ask, whole: bool) -> bool {
-    let way = a.way;
-    if !counted(way) {
-        return false;
+// Whether a job is a question here: it lists pairs, in a way that has questions.
+fn asks(call: Call, way: Way, whole: bool) -> bool {
+    if counted(way) {
+        return lists(call, whole);
     }
-    if !taken(a.notes) {
-        return true;
-    }
-    lists(call, whole)
+    false
 }
 
 // The question of a job, by the sets that are lent and their summary; a worked case is written out.
@@ -131,8 +125,9 @@ fn ask(
         return;
     }
     let a = j.a;
+    let way = a.way;
     let call = j.call;
-    let asked = asks(call, a, j.whole);
+    let asked = asks(call, way, j.whole);
     if tried(call, asked) {
         attempt(cells, theme, sets, fresh, table, tally, j, asked);
     }

@@ -6,7 +6,7 @@ use mathlib.Core.Logic.{◌↔◌}
 use mathlib.Core.List.{List}
 use Prim.Native.Nat.{ℕ, ◌≤◌}
 use lib.ListN.{length}
-use Rattle.asking.specs.Limits.{narrow_notes}
+use Rattle.asking.specs.Limits.{most_notes}
 use Rattle.score.specs.Limits.{most_cells}
 use Rattle.reading.specs.declared.request.Reading.{Reading}
 use Rattle.reading.specs.declared.request.Reading.TheVariants.{Bad}
@@ -17,7 +17,7 @@ use Rattle.reading.proofs.FirstFaults.{meaning_fault, meaning_request}
 use Rattle.reading.proofs.Takings.{As, read_as, took_bad, bad_taken}
 
 module _ {input theme cells : List ℕ} {answer : Reading} {theme' cells' : List ℕ}
-    (t : Takes input theme cells answer theme' cells') (few : narrow_notes ≤ length theme) (many : most_cells ≤ length cells) where
+    (t : Takes input theme cells answer theme' cells') (few : most_notes ≤ length theme) (many : most_cells ≤ length cells) where
   pub takes_fault : (n : ℕ) → (answer ≡ Bad n) ↔ FirstFault (lines input) n
   takes_fault n =
       let e = meaning_fault input n in

@@ -9,7 +9,7 @@ use native.Mathlib.Omega.{arith}
 use lib.Dec.{leb, eqb}
 use lib.ListN.{length, drop, length-drop}
 use Rattle.theory.proofs.Lists.{first_le}
-use Rattle.asking.specs.Limits.{narrow_notes}
+use Rattle.asking.specs.Limits.{most_notes}
 use Rattle.score.specs.Limits.{most_tracks, highest_pitch, rest_cell}
 use Rattle.ways.specs.declared.way.Way.TheVariants.{Exact, Octave}
 use Rattle.ways.specs.declared.way.AnyWay.{AnyWay}
@@ -103,7 +103,7 @@ chord_within h text =
 notes_within : (way : AnyWay) (text : List ℕ) → Within 129 text (notes_of way text)
 notes_within way text =
     within_next 0 (λ notes rest. got (record { way = way; notes = notes }) rest)
-    (counted_within (leb 2) (fields_within false narrow_notes text))
+    (counted_within (leb 2) (fields_within false most_notes text))
     (λ notes rest. some (record { way = way; notes = notes }) rest (omega arith))
 
 -- a way's word has 7 bytes at most

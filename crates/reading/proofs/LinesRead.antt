@@ -11,7 +11,7 @@ use lib.ListN.{length, drop}
 use lib.Seq.{drop-drop}
 use borrow.Author.Tests.{eqb-true, eqb-false, ne_eqb}
 use Rattle.theory.specs.Lists.{some}
-use Rattle.asking.specs.Limits.{narrow_notes}
+use Rattle.asking.specs.Limits.{most_notes}
 use Rattle.score.specs.Limits.{most_tracks, highest_pitch}
 use Rattle.ways.specs.declared.way.Way.TheVariants.{Exact, Octave}
 use Rattle.ways.specs.declared.way.AnyWay.{AnyWay}
@@ -198,7 +198,7 @@ notes_ended : (way : AnyWay) {fed : Bool} {line rest text : List ℕ} → Divide
     → Ended fed rest (notes_of way text) (notes_of way line)
 notes_ended way d =
     ended_next (λ notes behind. got (record { way = way; notes = notes }) behind)
-    (counted_ended (leb 2) (fields_ended false narrow_notes d)) (λ notes. gots)
+    (counted_ended (leb 2) (fields_ended false most_notes d)) (λ notes. gots)
 
 -- behind one word and then another
 twice : (j k : ℕ) {fed : Bool} (rest text line : List ℕ) → Divided fed (drop k (drop j line)) rest (drop k (drop j text))

@@ -9,7 +9,7 @@ use lib.Dec.{leb, eqb}
 use lib.ListN.{length, take, drop, length-drop}
 use lib.Seq.{drop-drop, length-take-le}
 use borrow.Author.Tests.{le-leb, lt-leb}
-use Rattle.asking.specs.Limits.{narrow_notes}
+use Rattle.asking.specs.Limits.{most_notes}
 use Rattle.score.specs.Limits.{most_tracks}
 use Rattle.ways.specs.declared.way.Way.TheVariants.{Exact, Octave}
 use Rattle.ways.specs.declared.way.AnyWay.{AnyWay}
@@ -100,8 +100,8 @@ module _ (text : List ℕ) (from h base : ℕ) (into : List ℕ) (room : base + 
 
 -- ---- the notes of a theme line
 
-module _ (text : List ℕ) (from : ℕ) (way : AnyWay) (into : List ℕ) (room : narrow_notes ≤ length into) {r : Line} {into' : List ℕ}
-    (f : Filled text narrow_notes 0 into r into' (fields false narrow_notes (drop from text))) where
+module _ (text : List ℕ) (from : ℕ) (way : AnyWay) (into : List ℕ) (room : most_notes ≤ length into) {r : Line} {into' : List ℕ}
+    (f : Filled text most_notes 0 into r into' (fields false most_notes (drop from text))) where
   abbrev sung : Read (List ℕ) → Read Theme
   sung q = next q (λ notes rest. got (record { way = way; notes = notes }) rest)
 

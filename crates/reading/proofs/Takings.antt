@@ -12,7 +12,7 @@ use lib.ListN.{length, take, drop}
 use lib.Seq.{take-add, length-take-le}
 use borrow.Author.Tests.{le-ltb, ltb-false}
 use Rattle.theory.specs.Lists.{over, join}
-use Rattle.asking.specs.Limits.{narrow_notes}
+use Rattle.asking.specs.Limits.{most_notes}
 use Rattle.score.specs.Limits.{most_tracks, most_columns, most_cells}
 use Rattle.score.specs.Score.{cut}
 use Rattle.score.proofs.Columns.{cut_length, column_length}
@@ -41,20 +41,20 @@ copied_over {into = into} values c t = c.is ∙ ap (λ (l : List ℕ). over into
 
 -- one buffer or the other is shorter than it must be
 abbrev short : (theme cells : List ℕ) → Bool
-short theme cells = ltb (length theme) narrow_notes || ltb (length cells) most_cells
+short theme cells = ltb (length theme) most_notes || ltb (length cells) most_cells
 
 -- both are not
-pub both_long : (theme cells : List ℕ) → short theme cells ≡ false → (narrow_notes ≤ length theme) × (most_cells ≤ length cells)
-both_long theme cells = step (ltb (length theme) narrow_notes) (ltb (length cells) most_cells) refl refl
+pub both_long : (theme cells : List ℕ) → short theme cells ≡ false → (most_notes ≤ length theme) × (most_cells ≤ length cells)
+both_long theme cells = step (ltb (length theme) most_notes) (ltb (length cells) most_cells) refl refl
   where
-    step : (s t : Bool) → ltb (length theme) narrow_notes ≡ s → ltb (length cells) most_cells ≡ t → (s || t) ≡ false → (narrow_notes ≤ length theme) × (most_cells ≤ length cells)
-    step false false p q e = (ltb-false (length theme) narrow_notes p, ltb-false (length cells) most_cells q)
+    step : (s t : Bool) → ltb (length theme) most_notes ≡ s → ltb (length cells) most_cells ≡ t → (s || t) ≡ false → (most_notes ≤ length theme) × (most_cells ≤ length cells)
+    step false false p q e = (ltb-false (length theme) most_notes p, ltb-false (length cells) most_cells q)
     step true t p q e = absurd (true≢false e)
     step false true p q e = absurd (true≢false e)
 
 -- what was read is no more than there is room for
 pub record Within (r : Reading) : Type 0 where
-  pub notes_few : held_notes r ≤ narrow_notes
+  pub notes_few : held_notes r ≤ most_notes
   pub cells_few : held_cells r ≤ most_cells
 
 pub held_within : {input : List ℕ} {r : Reading} {notes cells : List ℕ} → Held input r notes cells → Within r
@@ -103,7 +103,7 @@ module _ (input theme cells : List ℕ) where
         }
 
     -- the lines were read into buffers that are as long as they must be
-    module _ {r : Reading} {notes₁ cells₁ : List ℕ} (w : Held input r notes₁ cells₁) (as-notes : length notes₁ ≡ narrow_notes) (as-cells : length cells₁ ≡ most_cells) where
+    module _ {r : Reading} {notes₁ cells₁ : List ℕ} (w : Held input r notes₁ cells₁) (as-notes : length notes₁ ≡ most_notes) (as-cells : length cells₁ ≡ most_cells) where
       pub takes_held : {m k : ℕ} {theme₂ cells₂ : List ℕ} → m ≡ held_notes r → k ≡ held_cells r → Copied m notes₁ theme theme₂ → Copied k cells₁ cells cells₂
           → Takes input theme cells r theme₂ cells₂
       takes_held {theme₂ = theme₂} {cells₂ = cells₂} p q t s =
@@ -151,9 +151,9 @@ pub record Took (input theme cells : List ℕ) (way : AnyWay) (notes tracks colu
   pub theme_is : theme' ≡ over theme request.theme.notes
   pub cells_are : cells' ≡ over cells (join request.columns)
 
-module _ {input theme cells : List ℕ} {r : Reading} {theme' cells' : List ℕ} (t : Takes input theme cells r theme' cells') (few : narrow_notes ≤ length theme) (many : most_cells ≤ length cells) where
+module _ {input theme cells : List ℕ} {r : Reading} {theme' cells' : List ℕ} (t : Takes input theme cells r theme' cells') (few : most_notes ≤ length theme) (many : most_cells ≤ length cells) where
   pub read_as : As (meaning input) theme cells r theme' cells'
-  read_as = as_takes input theme cells (rw (le-ltb (length theme) narrow_notes few, le-ltb (length cells) most_cells many)) t
+  read_as = as_takes input theme cells (rw (le-ltb (length theme) most_notes few, le-ltb (length cells) most_cells many)) t
 
   pub took_short : r ≡ Short → ⊥
   took_short e = step (meaning input) read_as

@@ -5,7 +5,7 @@ use mathlib.Core.List.{List}
 use Prim.Native.Nat.{ℕ, zero, suc, ◌+◌, ◌≤◌}
 use native.Mathlib.Omega.{arith}
 use lib.ListN.{length, take, drop}
-use Rattle.asking.specs.Limits.{narrow_notes}
+use Rattle.asking.specs.Limits.{most_notes}
 use Rattle.score.specs.Limits.{most_tracks, most_columns}
 use Rattle.score.specs.Score.{cut}
 use Rattle.ways.specs.declared.way.AnyWay.{AnyWay}
@@ -26,7 +26,7 @@ sung way count theme = record { way = way; notes = take count theme }
 pub record ThemeGot (input theme : List ℕ) (way : AnyWay) (count here : ℕ) : Type 0 where
   pub is : theme_line input ≡ got (sung way count theme) (drop here input)
   pub within : here ≤ length input
-  pub few : count ≤ narrow_notes
+  pub few : count ≤ most_notes
 
 pub record ScoreGot (input : List ℕ) (here : ℕ) (cells : List ℕ) (tracks columns : ℕ) : Type 0 where
   pub is : chords most_columns 0 (drop here input) ≡ all (cut columns tracks cells)

@@ -1,7 +1,7 @@
 -- Reading from the front of a text, on from words and cells: the fields of a line up to its line feed, a theme line, a chord
 -- line. The definitions that matter are `theme_line` and `chord_line`. Assumes nothing.
 use Rattle.std.specs.Prelude.{Bool, true, false, cond, ◌&&◌, ◌||◌, List, [], ◌∷◌, ℕ, zero, suc, ◌+◌, leb, eqb, length, drop}
-use Rattle.asking.specs.Limits.{narrow_notes}
+use Rattle.asking.specs.Limits.{most_notes}
 use Rattle.score.specs.Limits.{most_tracks}
 use Rattle.ways.specs.declared.way.Way.TheVariants.{Exact, Octave}
 use Rattle.ways.specs.declared.way.AnyWay.{AnyWay}
@@ -54,7 +54,7 @@ pub record Theme : Type 0 where
   pub notes : List ℕ
 
 abbrev pub notes_of : AnyWay → List ℕ → Read Theme
-notes_of way text = next (counted (leb 2) (fields false narrow_notes text)) (λ notes rest. got (record { way = way; notes = notes }) rest)
+notes_of way text = next (counted (leb 2) (fields false most_notes text)) (λ notes rest. got (record { way = way; notes = notes }) rest)
 
 -- the notes behind a way's word, where that stands behind `theme` and its tab; otherwise what the other ways read
 abbrev pub of_way : (word : List ℕ) → AnyWay → (text : List ℕ) → Read Theme → Read Theme

@@ -2,7 +2,7 @@
 -- and what a whole input leaves in the buffers. Assumes nothing.
 use Rattle.std.specs.Prelude.{◌≡◌, List, ℕ, ◌*◌, ◌≤◌, length, take, drop}
 use Rattle.theory.specs.Lists.{over}
-use Rattle.asking.specs.Limits.{narrow_notes}
+use Rattle.asking.specs.Limits.{most_notes}
 use Rattle.score.specs.Limits.{most_tracks, most_columns}
 use Rattle.reading.specs.declared.lines.Line.{Line}
 use Rattle.reading.specs.declared.lines.Line.TheVariants as Line
@@ -56,7 +56,7 @@ theme_count ThemeLine.Bad = 0
 pub record Themed (text : List ℕ) (r : ThemeLine) (theme : List ℕ) (want : Read Theme) : Type 0 where
   pub is : theme_read text theme r ≡ want
   pub within : theme_next r ≤ length text
-  pub few : theme_count r ≤ narrow_notes
+  pub few : theme_count r ≤ most_notes
 
 abbrev pub chords_read : (cells : List ℕ) → ChordLines → Chords
 chords_read cells (ChordLines.Read tracks columns) = all (cut columns tracks cells)
@@ -79,7 +79,7 @@ pub record Scored (r : ChordLines) (cells : List ℕ) (want : Chords) : Type 0 w
 -- a whole input was read: its notes and its columns stand at the front of the buffers
 pub record Stood (input : List ℕ) (way : AnyWay) (notes tracks columns : ℕ) (theme cells : List ℕ) : Type 0 where
   pub is : meaning input ≡ right (record { theme = record { way = way; notes = take notes theme }; columns = cut columns tracks cells })
-  pub notes_few : notes ≤ narrow_notes
+  pub notes_few : notes ≤ most_notes
   pub tracks_few : tracks ≤ most_tracks
   pub columns_some : 1 ≤ columns
   pub columns_few : columns ≤ most_columns

@@ -2,7 +2,7 @@
 -- (`Takes`). Assumes nothing.
 use Rattle.std.specs.Prelude.{◌≡◌, cond, ◌||◌, List, [], ℕ, ltb, length, get_or}
 use Rattle.theory.specs.Lists.{over, join}
-use Rattle.asking.specs.Limits.{narrow_notes}
+use Rattle.asking.specs.Limits.{most_notes}
 use Rattle.score.specs.Limits.{most_cells}
 use Rattle.reading.specs.declared.request.Reading.{Reading}
 use Rattle.reading.specs.declared.request.Reading.TheVariants.{Right, Bad, Short}
@@ -32,7 +32,7 @@ taken_as (faulty line) theme cells = record { answer = Bad line; theme = theme; 
 -- buffers of which one is too short for some inputs are not written
 unfoldable pub taken : (input theme cells : List ℕ) → Take
 taken input theme cells =
-    cond (ltb (length theme) narrow_notes || ltb (length cells) most_cells) (record { answer = Short; theme = theme; cells = cells }) (taken_as (meaning input) theme cells)
+    cond (ltb (length theme) most_notes || ltb (length cells) most_cells) (record { answer = Short; theme = theme; cells = cells }) (taken_as (meaning input) theme cells)
 
 pub record Takes (input theme cells : List ℕ) (answer : Reading) (theme' cells' : List ℕ) : Type 0 where
   pub answers : answer ≡ (taken input theme cells).answer

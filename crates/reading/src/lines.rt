@@ -2,12 +2,12 @@
 
 ghost use Rattle.std.specs.Prelude.{◌+◌, ◌≤◌, length, drop};
 ghost use Rattle.score.specs.Limits.{most_tracks, most_columns, most_cells};
-ghost use Rattle.asking.specs.Limits.{narrow_notes};
+ghost use Rattle.asking.specs.Limits.{most_notes};
 ghost use Rattle.reading.specs.Reading.{fields as fields_of, chord_line, notes_of, theme_line};
 ghost use Rattle.reading.specs.Request.{chords as chordsOf};
 ghost use Rattle.reading.specs.Steps.{Filled, Themed, Scored};
 
-use asking::NARROW_NOTES;
+use asking::MOST_NOTES;
 use score::{MOST_COLUMNS, MOST_TRACKS};
 use ways::{AnyWay, Way};
 use words::{Numeral, cell, stands};
@@ -119,10 +119,10 @@ pub fn chord_lines(text: &[u8], from: usize, cells: &mut [u8]) -> ChordLines
 
 // The notes of a theme line, from the place behind its way on.
 fn notes(text: &[u8], from: usize, way: AnyWay, theme: &mut [u8]) -> ThemeLine
-    requires { (from ≤ length text.now) × (narrow_notes ≤ length theme.old) }
+    requires { (from ≤ length text.now) × (most_notes ≤ length theme.old) }
     ensures { Themed text.now result theme.new (notes_of way (drop from text.now)) }
 {
-    match fields(text, from, false, NARROW_NOTES, theme, 0) {
+    match fields(text, from, false, MOST_NOTES, theme, 0) {
         Line::Read { count, next } => {
             if 2 <= count {
                 ThemeLine::Read { way, count, next }
@@ -136,7 +136,7 @@ fn notes(text: &[u8], from: usize, way: AnyWay, theme: &mut [u8]) -> ThemeLine
 
 // The theme line at the front of the input.
 pub fn theme_line(text: &[u8], theme: &mut [u8]) -> ThemeLine
-    requires { narrow_notes ≤ length theme.old }
+    requires { most_notes ≤ length theme.old }
     ensures { Themed text.now result theme.new (theme_line text.now) }
 {
     if stands(text, 0, b"theme\texact") {

@@ -2,12 +2,12 @@
 
 ghost use Rattle.std.specs.Prelude.{◌≡◌, ◌≤◌, length};
 ghost use Rattle.score.specs.Limits.{most_cells};
-ghost use Rattle.asking.specs.Limits.{narrow_notes};
+ghost use Rattle.asking.specs.Limits.{most_notes};
 ghost use Rattle.reading.specs.Taking.{Takes};
 ghost use Rattle.reading.specs.Steps.{held_notes, held_cells, Held, Copied};
 
 use crate::lines::{ChordLines, ThemeLine, chord_lines, theme_line};
-use asking::NARROW_NOTES;
+use asking::MOST_NOTES;
 use score::MOST_CELLS;
 use ways::AnyWay;
 
@@ -33,11 +33,11 @@ pub enum Reading {
 pub fn read(input: &[u8], theme: &mut [u8], cells: &mut [u8]) -> Reading
     ensures { Takes input.now theme.old cells.old result theme.new cells.new }
 {
-    if (theme.len() < NARROW_NOTES) | (cells.len() < MOST_CELLS) {
+    if (theme.len() < MOST_NOTES) | (cells.len() < MOST_CELLS) {
         return Reading::Short;
     }
     // the last line may be the faulty one, so what is read goes into the lent buffers when all lines are right
-    let mut notes = [0u8; NARROW_NOTES];
+    let mut notes = [0u8; MOST_NOTES];
     let mut columns = [0u8; MOST_CELLS];
     let reading = all_lines(input, &mut notes, &mut columns);
     copy(theme, &notes, notes_in(reading));
@@ -47,7 +47,7 @@ pub fn read(input: &[u8], theme: &mut [u8], cells: &mut [u8]) -> Reading
 
 // The theme line and all chord lines. Chord lines that are missing altogether are a fault of line 2.
 fn all_lines(input: &[u8], theme: &mut [u8], cells: &mut [u8]) -> Reading
-    requires { (narrow_notes ≤ length theme.old) × (most_cells ≤ length cells.old) }
+    requires { (most_notes ≤ length theme.old) × (most_cells ≤ length cells.old) }
     ensures { Held input.now result theme.new cells.new }
 {
     match theme_line(input, theme) {

@@ -1,6 +1,5 @@
-// Explanations of the worked cases, which are written out; of crowded scores; of long themes; and of some jobs of the trials.
-// Small scores are explained at every column and shift, larger ones about the first pair of their list, and long themes also about
-// the place from which they were cut.
+// Explanations of the worked cases, which are written out; of crowded scores; and of some jobs of the trials. Small scores are
+// explained at every column and shift, larger ones about the first pair of their list.
 
 use cases::arranging::{arrange, arrange_theme};
 use cases::families::{job, number_of_jobs};
@@ -10,22 +9,18 @@ use jobs::job::Job;
 use mending::arranging::lend_sets;
 use mending::edit::lent_of;
 use probes::crowded::{arrange_crowded, crowded_ask, number_of_rounds};
-use probes::lengthy::{arrange_long, at_cut, long_ask, long_rounds};
 use probes::tried::{
     FEW_SHIFTS, SHIFTS, all_pairs, each_column, each_shift, few_column, few_pairs, few_shift,
 };
 use probes::worked::{arrange_worked, number_of_cases, worked_ask};
 use probing::lines::case_head;
 use probing::turns::{Counts, turn};
-use second::asks::{Ask, Call, NARROW_NOTES, columns_of};
+use second::asks::{Ask, Call, columns_of};
 use second::finder::next_pair;
-use second::totals::size16;
 use second::ways::{counted, lowest};
 
-// One of so many jobs is explained, and of those with a long theme one of so many.
+// One of so many jobs is explained.
 const STEP: usize = 211;
-
-const LONG_STEP: usize = 37;
 
 // The columns of a small score, at most, and the cells of one that is so large that all of its jobs are explained.
 const SMALL: usize = 6;
@@ -50,23 +45,16 @@ fn try_each(cells: &[u8], theme: &[u8], sets: &[u16], counts: &mut Counts, a: As
     }
 }
 
-// About the pair that is asked for.
-fn try_about(cells: &[u8], theme: &[u8], sets: &[u16], counts: &mut Counts, a: Ask) {
-    let way = a.way;
-    let n = columns_of(a.cells, a.h);
-    for i in 0..few_pairs() {
-        let column = few_column(size16(a.column), n, i / FEW_SHIFTS);
-        let tried = at(a, column, few_shift(way, a.shift, i % FEW_SHIFTS));
-        turn(cells, theme, sets, counts, tried, false);
-    }
-}
-
 // About the first pair of the list.
 fn try_few(cells: &[u8], theme: &[u8], sets: &[u16], counts: &mut Counts, a: Ask) {
     let way = a.way;
+    let n = columns_of(a.cells, a.h);
     let f = next_pair(cells, theme, sets, a, Call::Plain, 1, lowest(way));
-    let first = at(a, (f.column % 65536) as u16, f.shift);
-    try_about(cells, theme, sets, counts, first);
+    for i in 0..few_pairs() {
+        let column = few_column(f.column, n, i / FEW_SHIFTS);
+        let tried = at(a, column, few_shift(way, f.shift, i % FEW_SHIFTS));
+        turn(cells, theme, sets, counts, tried, false);
+    }
 }
 
 pub fn try_crowded(cells: &mut Cells, theme: &mut Theme, sets: &mut Sets, counts: &mut Counts) {
@@ -74,27 +62,6 @@ pub fn try_crowded(cells: &mut Cells, theme: &mut Theme, sets: &mut Sets, counts
         let a = crowded_ask(round);
         arrange_crowded(cells, theme, sets, a, round);
         try_each(cells, theme, sets, counts, a);
-    }
-}
-
-// A round with a long theme: about the column from which it was cut, and about the first pair of the list.
-fn try_round(
-    cells: &mut Cells,
-    theme: &mut Theme,
-    sets: &mut Sets,
-    counts: &mut Counts,
-    round: usize,
-) {
-    let a = long_ask(round);
-    arrange_long(cells, theme, sets, a, round);
-    let cut = at_cut(cells, a, round);
-    try_about(cells, theme, sets, counts, cut);
-    try_few(cells, theme, sets, counts, a);
-}
-
-pub fn try_long(cells: &mut Cells, theme: &mut Theme, sets: &mut Sets, counts: &mut Counts) {
-    for round in 0..long_rounds() {
-        try_round(cells, theme, sets, counts, round);
     }
 }
 
@@ -109,9 +76,6 @@ fn taken(k: usize, j: Job, a: Ask) -> bool {
     }
     if LARGE < a.cells {
         return true;
-    }
-    if NARROW_NOTES < a.notes {
-        return k % LONG_STEP == 0;
     }
     k % STEP == 0
 }

@@ -26,14 +26,6 @@ pub const WRITTEN_PAGES: usize = 6;
 
 pub const WRITTEN_PAIRS: usize = 7;
 
-pub const NARROW_PAGES: usize = 8;
-
-pub const NARROW_PAIRS: usize = 9;
-
-pub const LONG_PAGES: usize = 10;
-
-pub const LONG_PAIRS: usize = 11;
-
 // Where a page begins, and its room.
 fn opening(a: Ask, call: Call) {
     call_name(call);
@@ -117,29 +109,25 @@ pub fn tail(j: Job) {
     }
 }
 
-// A count after what it is.
-fn counted(text: &[u8], tally: &[u64], place: usize) {
-    say(text);
-    tried(count(tally, place));
-}
-
 // How much was tried, and how many differed.
 pub fn totals(tally: &[u64]) {
-    counted(b"tried: scores", tally, SCORES);
-    counted(b" themes", tally, THEMES);
-    counted(b" pages", tally, PAGES);
-    counted(b" pairs", tally, PAIRS);
-    counted(b" refusals", tally, REFUSALS);
-    counted(b"\nof these in written: pages", tally, WRITTEN_PAGES);
-    counted(b" pairs", tally, WRITTEN_PAIRS);
-    counted(
-        b"\nof these quick by words of 32 bits: pages",
-        tally,
-        NARROW_PAGES,
-    );
-    counted(b" pairs", tally, NARROW_PAIRS);
-    counted(b"\nof these of 33 to 64 notes: pages", tally, LONG_PAGES);
-    counted(b" pairs", tally, LONG_PAIRS);
-    counted(b"\ndiffered", tally, DIFFERED);
+    say(b"tried: scores");
+    tried(count(tally, SCORES));
+    say(b" themes");
+    tried(count(tally, THEMES));
+    say(b" pages");
+    tried(count(tally, PAGES));
+    say(b" pairs");
+    tried(count(tally, PAIRS));
+    say(b" refusals");
+    tried(count(tally, REFUSALS));
+    line();
+    say(b"of these in written: pages");
+    tried(count(tally, WRITTEN_PAGES));
+    say(b" pairs");
+    tried(count(tally, WRITTEN_PAIRS));
+    line();
+    say(b"differed");
+    tried(count(tally, DIFFERED));
     line();
 }

@@ -75,7 +75,6 @@ pub fn call_name(call: Call) {
         Call::Prepare => say(b" prepare"),
         Call::Plain => say(b" plain"),
         Call::Quick => say(b" quick"),
-        Call::Narrow => say(b" quick-32"),
         Call::Both => say(b" both"),
     }
 }
@@ -94,7 +93,6 @@ pub fn fault_name(fault: Fault) {
         Fault::Table => say(b" table"),
         Fault::Pages => say(b" pages"),
         Fault::Beside => say(b" quick-beside-plain"),
-        Fault::Widths => say(b" quick-32-beside-quick"),
         Fault::Answer => say(b" answer"),
         Fault::Summary => say(b" summary"),
         Fault::Fresh => say(b" beside-a-fresh-preparation"),

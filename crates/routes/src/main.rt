@@ -4,14 +4,14 @@ mod barring;
 
 use attempts::{stray_broad, stray_jobs, stray_patterns, stray_shown, stray_thick};
 use barring::bar_all;
-use jobs::buffers::{CELL_PLACES, Cells, NOTE_PLACES, SET_PLACES, Sets, Theme};
+use jobs::buffers::{Cells, Sets, Theme};
 use straying::strays::Counts;
 use straying::tallies::tallies;
 
 fn main() {
-    let mut cells = [0u8; CELL_PLACES];
-    let mut theme = [0u8; NOTE_PLACES];
-    let mut sets = [0u16; SET_PLACES];
+    let mut cells = [0u8; 34000];
+    let mut theme = [0u8; 64];
+    let mut sets = [0u16; 2100];
     let mut counts = [0u64; 40];
     run(&mut cells, &mut theme, &mut sets, &mut counts);
 }

@@ -12,6 +12,7 @@ use Rattle.ways.specs.declared.way.Way.{Way}
 use Rattle.ways.specs.declared.bookmark.Bookmark.{Bookmark}
 use Rattle.asking.specs.Asking.{QuickAsks}
 use Rattle.asking.proofs.Rows.{quick_clear}
+use Rattle.filter.specs.Limits.{word_bits}
 use Rattle.filter.specs.Table.{theme_table}
 use Rattle.paging.specs.declared.page.Turn.{Turn}
 use Rattle.paging.specs.declared.page.Page.{Page}
@@ -24,47 +25,47 @@ use Rattle.walking.specs.Starts.{Place}
 use Rattle.search.specs.Pairs.{quick_search}
 use Rattle.search.specs.Page.{rows_of_quick, quick_page, quick_table, QuickPages}
 
-module _ (w : ℕ) (cells : List ℕ) (h : ℕ) (theme : List ℕ) (way : Way) (b : Bookmark) (sets table : List ℕ) (buffers : Lent) where
+module _ (cells : List ℕ) (h : ℕ) (theme : List ℕ) (way : Way) (b : Bookmark) (sets table : List ℕ) (buffers : Lent) where
   abbrev S : Search Place
-  S = quick_search w way (score_of cells h) theme (theme_table w theme) sets
+  S = quick_search word_bits way (score_of cells h) theme (theme_table word_bits theme) sets
 
   abbrev Asks : Type 0
-  Asks = QuickAsks w cells h theme way b sets table buffers.columns buffers.shifts
+  Asks = QuickAsks cells h theme way b sets table buffers.columns buffers.shifts
 
-  pub quick_leaf : Asks → quick_page w cells h theme way b sets table buffers ≡ leaf S b buffers
+  pub quick_leaf : Asks → quick_page cells h theme way b sets table buffers ≡ leaf S b buffers
   unfolding quick_page
   quick_leaf a =
-      paged_clear (rows_of_quick w cells h theme way b sets table buffers) S b buffers ((quick_clear w cells h theme way b sets table buffers.columns buffers.shifts).0 a)
+      paged_clear (rows_of_quick cells h theme way b sets table buffers) S b buffers ((quick_clear cells h theme way b sets table buffers.columns buffers.shifts).0 a)
 
   -- it leaves the theme's table
-  pub quick_fills : Asks → quick_table w cells h theme way b sets table buffers ≡ theme_table w theme
+  pub quick_fills : Asks → quick_table cells h theme way b sets table buffers ≡ theme_table word_bits theme
   unfolding quick_table
   quick_fills a =
-      judge_clear (λ r. table) (theme_table w theme) (rows_of_quick w cells h theme way b sets table buffers)
-      ((quick_clear w cells h theme way b sets table buffers.columns buffers.shifts).0 a)
+      judge_clear (λ r. table) (theme_table word_bits theme) (rows_of_quick cells h theme way b sets table buffers)
+      ((quick_clear cells h theme way b sets table buffers.columns buffers.shifts).0 a)
 
-  pub quick_turned : ((t : Turn) × ((quick_page w cells h theme way b sets table buffers).answer ≡ Turned t)) ↔ Asks
+  pub quick_turned : ((t : Turn) × ((quick_page cells h theme way b sets table buffers).answer ≡ Turned t)) ↔ Asks
   unfolding quick_page
   quick_turned =
-      let e = paged_turned (rows_of_quick w cells h theme way b sets table buffers) S b buffers in
-      let k = quick_clear w cells h theme way b sets table buffers.columns buffers.shifts in
+      let e = paged_turned (rows_of_quick cells h theme way b sets table buffers) S b buffers in
+      let k = quick_clear cells h theme way b sets table buffers.columns buffers.shifts in
       (λ t. k.1 (e.0 t), λ a. e.1 (k.0 a))
 
-  pub quick_refused : (k p : ℕ) → ((quick_page w cells h theme way b sets table buffers).answer ≡ Refused (record { number = k; place = p }))
-      ↔ (GivenBy (rows_of_quick w cells h theme way b sets table buffers) k × (p ≡ place_by (rows_of_quick w cells h theme way b sets table buffers) k))
+  pub quick_refused : (k p : ℕ) → ((quick_page cells h theme way b sets table buffers).answer ≡ Refused (record { number = k; place = p }))
+      ↔ (GivenBy (rows_of_quick cells h theme way b sets table buffers) k × (p ≡ place_by (rows_of_quick cells h theme way b sets table buffers) k))
   unfolding quick_page
-  quick_refused k p = paged_refused (rows_of_quick w cells h theme way b sets table buffers) S b buffers refl k p
+  quick_refused k p = paged_refused (rows_of_quick cells h theme way b sets table buffers) S b buffers refl k p
 
   -- nothing is written, the table neither
-  pub quick_kept : (r : Refusal) → (quick_page w cells h theme way b sets table buffers).answer ≡ Refused r
-      → ((quick_page w cells h theme way b sets table buffers).buffers ≡ buffers) × (quick_table w cells h theme way b sets table buffers ≡ table)
+  pub quick_kept : (r : Refusal) → (quick_page cells h theme way b sets table buffers).answer ≡ Refused r
+      → ((quick_page cells h theme way b sets table buffers).buffers ≡ buffers) × (quick_table cells h theme way b sets table buffers ≡ table)
   unfolding quick_page quick_table
   quick_kept r e = (
-    paged_kept (rows_of_quick w cells h theme way b sets table buffers) S b buffers r e,
-    judge_both (λ (l : Leaf) (t : List ℕ). l.answer ≡ Refused r → t ≡ table) (away buffers) (λ r. table) (leaf S b buffers) (theme_table w theme) (λ s f. refl)
-        (λ f. absurd (turned_refused f)) (rows_of_quick w cells h theme way b sets table buffers) e,
+    paged_kept (rows_of_quick cells h theme way b sets table buffers) S b buffers r e,
+    judge_both (λ (l : Leaf) (t : List ℕ). l.answer ≡ Refused r → t ≡ table) (away buffers) (λ r. table) (leaf S b buffers) (theme_table word_bits theme) (λ s f. refl)
+        (λ f. absurd (turned_refused f)) (rows_of_quick cells h theme way b sets table buffers) e,
   )
 
-  pub quick_unique : {a a' : Page} {t t' : List ℕ} {l l' : Lent} → QuickPages w cells h theme way b sets table buffers a t l
-      → QuickPages w cells h theme way b sets table buffers a' t' l' → ((a ≡ a') × (l ≡ l')) × (t ≡ t')
+  pub quick_unique : {a a' : Page} {t t' : List ℕ} {l l' : Lent} → QuickPages cells h theme way b sets table buffers a t l
+      → QuickPages cells h theme way b sets table buffers a' t' l' → ((a ≡ a') × (l ≡ l')) × (t ≡ t')
   quick_unique p q = (pages_unique p.pages q.pages, p.fills_table ∙ sym q.fills_table)

@@ -17,8 +17,9 @@ use Rattle.ways.specs.declared.way.Way.TheVariants.{Exact, Octave}
 use Rattle.ways.specs.declared.bookmark.Bookmark.{Bookmark}
 use Rattle.ways.specs.Way.{range_of, range_as}
 use Rattle.asking.specs.Limits.{most_notes}
-use Rattle.asking.specs.Asking.{Accepted, AcceptedSets, InRange, PageAsks, PlainAsks, QuickAsks}
+use Rattle.asking.specs.Asking.{Accepted, AcceptedSets, InRange, PlainAsks, QuickAsks}
 use Rattle.asking.proofs.Rows.{plain_clear, quick_clear}
+use Rattle.filter.specs.Limits.{word_bits}
 use Rattle.filter.specs.Table.{theme_table}
 use Rattle.paging.specs.Lent.{Lent, Room}
 use Rattle.paging.specs.Search.{Narrow, Right}
@@ -64,12 +65,12 @@ module _ (way : Way) (score : List (List ℕ)) (theme : List ℕ) (notes : 2 ≤
 
 -- ---- the calls
 
-module _ {most : ℕ} (cells : List ℕ) (h : ℕ) (theme : List ℕ) (way : AnyWay) (a : Accepted most cells h theme) (r : ℕ) (room : 1 ≤ r) where
+module _ (cells : List ℕ) (h : ℕ) (theme : List ℕ) (way : AnyWay) (a : Accepted most_notes cells h theme) (r : ℕ) (room : 1 ≤ r) where
   score_few : length (score_of cells h) < 65535
   score_few = omega (arith, score_length cells h, a.columns_few)
 
   asks : (b : Bookmark) (buffers : Lent) → InRange (range_as way) (length (score_of cells h)) b → Room r buffers
-      → PageAsks most cells h theme way b buffers.columns buffers.shifts
+      → PlainAsks cells h theme way b buffers.columns buffers.shifts
   asks b buffers i m =
       record {
         accepted = a;
@@ -78,30 +79,29 @@ module _ {most : ℕ} (cells : List ℕ) (h : ℕ) (theme : List ℕ) (way : Any
         marked = subst (λ (n : ℕ). InRange (range_as way) n b) (score_length cells h) i;
       }
 
-module _ (cells : List ℕ) (h : ℕ) (theme : List ℕ) (way : AnyWay) (a : Accepted most_notes cells h theme) (r : ℕ) (room : 1 ≤ r) where
   pub plain_calls : Calls (search_as way (score_of cells h) theme) r (plain_page cells h theme way)
   unfolding plain_page
   plain_calls =
       record {
-        right = right_as way (score_of cells h) theme a.notes_some (score_few cells h theme way a r room);
+        right = right_as way (score_of cells h) theme a.notes_some score_few;
         some_room = room;
         turns = λ b buffers i m. paged_clear (rows_of_plain cells h theme way b buffers) (search_as way (score_of cells h) theme) b buffers
-            ((plain_clear cells h theme way b buffers.columns buffers.shifts).0 (asks cells h theme way a r room b buffers i m));
+            ((plain_clear cells h theme way b buffers.columns buffers.shifts).0 (asks b buffers i m));
       }
 
 -- with sets that are accepted, and at each call any table of 4,096 places
-module _ {w : ℕ} (cells : List ℕ) (h : ℕ) (theme : List ℕ) (way : Way) (a : Accepted w cells h theme) (r : ℕ) (room : 1 ≤ r)
+module _ (cells : List ℕ) (h : ℕ) (theme : List ℕ) (way : Way) (a : Accepted most_notes cells h theme) (r : ℕ) (room : 1 ≤ r)
     (sets : List ℕ) (s : AcceptedSets cells h sets) (table : Bookmark → Lent → List ℕ)
     (long : (b : Bookmark) (buffers : Lent) → length (table b buffers) ≡ table_words) where
-  pub quick_calls : Calls (quick_search w way (score_of cells h) theme (theme_table w theme) sets) r (λ b buffers. quick_page w cells h theme way b sets (table b buffers) buffers)
+  pub quick_calls : Calls (quick_search word_bits way (score_of cells h) theme (theme_table word_bits theme) sets) r (λ b buffers. quick_page cells h theme way b sets (table b buffers) buffers)
   unfolding quick_page
   quick_calls =
       record {
-        right = quick_right way (score_of cells h) theme a.notes_some (score_few cells h theme (Moved way) a r room) w (theme_table w theme) sets;
+        right = quick_right way (score_of cells h) theme a.notes_some (score_few cells h theme (Moved way) a r room) word_bits (theme_table word_bits theme) sets;
         some_room = room;
         turns =
             λ b buffers i m.
-            paged_clear (rows_of_quick w cells h theme way b sets (table b buffers) buffers) (quick_search w way (score_of cells h) theme (theme_table w theme) sets) b buffers
-            ((quick_clear w cells h theme way b sets (table b buffers) buffers.columns buffers.shifts).0
+            paged_clear (rows_of_quick cells h theme way b sets (table b buffers) buffers) (quick_search word_bits way (score_of cells h) theme (theme_table word_bits theme) sets) b buffers
+            ((quick_clear cells h theme way b sets (table b buffers) buffers.columns buffers.shifts).0
             (record { plain = asks cells h theme (Moved way) a r room b buffers i m; with_sets = s; table_long = long b buffers }));
       }

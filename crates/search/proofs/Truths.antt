@@ -29,7 +29,8 @@ use Rattle.ways.specs.declared.bookmark.Bookmark.{Bookmark}
 use Rattle.ways.specs.Way.{Holds, range_as}
 use Rattle.ways.specs.Bookmarks.{finished_bookmark}
 use Rattle.asking.specs.Limits.{most_notes}
-use Rattle.asking.specs.Asking.{Accepted, AcceptedSets, PageAsks, PlainAsks}
+use Rattle.asking.specs.Asking.{Accepted, AcceptedSets, PlainAsks}
+use Rattle.filter.specs.Limits.{word_bits}
 use Rattle.filter.specs.Table.{theme_table}
 use Rattle.paging.specs.declared.page.Turn.{Turn}
 use Rattle.paging.specs.declared.page.Page.{Page}
@@ -72,15 +73,15 @@ module _ (cells : List ℕ) (h : ℕ) (theme : List ℕ) (b : Bookmark) (buffers
       as_stands way (score_of cells h) theme (omega (arith, a.accepted.notes_some)) (in_first (length buffers.columns) b (pairs_as way (score_of cells h) theme) (subst (In pair) p.front m))
 
   -- with sets of any score: nothing false is listed
-  pub quick_true : {w : ℕ} (way : Way) (a : PageAsks w cells h theme (Moved way) b buffers.columns buffers.shifts) (lent table : List ℕ)
+  pub quick_true : (way : Way) (a : PlainAsks cells h theme (Moved way) b buffers.columns buffers.shifts) (lent table : List ℕ)
       (s : AcceptedSets cells h lent) (e : length table ≡ table_words) {pair : Pair}
-      → In pair (read_pairs (quick_page_lem cells h theme way b buffers a lent table s e).turn.written (quick_page w cells h theme way b lent table buffers).buffers)
+      → In pair (read_pairs (quick_page_lem cells h theme way b buffers a lent table s e).turn.written (quick_page cells h theme way b lent table buffers).buffers)
       → Stands way (score_of cells h) theme pair
-  quick_true {w} way a lent table s e {pair} m =
+  quick_true way a lent table s e {pair} m =
       let p = quick_page_lem cells h theme way b buffers a lent table s e in
-      let c : In pair (candidate_pairs w way (score_of cells h) theme lent)
-      = in_first (length buffers.columns) b (candidate_pairs w way (score_of cells h) theme lent) (subst (In pair) p.front m) in
-      listed_stands way (score_of cells h) theme (in_hits (λ (q : Pair). candidate_of w (score_of cells h) (theme_table w theme) lent (length theme) (rank_of (score_of cells h) q.column)) (pairs way (score_of cells h) theme) c).0
+      let c : In pair (candidate_pairs way (score_of cells h) theme lent)
+      = in_first (length buffers.columns) b (candidate_pairs way (score_of cells h) theme lent) (subst (In pair) p.front m) in
+      listed_stands way (score_of cells h) theme (in_hits (λ (q : Pair). candidate_of word_bits (score_of cells h) (theme_table word_bits theme) lent (length theme) (rank_of (score_of cells h) q.column)) (pairs way (score_of cells h) theme) c).0
 
 -- ---- looks: the answer's own, within the bound
 
@@ -106,13 +107,13 @@ module _ (cells : List ℕ) (h : ℕ) (theme : List ℕ) (b : Bookmark) (buffers
       ap looks_of (sym e ∙ ap (λ (l : Leaf). l.answer) (plain_leaf cells h theme Written b buffers a)) in
       omega (arith, q, page_within (search_as Written (score_of cells h) theme) (length buffers.columns) b, sum_none (count 1 (length (heard_of (score_of cells h)) + 1 - length theme)))
 
-  pub quick_looks_le : (w : ℕ) (way : Way) (lent table : List ℕ) → (quick_page w cells h theme way b lent table buffers).answer ≡ Turned t → t.looks ≤ most_looks cells h theme
+  pub quick_looks_le : (way : Way) (lent table : List ℕ) → (quick_page cells h theme way b lent table buffers).answer ≡ Turned t → t.looks ≤ most_looks cells h theme
   unfolding looks_of
-  quick_looks_le w way lent table e =
-      let a = (quick_turned w cells h theme way b lent table buffers).0 (t, e) in
-      let q : t.looks ≡ spent (quick_search w way (score_of cells h) theme (theme_table w theme) lent) (length buffers.columns) b =
-      ap looks_of (sym e ∙ ap (λ (l : Leaf). l.answer) (quick_leaf w cells h theme way b lent table buffers a)) in
-      le_trans (le_of_eq q) (quick_page_le cells h theme way b (length buffers.columns) w (theme_table w theme) lent)
+  quick_looks_le way lent table e =
+      let a = (quick_turned cells h theme way b lent table buffers).0 (t, e) in
+      let q : t.looks ≡ spent (quick_search word_bits way (score_of cells h) theme (theme_table word_bits theme) lent) (length buffers.columns) b =
+      ap looks_of (sym e ∙ ap (λ (l : Leaf). l.answer) (quick_leaf cells h theme way b lent table buffers a)) in
+      le_trans (le_of_eq q) (quick_page_le cells h theme way b (length buffers.columns) word_bits (theme_table word_bits theme) lent)
 
 -- ---- what follows from the definition
 
@@ -136,10 +137,10 @@ abbrev end_page : (cells : List ℕ) (h : ℕ) → AnyWay → Lent → Leaf
 end_page cells h way buffers =
     record { answer = Turned (record { written = 0; next = ended cells h way; finished = true; looks = 0 }); buffers = buffers }
 
-module _ (cells : List ℕ) (h : ℕ) (theme : List ℕ) (r : ℕ) (some : 1 ≤ r) (buffers : Lent) (room : Room r buffers) where
-  pub plain_again : Accepted most_notes cells h theme → (way : AnyWay) → plain_page cells h theme way (ended cells h way) buffers ≡ end_page cells h way buffers
-  plain_again a way = finished_again (plain_calls cells h theme way a r some) buffers room
+module _ (cells : List ℕ) (h : ℕ) (theme : List ℕ) (a : Accepted most_notes cells h theme) (r : ℕ) (some : 1 ≤ r) (buffers : Lent) (room : Room r buffers) where
+  pub plain_again : (way : AnyWay) → plain_page cells h theme way (ended cells h way) buffers ≡ end_page cells h way buffers
+  plain_again way = finished_again (plain_calls cells h theme way a r some) buffers room
 
-  pub quick_again : {w : ℕ} → Accepted w cells h theme → (way : Way) (lent table : List ℕ) → AcceptedSets cells h lent → length table ≡ table_words
-      → quick_page w cells h theme way (ended cells h (Moved way)) lent table buffers ≡ end_page cells h (Moved way) buffers
-  quick_again a way lent table s e = finished_again (quick_calls cells h theme way a r some lent s (λ b l. table) (λ b l. e)) buffers room
+  pub quick_again : (way : Way) (lent table : List ℕ) → AcceptedSets cells h lent → length table ≡ table_words
+      → quick_page cells h theme way (ended cells h (Moved way)) lent table buffers ≡ end_page cells h (Moved way) buffers
+  quick_again way lent table s e = finished_again (quick_calls cells h theme way a r some lent s (λ b l. table) (λ b l. e)) buffers room

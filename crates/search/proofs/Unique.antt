@@ -8,7 +8,6 @@ use Rattle.search.proofs.PlainCall.{plain_unique}
 use Rattle.search.proofs.QuickCall.{quick_unique}
 use Rattle.search.proofs.page.plain_page
 use Rattle.search.proofs.page.quick_page
-use Rattle.search.proofs.page_32.quick_page_32
 
 pub plain_page_unique : Settles plain_page.Kinds.ps plain_page.Kinds.r plain_page.Reads.Post
 plain_page_unique κs args x y =
@@ -20,15 +19,7 @@ plain_page_unique κs args x y =
 
 pub quick_page_unique : Settles quick_page.Kinds.ps quick_page.Kinds.r quick_page.Reads.Post
 quick_page_unique κs args x y =
-    let ((answer, lent), table) = quick_unique _ _ _ _ _ _ _ _ _ x.meets y.meets in (
-      answer,
-      refl beside refl beside refl beside refl beside refl beside refl
-          beside table beside same_columns lent beside same_shifts lent beside refl,
-    )
-
-pub quick_page_32_unique : Settles quick_page_32.Kinds.ps quick_page_32.Kinds.r quick_page_32.Reads.Post
-quick_page_32_unique κs args x y =
-    let ((answer, lent), table) = quick_unique _ _ _ _ _ _ _ _ _ x.meets y.meets in (
+    let ((answer, lent), table) = quick_unique _ _ _ _ _ _ _ _ x.meets y.meets in (
       answer,
       refl beside refl beside refl beside refl beside refl beside refl
           beside table beside same_columns lent beside same_shifts lent beside refl,

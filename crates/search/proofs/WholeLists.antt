@@ -33,7 +33,8 @@ use Rattle.ways.specs.declared.bookmark.Bookmark.{Bookmark}
 use Rattle.ways.specs.Way.{range_of, range_as}
 use Rattle.ways.specs.Bookmarks.{first_bookmark}
 use Rattle.asking.specs.Limits.{most_notes}
-use Rattle.asking.specs.Asking.{Accepted, AcceptedSets, InRange, PageAsks, PlainAsks}
+use Rattle.asking.specs.Asking.{Accepted, AcceptedSets, InRange, PlainAsks}
+use Rattle.filter.specs.Limits.{word_bits}
 use Rattle.filter.specs.Table.{theme_table}
 use Rattle.paging.specs.Lent.{Lent, Room}
 use Rattle.paging.specs.Search.{all_looks, spent}
@@ -83,8 +84,8 @@ module _ (cells : List ℕ) (h : ℕ) (theme : List ℕ) where
     pub quick_looks_less : (w : ℕ) (table lent : List ℕ) → all_looks (quick_search w way (score_of cells h) theme table lent) ≤ plain_looks (Moved way) (score_of cells h) theme
     quick_looks_less w table lent = only_looks (λ s. candidate_of w (score_of cells h) table lent (length theme) s.column) (plain_search way (score_of cells h) theme)
 
-    pub candidate_looks_le : (w : ℕ) (lent : List ℕ) → candidate_looks w way (score_of cells h) theme lent ≤ plain_looks (Moved way) (score_of cells h) theme
-    candidate_looks_le w lent = quick_looks_less w (theme_table w theme) lent
+    pub candidate_looks_le : (lent : List ℕ) → candidate_looks way (score_of cells h) theme lent ≤ plain_looks (Moved way) (score_of cells h) theme
+    candidate_looks_le lent = quick_looks_less word_bits (theme_table word_bits theme) lent
 
     pub quick_page_le : (b : Bookmark) (r w : ℕ) (table lent : List ℕ) → spent (quick_search w way (score_of cells h) theme table lent) r b ≤ most_looks cells h theme
     quick_page_le b r w table lent =
@@ -98,33 +99,32 @@ module _ (cells : List ℕ) (h : ℕ) (theme : List ℕ) (a : Accepted most_note
       → Lists (plain_page cells h theme way) r (first_bookmark (range_as way)) (pairs_as way (score_of cells h) theme) (plain_looks way (score_of cells h) theme)
   plain_lists way = search_lists (plain_calls cells h theme way a r room)
 
-module _ {w : ℕ} (cells : List ℕ) (h : ℕ) (theme : List ℕ) (way : Way) (a : Accepted w cells h theme) (r : ℕ) (room : 1 ≤ r) where
+module _ (cells : List ℕ) (h : ℕ) (theme : List ℕ) (way : Way) (a : Accepted most_notes cells h theme) (r : ℕ) (room : 1 ≤ r) where
   -- quick, with sets of any score, and at each call any table of 4,096 places: the pairs at candidates
   module _ (lent : List ℕ) (s : AcceptedSets cells h lent) (table : Bookmark → Lent → List ℕ) (long : (b : Bookmark) (buffers : Lent) → length (table b buffers) ≡ table_words) where
-    pub quick_lists : Lists (λ b buffers. quick_page w cells h theme way b lent (table b buffers) buffers) r (first_bookmark (range_of way))
-        (candidate_pairs w way (score_of cells h) theme lent) (candidate_looks w way (score_of cells h) theme lent)
+    pub quick_lists : Lists (λ b buffers. quick_page cells h theme way b lent (table b buffers) buffers) r (first_bookmark (range_of way))
+        (candidate_pairs way (score_of cells h) theme lent) (candidate_looks way (score_of cells h) theme lent)
     quick_lists =
         subst
-        (λ (list : List Pair). Lists (λ b buffers. quick_page w cells h theme way b lent (table b buffers) buffers) r (first_bookmark (range_of way)) list
-        (candidate_looks w way (score_of cells h) theme lent))
-        (quick_pairs w way (score_of cells h) theme lent) (search_lists (quick_calls cells h theme way a r room lent s table long))
+        (λ (list : List Pair). Lists (λ b buffers. quick_page cells h theme way b lent (table b buffers) buffers) r (first_bookmark (range_of way)) list
+        (candidate_looks way (score_of cells h) theme lent))
+        (quick_pairs way (score_of cells h) theme lent) (search_lists (quick_calls cells h theme way a r room lent s table long))
 
   -- with the score's own sets: all pairs
   pub own_lists : (table : Bookmark → Lent → List ℕ) → ((b : Bookmark) (buffers : Lent) → length (table b buffers) ≡ table_words)
-      → Lists (λ b buffers. quick_page w cells h theme way b (sets (score_of cells h)) (table b buffers) buffers) r (first_bookmark (range_of way))
-      (pairs way (score_of cells h) theme) (candidate_looks w way (score_of cells h) theme (sets (score_of cells h)))
+      → Lists (λ b buffers. quick_page cells h theme way b (sets (score_of cells h)) (table b buffers) buffers) r (first_bookmark (range_of way))
+      (pairs way (score_of cells h) theme) (candidate_looks way (score_of cells h) theme (sets (score_of cells h)))
   own_lists table long = rw (← own_pairs cells h theme way a) (quick_lists (sets (score_of cells h)) own_sets table long)
 
 -- ---- one page: the first r pairs at or after the bookmark
 
-module _ (cells : List ℕ) (h : ℕ) (theme : List ℕ) (way : AnyWay) (b : Bookmark) (buffers : Lent) {most : ℕ} (a : PageAsks most cells h theme way b buffers.columns buffers.shifts) where
+module _ (cells : List ℕ) (h : ℕ) (theme : List ℕ) (way : AnyWay) (b : Bookmark) (buffers : Lent) (a : PlainAsks cells h theme way b buffers.columns buffers.shifts) where
   in_score : InRange (range_as way) (length (score_of cells h)) b
   in_score = rw (score_length cells h) a.marked
 
   of_room : Room (length buffers.columns) buffers
   of_room = record { of_columns = refl; of_shifts = a.same_room }
 
-module _ (cells : List ℕ) (h : ℕ) (theme : List ℕ) (way : AnyWay) (b : Bookmark) (buffers : Lent) (a : PlainAsks cells h theme way b buffers.columns buffers.shifts) where
   -- the looks of a page of the plain search
   abbrev pub plain_spent : ℕ
   plain_spent = spent (search_as way (score_of cells h) theme) (length buffers.columns) b
@@ -133,21 +133,21 @@ module _ (cells : List ℕ) (h : ℕ) (theme : List ℕ) (way : AnyWay) (b : Boo
   plain_page_lem =
       subst (λ (n : ℕ). PageOf (pairs_as way (score_of cells h) theme) (range_as way) n plain_spent b buffers (plain_page cells h theme way b buffers))
       (score_length cells h)
-      (call_page (plain_calls cells h theme way a.accepted (length buffers.columns) a.room) b (in_score cells h theme way b buffers a) buffers (of_room cells h theme way b buffers a))
+      (call_page (plain_calls cells h theme way a.accepted (length buffers.columns) a.room) b in_score buffers of_room)
 
-module _ {w : ℕ} (cells : List ℕ) (h : ℕ) (theme : List ℕ) (way : Way) (b : Bookmark) (buffers : Lent)
-    (a : PageAsks w cells h theme (Moved way) b buffers.columns buffers.shifts) where
+module _ (cells : List ℕ) (h : ℕ) (theme : List ℕ) (way : Way) (b : Bookmark) (buffers : Lent)
+    (a : PlainAsks cells h theme (Moved way) b buffers.columns buffers.shifts) where
   -- and of the quick search by these sets
   abbrev pub quick_spent : (lent : List ℕ) → ℕ
-  quick_spent lent = spent (quick_search w way (score_of cells h) theme (theme_table w theme) lent) (length buffers.columns) b
+  quick_spent lent = spent (quick_search word_bits way (score_of cells h) theme (theme_table word_bits theme) lent) (length buffers.columns) b
 
   pub quick_page_lem : (lent table : List ℕ) → AcceptedSets cells h lent → length table ≡ table_words
-      → PageOf (candidate_pairs w way (score_of cells h) theme lent) (range_of way) (columns_in cells h) (quick_spent lent) b buffers
-      (quick_page w cells h theme way b lent table buffers)
+      → PageOf (candidate_pairs way (score_of cells h) theme lent) (range_of way) (columns_in cells h) (quick_spent lent) b buffers
+      (quick_page cells h theme way b lent table buffers)
   quick_page_lem lent table s e =
-      let page : Leaf = quick_page w cells h theme way b lent table buffers in
-      subst (λ (n : ℕ). PageOf (candidate_pairs w way (score_of cells h) theme lent) (range_of way) n (quick_spent lent) b buffers page) (score_length cells h)
+      let page : Leaf = quick_page cells h theme way b lent table buffers in
+      subst (λ (n : ℕ). PageOf (candidate_pairs way (score_of cells h) theme lent) (range_of way) n (quick_spent lent) b buffers page) (score_length cells h)
       (subst (λ (list : List Pair). PageOf list (range_of way) (length (score_of cells h)) (quick_spent lent) b buffers page)
-      (quick_pairs w way (score_of cells h) theme lent)
+      (quick_pairs way (score_of cells h) theme lent)
       (call_page (quick_calls cells h theme way a.accepted (length buffers.columns) a.room lent s (λ b buffers. table) (λ b buffers. e)) b
       (in_score cells h theme (Moved way) b buffers a) buffers (of_room cells h theme (Moved way) b buffers a)))

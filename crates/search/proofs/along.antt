@@ -1,2 +1,2 @@
 -- Laws of the functions of `along`.
-pub mod Calls
+mod Calls

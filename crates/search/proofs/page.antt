@@ -1,3 +1,3 @@
 -- Laws of the functions of `page`.
-pub mod Choosing
+mod Choosing
 mod Silent

@@ -1,2 +1,2 @@
 -- Laws of the functions of `passed`.
-pub mod Laws
+mod Laws

@@ -7,6 +7,7 @@ use Rattle.ways.specs.declared.way.Way.{Way}
 use Rattle.ways.specs.declared.way.AnyWay.{AnyWay}
 use Rattle.ways.specs.declared.bookmark.Bookmark.{Bookmark}
 use Rattle.ways.specs.Way.{Range}
+use Rattle.filter.specs.Limits.{word_bits}
 use Rattle.filter.specs.Table.{theme_table}
 use Rattle.paging.specs.declared.page.Page.{Page}
 use Rattle.paging.specs.declared.page.Page.TheVariants.{Turned, Refused}
@@ -27,20 +28,20 @@ along_page cells h theme way b buffers = paged (rows_of_plain cells h theme way 
 pub record AlongPages (cells : List ℕ) (h : ℕ) (theme : List ℕ) (way : AnyWay) (b : Bookmark) (buffers : Lent) (answer : Page) (after : Lent) : Type 0 where
   pub pages : Pages (along_page cells h theme way b buffers) answer after
 
--- ---- quick, by words of w bits
+-- ---- quick
 
 -- the starts at the columns that a table and sets make candidates
 abbrev pub quick_along : (w : ℕ) → Way → (columns : List (List ℕ)) (theme table sets : List ℕ) → Search Place
 quick_along w way columns theme table sets = only (λ s. candidate w table sets (length theme) s.column) (along_search way columns theme)
 
-unfoldable pub quick_along_page : (w : ℕ) (cells : List ℕ) (h : ℕ) (theme : List ℕ) → Way → Bookmark → (sets table : List ℕ) → Lent → Leaf
-quick_along_page w cells h theme way b sets table buffers =
-    paged (rows_of_quick w cells h theme way b sets table buffers) (quick_along w way (score_of cells h) theme (theme_table w theme) sets) b buffers
+unfoldable pub quick_along_page : (cells : List ℕ) (h : ℕ) (theme : List ℕ) → Way → Bookmark → (sets table : List ℕ) → Lent → Leaf
+quick_along_page cells h theme way b sets table buffers =
+    paged (rows_of_quick cells h theme way b sets table buffers) (quick_along word_bits way (score_of cells h) theme (theme_table word_bits theme) sets) b buffers
 
-pub record QuickAlongPages (w : ℕ) (cells : List ℕ) (h : ℕ) (theme : List ℕ) (way : Way) (b : Bookmark) (sets table : List ℕ) (buffers : Lent)
+pub record QuickAlongPages (cells : List ℕ) (h : ℕ) (theme : List ℕ) (way : Way) (b : Bookmark) (sets table : List ℕ) (buffers : Lent)
     (answer : Page) (table' : List ℕ) (after : Lent) : Type 0 where
-  pub pages : Pages (quick_along_page w cells h theme way b sets table buffers) answer after
-  pub fills_table : table' ≡ quick_table w cells h theme way b sets table buffers
+  pub pages : Pages (quick_along_page cells h theme way b sets table buffers) answer after
+  pub fills_table : table' ≡ quick_table cells h theme way b sets table buffers
 
 -- ---- what is left without the empty columns
 

@@ -75,7 +75,7 @@ plainly c b = plain_page c.cells c.tracks c.theme c.way b (blank c)
 
 abbrev quickly : Case → Way → Bookmark → Leaf
 quickly c way b =
-    quick_page word_bits c.cells c.tracks c.theme way b (setsOf (score_of c.cells c.tracks)) (replicate 4096 0) (blank c)
+    quick_page c.cells c.tracks c.theme way b (setsOf (score_of c.cells c.tracks)) (replicate 4096 0) (blank c)
 
 -- the looks of each quick page; there is none as the tune is written
 abbrev quick_looks : Case → AnyWay → List ℕ

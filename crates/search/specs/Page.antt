@@ -7,6 +7,7 @@ use Rattle.ways.specs.declared.way.Way.{Way}
 use Rattle.ways.specs.declared.way.AnyWay.{AnyWay}
 use Rattle.ways.specs.declared.bookmark.Bookmark.{Bookmark}
 use Rattle.asking.specs.Refusals.{plain_rows, quick_rows}
+use Rattle.filter.specs.Limits.{word_bits}
 use Rattle.filter.specs.Table.{theme_table}
 use Rattle.paging.specs.declared.page.Page.{Page}
 use Rattle.paging.specs.Lent.{Lent}
@@ -26,23 +27,22 @@ plain_page cells h theme way b buffers = paged (rows_of_plain cells h theme way 
 pub record PlainPages (cells : List ℕ) (h : ℕ) (theme : List ℕ) (way : AnyWay) (b : Bookmark) (buffers : Lent) (answer : Page) (after : Lent) : Type 0 where
   pub pages : Pages (plain_page cells h theme way b buffers) answer after
 
--- ---- quick, by words of w bits, for themes of 2 to w notes: refusals 1 to 10; the ways that move the theme. One call has words of 64
--- bits, another of 32
+-- ---- quick: refusals 1 to 10; the ways that move the theme
 
-abbrev pub rows_of_quick : (w : ℕ) (cells : List ℕ) (h : ℕ) (theme : List ℕ) → Way → Bookmark → (sets table : List ℕ) → Lent → List Row
-rows_of_quick w cells h theme way b sets table buffers = quick_rows w cells h theme way b sets table buffers.columns buffers.shifts
+abbrev pub rows_of_quick : (cells : List ℕ) (h : ℕ) (theme : List ℕ) → Way → Bookmark → (sets table : List ℕ) → Lent → List Row
+rows_of_quick cells h theme way b sets table buffers = quick_rows cells h theme way b sets table buffers.columns buffers.shifts
 
 -- a page of the starts at the columns that the theme's table and the lent sets make candidates
-unfoldable pub quick_page : (w : ℕ) (cells : List ℕ) (h : ℕ) (theme : List ℕ) → Way → Bookmark → (sets table : List ℕ) → Lent → Leaf
-quick_page w cells h theme way b sets table buffers =
-    paged (rows_of_quick w cells h theme way b sets table buffers) (quick_search w way (score_of cells h) theme (theme_table w theme) sets) b buffers
+unfoldable pub quick_page : (cells : List ℕ) (h : ℕ) (theme : List ℕ) → Way → Bookmark → (sets table : List ℕ) → Lent → Leaf
+quick_page cells h theme way b sets table buffers =
+    paged (rows_of_quick cells h theme way b sets table buffers) (quick_search word_bits way (score_of cells h) theme (theme_table word_bits theme) sets) b buffers
 
 -- the lent table after it: an accepted call leaves the theme's
-unfoldable pub quick_table : (w : ℕ) (cells : List ℕ) (h : ℕ) (theme : List ℕ) → Way → Bookmark → (sets table : List ℕ) → Lent → List ℕ
-quick_table w cells h theme way b sets table buffers = judge (rows_of_quick w cells h theme way b sets table buffers) (λ r. table) (theme_table w theme)
+unfoldable pub quick_table : (cells : List ℕ) (h : ℕ) (theme : List ℕ) → Way → Bookmark → (sets table : List ℕ) → Lent → List ℕ
+quick_table cells h theme way b sets table buffers = judge (rows_of_quick cells h theme way b sets table buffers) (λ r. table) (theme_table word_bits theme)
 
 -- what a quick call promises: this answer, these buffers, and this table
-pub record QuickPages (w : ℕ) (cells : List ℕ) (h : ℕ) (theme : List ℕ) (way : Way) (b : Bookmark) (sets table : List ℕ) (buffers : Lent)
+pub record QuickPages (cells : List ℕ) (h : ℕ) (theme : List ℕ) (way : Way) (b : Bookmark) (sets table : List ℕ) (buffers : Lent)
     (answer : Page) (table' : List ℕ) (after : Lent) : Type 0 where
-  pub pages : Pages (quick_page w cells h theme way b sets table buffers) answer after
-  pub fills_table : table' ≡ quick_table w cells h theme way b sets table buffers
+  pub pages : Pages (quick_page cells h theme way b sets table buffers) answer after
+  pub fills_table : table' ≡ quick_table cells h theme way b sets table buffers

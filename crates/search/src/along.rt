@@ -4,7 +4,6 @@ ghost use Rattle.std.specs.Prelude.{◌≡◌, ◌<◌};
 ghost use Rattle.score.specs.Score.{column_at};
 ghost use Rattle.ways.specs.Way.{range_of};
 ghost use Rattle.ways.specs.Bookmarks.{finished_bookmark};
-ghost use Rattle.filter.specs.Limits.{word_bits};
 ghost use Rattle.paging.specs.Lent.{lent};
 ghost use Rattle.paging.specs.Turning.{read_turn};
 ghost use Rattle.search.specs.Along.{AlongPages, QuickAlongPages};
@@ -59,11 +58,11 @@ pub fn quick_along_page(
     way: Way,
     bookmark: Bookmark,
     sets: &[u16],
-    table: &mut [u64],
+    table: &mut [u32],
     columns: &mut [u16],
     shifts: &mut [i16],
 ) -> Page
-    ensures { QuickAlongPages word_bits cells.now tracks theme.now way bookmark sets.now table.old (lent columns.old shifts.old) result table.new (lent columns.new shifts.new) }
+    ensures { QuickAlongPages cells.now tracks theme.now way bookmark sets.now table.old (lent columns.old shifts.old) result table.new (lent columns.new shifts.new) }
 {
     match walk_quick(
         cells, tracks, theme, way, bookmark, sets, table, columns, shifts,
@@ -74,7 +73,7 @@ pub fn quick_along_page(
 }
 
 // The answer after a walk through n columns.
-pub fn page_of(way: Way, n: usize, w: Walked, columns: &[u16], shifts: &[i16]) -> Page
+fn page_of(way: Way, n: usize, w: Walked, columns: &[u16], shifts: &[i16]) -> Page
     requires { n < 65536 }
     ensures { result ≡ Page.Turned (read_turn (finished_bookmark (range_of way) (column_at n)) w.found w.looks (lent columns.now shifts.now)) }
 {

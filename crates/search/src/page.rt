@@ -2,7 +2,6 @@
 // scores have none, and then the page goes along all columns. So it does where all are empty, and nothing is found.
 
 ghost use Rattle.std.specs.Prelude.{◌≡◌};
-ghost use Rattle.filter.specs.Limits.{word_bits};
 ghost use Rattle.paging.specs.Lent.{lent};
 ghost use Rattle.search.specs.Page.{PlainPages, QuickPages};
 ghost use Rattle.search.specs.Along.{goes_along};
@@ -17,10 +16,10 @@ use score::{MOST_CELLS, Verdict};
 use ways::{AnyWay, Bookmark, Way};
 
 // So few cells go into a small buffer, which is made ready sooner.
-pub const FEW: usize = 2048;
+const FEW: usize = 2048;
 
 // Whether a page goes along all columns: none of them is empty, or no cell is a pitch.
-pub fn goes_along(cells: &[u8], tracks: usize) -> bool
+fn goes_along(cells: &[u8], tracks: usize) -> bool
     ensures { result ≡ goes_along cells.now tracks }
 {
     if any_empty(cells, tracks) {
@@ -69,7 +68,7 @@ pub fn plain_page(
 }
 
 // The first pairs of those whose column the sets make a candidate, which with the score's own sets are all. Fills the theme's
-// table, whatever it held. Refuses 1 to 10, and then writes nothing. A theme has 2 to 64 notes, as many as a word of the table has bits.
+// table, whatever it held. Refuses 1 to 10, and then writes nothing.
 pub fn quick_page(
     cells: &[u8],
     tracks: usize,
@@ -77,11 +76,11 @@ pub fn quick_page(
     way: Way,
     bookmark: Bookmark,
     sets: &[u16],
-    table: &mut [u64],
+    table: &mut [u32],
     columns: &mut [u16],
     shifts: &mut [i16],
 ) -> Page
-    ensures { QuickPages word_bits cells.now tracks theme.now way bookmark sets.now table.old (lent columns.old shifts.old) result table.new (lent columns.new shifts.new) }
+    ensures { QuickPages cells.now tracks theme.now way bookmark sets.now table.old (lent columns.old shifts.old) result table.new (lent columns.new shifts.new) }
 {
     if goes_along(cells, tracks) {
         return quick_along_page(

@@ -5,9 +5,7 @@ ghost use Rattle.std.specs.Prelude.{◌≡◌, ◌≤◌, ◌<◌, eqb, length, 
 ghost use Rattle.score.specs.Score.{column_at};
 ghost use Rattle.ways.specs.Way.{range_as};
 ghost use Rattle.ways.specs.Bookmarks.{finished_bookmark};
-ghost use Rattle.asking.specs.Limits.{most_notes};
 ghost use Rattle.asking.specs.Asking.{PlainAsks, QuickAsks};
-ghost use Rattle.filter.specs.Limits.{word_bits};
 ghost use Rattle.paging.specs.Lent.{lent};
 ghost use Rattle.search.specs.Page.{PlainPages, QuickPages};
 ghost use Rattle.search.specs.Along.{among, Leaves, InScore};
@@ -20,7 +18,7 @@ use ways::{AnyWay, Bookmark, Way};
 
 // A bookmark of the score among the columns with these numbers: at its own column, or, where that is none of them, at the lowest
 // shift of the next.
-pub fn among(way: AnyWay, bookmark: Bookmark, numbers: &[u16]) -> Bookmark
+fn among(way: AnyWay, bookmark: Bookmark, numbers: &[u16]) -> Bookmark
     requires { (1 ≤ bookmark.column.0) × (length numbers.now < 65535) }
     ensures { result ≡ among (range_as way) numbers.now bookmark }
 {
@@ -52,7 +50,7 @@ fn stands_at(numbers: &[u16], at: usize, number: u16) -> bool
 
 // A page along the columns with these numbers as one of a score of n columns: the columns that it wrote are renamed, and the
 // answer is read off the buffers anew.
-pub fn in_score(
+fn in_score(
     page: Page,
     way: AnyWay,
     n: usize,
@@ -106,14 +104,14 @@ pub fn passed_quick_page(
     way: Way,
     bookmark: Bookmark,
     sets: &[u16],
-    table: &mut [u64],
+    table: &mut [u32],
     kept: &mut [u8],
     columns: &mut [u16],
     shifts: &mut [i16],
 ) -> Page
-    requires quick_asks { QuickAsks most_notes cells.now tracks theme.now way bookmark sets.now table.old columns.old shifts.old }
+    requires quick_asks { QuickAsks cells.now tracks theme.now way bookmark sets.now table.old columns.old shifts.old }
     requires leaves { Leaves cells.now tracks kept.old }
-    ensures { QuickPages word_bits cells.now tracks theme.now way bookmark sets.now table.old (lent columns.old shifts.old) result table.new (lent columns.new shifts.new) }
+    ensures { QuickPages cells.now tracks theme.now way bookmark sets.now table.old (lent columns.old shifts.old) result table.new (lent columns.new shifts.new) }
 {
     let mut all = [0u16; MOST_COLUMNS];
     let q = take_out(cells, tracks, kept, &mut all);

@@ -17,36 +17,13 @@ pub struct Ask {
     pub shift: i16,
 }
 
-// The most notes of a theme, and the most that the quick search by words of 32 bits takes.
-pub const MOST_NOTES: usize = 64;
-
-pub const NARROW_NOTES: usize = 32;
-
-// The calls: preparation, plain search, quick search by words of 64 bits and by words of 32, and all searches beside one another.
+// The calls: preparation, plain and quick search, and these two beside one another.
 #[derive(Drop)]
 pub enum Call {
     Prepare,
     Plain,
     Quick,
-    Narrow,
     Both,
-}
-
-// Whether a call is lent sets and a theme's table.
-pub fn by_sets(call: Call) -> bool {
-    match call {
-        Call::Quick | Call::Narrow => true,
-        _ => false,
-    }
-}
-
-// The most notes that a call takes.
-pub fn most_notes(call: Call) -> usize {
-    if let Call::Narrow = call {
-        NARROW_NOTES
-    } else {
-        MOST_NOTES
-    }
 }
 
 // How many columns so many cells make.

@@ -1,6 +1,6 @@
 // What is turned away, read off the requirement's table row by row, beside the library and without it.
 
-use crate::asks::{Ask, Call, by_sets, columns_of, most_notes};
+use crate::asks::{Ask, Call, columns_of};
 use crate::totals::{byte, less_one, more, set, size16};
 use crate::ways::marked_by;
 
@@ -66,12 +66,12 @@ pub fn of_score(cells: &[u8], many: usize, h: usize) -> Away {
     row(0)
 }
 
-// Rows 4 and 5, where a theme has at most so many notes.
-pub fn of_theme(theme: &[u8], m: usize, most: usize) -> Away {
+// Rows 4 and 5.
+pub fn of_theme(theme: &[u8], m: usize) -> Away {
     if m < 2 {
         return row(4);
     }
-    if most < m {
+    if 32 < m {
         return row(4);
     }
     let bad = first_byte(theme, m, 128, 255);
@@ -133,8 +133,7 @@ fn of_page(a: Ask, n: usize) -> Away {
     row(10)
 }
 
-// What a call is to be turned away with: preparation 1, 2, 3, 6; plain 1 to 5, 9, 10; quick 1 to 10, by
-// words of either width.
+// What a call is to be turned away with: preparation 1, 2, 3, 6; plain 1 to 5, 9, 10; quick 1 to 10.
 pub fn refusal(cells: &[u8], theme: &[u8], sets: &[u16], a: Ask, call: Call) -> Away {
     let n = columns_of(a.cells, a.h);
     let score = of_score(cells, a.cells, a.h);
@@ -144,11 +143,11 @@ pub fn refusal(cells: &[u8], theme: &[u8], sets: &[u16], a: Ask, call: Call) -> 
     if let Call::Prepare = call {
         return of_length(n, a.sets);
     }
-    let notes = of_theme(theme, a.notes, most_notes(call));
+    let notes = of_theme(theme, a.notes);
     if notes.number != 0 {
         return notes;
     }
-    if by_sets(call) {
+    if let Call::Quick = call {
         let length = of_length(n, a.sets);
         if length.number != 0 {
             return length;

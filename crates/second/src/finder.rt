@@ -3,10 +3,8 @@
 // A score is read from the whole lent buffer by its numbers of tracks and columns; a place that is not there is a rest. Columns
 // count from 1, and keep their numbers: those that hold no pitch are passed over one by one wherever the next one is sought.
 
-use crate::asks::{Ask, Call, by_sets, columns_of};
-use crate::totals::{
-    apart, byte, less_one, more, narrow_word, place, product, set, size, twelves, whole, word,
-};
+use crate::asks::{Ask, Call, columns_of};
+use crate::totals::{apart, byte, less_one, more, place, product, set, size, twelves, whole, word};
 use crate::ways::{Way, counted, lowest, same, shift_at, span};
 
 // What comes first at or after a bookmark: a pair, where there is one, and the looks on the way.
@@ -148,7 +146,7 @@ fn reached(cells: &[u8], theme: &[u8], sets: &[u16], a: Ask, call: Call, j: usiz
     if !roomy(cells, a.h, columns_of(a.cells, a.h), j, a.notes) {
         return false;
     }
-    if by_sets(call) {
+    if let Call::Quick = call {
         return candidate(cells, theme, sets, a, j);
     }
     true
@@ -246,21 +244,16 @@ pub fn set_right(cells: &[u8], h: usize, n: usize, k: usize, number: usize) -> b
     number < 4096
 }
 
-// Whether bit i of a word is 1.
-fn word_bit(word: u64, i: u8) -> bool {
-    if i < 64 { (word >> i) % 2 == 1 } else { true }
-}
-
-// Whether a word of so many bits is the theme table's entry l: bit i is bit d of l, d the interval from note i + 1 to note i + 2,
-// and the bits from m - 1 on are 1.
-fn word_right(theme: &[u8], m: usize, l: usize, word: u64, bits: u8) -> bool {
-    for i in 0..bits {
+// Whether a word is the theme table's entry l: bit i is bit d of l, d the interval from note i + 1 to note i + 2, and the bits
+// from m - 1 on are 1.
+fn word_right(theme: &[u8], m: usize, l: usize, word: usize) -> bool {
+    for i in 0..32 {
         let mut one = true;
         let k = size(i);
         if more(k, 1) < m {
             one = bit(l, interval(byte(theme, k), byte(theme, more(k, 1))));
         }
-        if word_bit(word, i) != one {
+        if bit(word, i) != one {
             return false;
         }
     }
@@ -268,21 +261,10 @@ fn word_right(theme: &[u8], m: usize, l: usize, word: u64, bits: u8) -> bool {
 }
 
 // Whether so many entries of a table, each a stride behind the one before, are the theme's.
-pub fn table_right(theme: &[u8], m: usize, table: &[u64], many: usize, stride: usize) -> bool {
+pub fn table_right(theme: &[u8], m: usize, table: &[u32], many: usize, stride: usize) -> bool {
     for i in 0..many {
         let l = product(i, stride);
-        if !word_right(theme, m, l, word(table, l), 64) {
-            return false;
-        }
-    }
-    true
-}
-
-// The same of a table of words of 32 bits.
-pub fn narrow_right(theme: &[u8], m: usize, table: &[u32], many: usize, stride: usize) -> bool {
-    for i in 0..many {
-        let l = product(i, stride);
-        if !word_right(theme, m, l, narrow_word(table, l), 32) {
+        if !word_right(theme, m, l, word(table, l)) {
             return false;
         }
     }

@@ -1,6 +1,6 @@
 // The question whether a theme occurs at all: its answer, and what is turned away.
 
-use crate::asks::{Ask, Call, MOST_NOTES, columns_of};
+use crate::asks::{Ask, Call, columns_of};
 use crate::away::{Away, of_length, of_score, of_sets, of_table, of_theme, row};
 use crate::finder::{bit, interval, next_pair};
 use crate::summaries::summary;
@@ -56,7 +56,7 @@ pub fn question_refusal(cells: &[u8], theme: &[u8], sets: &[u16], a: Ask, lent: 
     if score.number != 0 {
         return score;
     }
-    let notes = of_theme(theme, a.notes, MOST_NOTES);
+    let notes = of_theme(theme, a.notes);
     if notes.number != 0 {
         return notes;
     }

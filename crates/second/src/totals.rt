@@ -11,13 +11,9 @@ pub fn set(s: &[u16], i: usize) -> usize {
     if i < s.len() { size16(s[i]) } else { 0 }
 }
 
-// A word of a table, of 64 bits or of 32.
-pub fn word(s: &[u64], i: usize) -> u64 {
-    if i < s.len() { s[i] } else { 0 }
-}
-
-pub fn narrow_word(s: &[u32], i: usize) -> u64 {
-    if i < s.len() { wide(s[i]) } else { 0 }
+// A word of a table.
+pub fn word(s: &[u32], i: usize) -> usize {
+    if i < s.len() { size32(s[i]) } else { 0 }
 }
 
 // A shift.
@@ -42,13 +38,7 @@ pub fn put_set(s: &mut [u16], i: usize, x: u16) {
     }
 }
 
-pub fn put_word(s: &mut [u64], i: usize, x: u64) {
-    if i < s.len() {
-        s[i] = x;
-    }
-}
-
-pub fn put_narrow(s: &mut [u32], i: usize, x: u32) {
+pub fn put_word(s: &mut [u32], i: usize, x: u32) {
     if i < s.len() {
         s[i] = x;
     }
@@ -100,10 +90,6 @@ pub fn size16(x: u16) -> usize {
 
 pub fn size32(x: u32) -> usize {
     x as usize
-}
-
-pub fn wide(x: u32) -> u64 {
-    x as u64
 }
 
 pub fn whole(x: u8) -> i16 {

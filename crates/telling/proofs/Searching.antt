@@ -23,8 +23,8 @@ use Rattle.score.specs.Sets.{sets as setsOf}
 use Rattle.summing.specs.Summary.{summary_of}
 use Rattle.preparing.specs.Preparing.{Filled, prepare_rows, Prepares}
 use Rattle.score.proofs.Judged.{judge_clear}
-use Rattle.asking.specs.Limits.{narrow_notes}
-use Rattle.asking.proofs.Rows.{accepted_clear, accepted_more, row6_clear}
+use Rattle.asking.specs.Limits.{most_notes}
+use Rattle.asking.proofs.Rows.{accepted_clear, row6_clear}
 use Rattle.score.proofs.Columns.{score_length, column_le}
 use Rattle.ways.specs.declared.way.Way.{Way}
 use Rattle.ways.specs.declared.way.AnyWay.{AnyWay}
@@ -36,7 +36,7 @@ use Rattle.walking.specs.Starts.{Place, starts, hit}
 use Rattle.written.specs.Written.{stands_at}
 use Rattle.search.specs.Pairs.{quick_search, StartAs, search_as, pairs_as}
 use Rattle.search.specs.Page.{PlainPages, QuickPages}
-use Rattle.filter.specs.Limits.{narrow_bits}
+use Rattle.filter.specs.Limits.{word_bits}
 use Rattle.filter.specs.Table.{theme_table}
 use Rattle.ways.specs.Bookmarks.{first_bookmark}
 use Rattle.asking.specs.Asking.{Accepted, AcceptedSets}
@@ -61,7 +61,7 @@ use Rattle.telling.proofs.Widths.{shift_le, lines_le, end_le}
 
 -- what is sought: the quick search by the theme's table; or the columns at which the tune stands as it is written
 abbrev by_way : (cells : List ℕ) (h : ℕ) (theme : List ℕ) (way : AnyWay) (lent : List ℕ) → Search (StartAs way)
-by_way cells h theme (Moved way) lent = quick_search narrow_bits way (score_of cells h) theme (theme_table narrow_bits theme) lent
+by_way cells h theme (Moved way) lent = quick_search word_bits way (score_of cells h) theme (theme_table word_bits theme) lent
 by_way cells h theme Written lent = search_as Written (score_of cells h) theme
 
 abbrev pub search_of : (cells : List ℕ) (h : ℕ) (theme : List ℕ) (way : AnyWay) (lent : List ℕ) → Search (StartAs way)
@@ -71,7 +71,7 @@ search_of cells h theme way lent =
 
 -- a page of it, as the two calls promise it
 module _ {cells : List ℕ} {h : ℕ} {theme : List ℕ} {b : Bookmark} {buffers : Lent} {answer : Page} {after : Lent} where
-  pub quick_told : {way : Way} {sets table table' : List ℕ} → QuickPages narrow_bits cells h theme way b sets table buffers answer table' after
+  pub quick_told : {way : Way} {sets table table' : List ℕ} → QuickPages cells h theme way b sets table buffers answer table' after
       → PageTold cells h theme (Moved way) b sets table buffers answer after
   quick_told q = record { pages = q.pages }
 
@@ -80,10 +80,10 @@ module _ {cells : List ℕ} {h : ℕ} {theme : List ℕ} {b : Bookmark} {buffers
 
 -- ---- the sets that are prepared are the score's own
 
-pub prepared_own : (cells : List ℕ) (h : ℕ) (theme : List ℕ) {lent after : List ℕ} {answer : Preparation} → Accepted narrow_notes cells h theme → length lent ≡ columns_in cells h - 1
+pub prepared_own : (cells : List ℕ) (h : ℕ) (theme : List ℕ) {lent after : List ℕ} {answer : Preparation} → Accepted most_notes cells h theme → length lent ≡ columns_in cells h - 1
     → Prepares cells h lent answer after → after ≡ setsOf (score_of cells h)
 prepared_own cells h theme {lent} a l p =
-    let c = (accepted_clear narrow_notes cells h theme).0 a in
+    let c = (accepted_clear most_notes cells h theme).0 a in
     p.fills
     ∙ ap (λ (f : Filled). f.sets)
     (judge_clear (λ r. record { answer = Preparations.Refused r; sets = lent })
@@ -101,7 +101,7 @@ lines_append a b = ap join (map-append hit_line a b) ∙ join_append (map hit_li
 
 -- ---- bounds
 
-module _ (cells : List ℕ) (h : ℕ) (theme : List ℕ) (a : Accepted narrow_notes cells h theme) where
+module _ (cells : List ℕ) (h : ℕ) (theme : List ℕ) (a : Accepted most_notes cells h theme) where
   abbrev heards : List (List ℕ)
   heards = heard_of (score_of cells h)
 
@@ -133,13 +133,13 @@ module _ (cells : List ℕ) (h : ℕ) (theme : List ℕ) (a : Accepted narrow_no
         fitting_few,
       )
 
-  looks_few_moved : (way : Way) (lent : List ℕ) → candidate_looks narrow_bits way (score_of cells h) theme lent ≤ most_all_looks
+  looks_few_moved : (way : Way) (lent : List ℕ) → candidate_looks way (score_of cells h) theme lent ≤ most_all_looks
   looks_few_moved way lent =
       omega (
         arith,
-        candidate_looks_le cells h theme way narrow_bits lent,
+        candidate_looks_le cells h theme way lent,
         all_looks_le cells h theme (Moved way),
-        mul-le-mul {n₁ = fitting * h} {m₁ = length theme - 1} {n₂ = (most_columns - 1) * most_tracks} {m₂ = narrow_notes - 1}
+        mul-le-mul {n₁ = fitting * h} {m₁ = length theme - 1} {n₂ = (most_columns - 1) * most_tracks} {m₂ = most_notes - 1}
             (mul-le-mul {n₁ = fitting} {m₁ = h} {n₂ = most_columns - 1} {m₂ = most_tracks} fitting_few a.tracks_few)
             (omega (arith, a.notes_few)),
       )
@@ -195,7 +195,7 @@ module _ (cells : List ℕ) (h : ℕ) (theme : List ℕ) (a : Accepted narrow_no
 
 pub record Paging (cells : List ℕ) (h : ℕ) (theme : List ℕ) (way : AnyWay) (lent out₀ table : List ℕ) (buffers : Lent) (out : List ℕ) (b : Bookmark)
     (at found spent : ℕ) (more : Bool) : Type 0 where
-  pub accepted : Accepted narrow_notes cells h theme
+  pub accepted : Accepted most_notes cells h theme
   pub own : lent ≡ setsOf (score_of cells h)
   pub room : Room table buffers out₀
   pub done : List Pair
@@ -203,7 +203,7 @@ pub record Paging (cells : List ℕ) (h : ℕ) (theme : List ℕ) (way : AnyWay)
   pub wrote : Wrote (hit_lines done) 0 out₀ at out
   pub counted : found ≡ length done
 
-module _ (cells : List ℕ) (h : ℕ) (theme : List ℕ) (way : AnyWay) (lent : List ℕ) (a : Accepted narrow_notes cells h theme) (o : lent ≡ setsOf (score_of cells h)) where
+module _ (cells : List ℕ) (h : ℕ) (theme : List ℕ) (way : AnyWay) (lent : List ℕ) (a : Accepted most_notes cells h theme) (o : lent ≡ setsOf (score_of cells h)) where
   -- all pairs are listed
   pub own_list : listed (search_of cells h theme way lent) ≡ pairs_as way (score_of cells h) theme
   own_list = by way
@@ -217,7 +217,7 @@ module _ (cells : List ℕ) (h : ℕ) (theme : List ℕ) (way : AnyWay) (lent : 
   own_looks = by way
     where
       by : (way : AnyWay) → all_looks (search_of cells h theme way lent) ≡ told_looks way (score_of cells h) theme
-      by (Moved way) = ap (λ (l : List ℕ). candidate_looks narrow_bits way (score_of cells h) theme l) o
+      by (Moved way) = ap (λ (l : List ℕ). candidate_looks way (score_of cells h) theme l) o
       by Written = sum_none (count 1 (length (heard_of (score_of cells h)) + 1 - length theme))
 
   abbrev pub call_of : (table : List ℕ) → Bookmark → Lent → Leaf
@@ -231,7 +231,7 @@ module _ (cells : List ℕ) (h : ℕ) (theme : List ℕ) (way : AnyWay) (lent : 
     where
       by : (way : AnyWay) → Calls (search_of cells h theme way lent) page_pairs (λ b buffers. told_page cells h theme way b lent table buffers)
       by (Moved way) = quick_calls cells h theme way a page_pairs (omega arith) lent lent_right (λ _ _. table) (λ _ _. e)
-      by Written = plain_calls cells h theme Written (accepted_more (omega arith) a) page_pairs (omega arith)
+      by Written = plain_calls cells h theme Written a page_pairs (omega arith)
 
   pub paging_start : {table : List ℕ} {buffers : Lent} {out : List ℕ} → Room table buffers out
       → Paging cells h theme way lent out table buffers out (first_bookmark (range_as way)) 0 0 0 true

@@ -21,7 +21,7 @@ use Rattle.score.specs.Refusals.{verdict, GivenBy, place_by}
 use Rattle.score.proofs.Judging.{judge_away}
 use Rattle.score.proofs.Judged.{judge_either, judge_clear, judge_clear_of, verdict_clear, answer_refused}
 use Rattle.ways.specs.declared.way.AnyWay.{AnyWay}
-use Rattle.asking.specs.Limits.{narrow_notes}
+use Rattle.asking.specs.Limits.{most_notes}
 use Rattle.asking.specs.Refusals.{request_rows}
 use Rattle.asking.specs.Asking.{Accepted}
 use Rattle.asking.proofs.Rows.{accepted_clear}
@@ -77,22 +77,22 @@ module _ (text out : List ℕ) where
 -- ---- a search that is checked
 
 module _ (cells : List ℕ) (h : ℕ) (theme : List ℕ) (way : AnyWay) where
-  module _ {v : Verdict} (checked : v ≡ verdict (request_rows narrow_notes cells h theme)) where
-    pub checked_accepted : v ≡ Passed → Accepted narrow_notes cells h theme
-    checked_accepted e = (accepted_clear narrow_notes cells h theme).1 (verdict_clear (request_rows narrow_notes cells h theme) (sym checked ∙ e))
+  module _ {v : Verdict} (checked : v ≡ verdict (request_rows most_notes cells h theme)) where
+    pub checked_accepted : v ≡ Passed → Accepted most_notes cells h theme
+    checked_accepted e = (accepted_clear most_notes cells h theme).1 (verdict_clear (request_rows most_notes cells h theme) (sym checked ∙ e))
 
     pub tells_refused : (out : List ℕ) {r : Refusal} → v ≡ Away r → Tells (search_told cells h theme way out) (Refused r) out
     unfolding search_told
     tells_refused out {r} e =
         let p : search_told cells h theme way out ≡ record { answer = Refused r; out = out } =
-        judge_away (λ r. record { answer = Refused r; out = out }) (told (lines_of way (score_of cells h) theme) out) (request_rows narrow_notes cells h theme) (sym checked ∙ e) in
+        judge_away (λ r. record { answer = Refused r; out = out }) (told (lines_of way (score_of cells h) theme) out) (request_rows most_notes cells h theme) (sym checked ∙ e) in
         record { answers = sym (ap (λ (t : Tale). t.answer) p); writes = sym (ap (λ (t : Tale). t.out) p) }
 
   -- an accepted one
-  pub accepted_told : (out : List ℕ) → Accepted narrow_notes cells h theme → search_told cells h theme way out ≡ told (lines_of way (score_of cells h) theme) out
+  pub accepted_told : (out : List ℕ) → Accepted most_notes cells h theme → search_told cells h theme way out ≡ told (lines_of way (score_of cells h) theme) out
   unfolding search_told
   accepted_told out a =
-      judge_clear (λ r. record { answer = Refused r; out = out }) (told (lines_of way (score_of cells h) theme) out) (request_rows narrow_notes cells h theme) ((accepted_clear narrow_notes cells h theme).0 a)
+      judge_clear (λ r. record { answer = Refused r; out = out }) (told (lines_of way (score_of cells h) theme) out) (request_rows most_notes cells h theme) ((accepted_clear most_notes cells h theme).0 a)
 
   -- ---- when it is refused
 
@@ -103,22 +103,22 @@ module _ (cells : List ℕ) (h : ℕ) (theme : List ℕ) (way : AnyWay) where
     abbrev lines : List ℕ
     lines = lines_of way (score_of cells h) theme
 
-    pub search_accepted : ((r : Refusal) → (search_told cells h theme way out).answer ≡ Refused r → ⊥) ↔ Accepted narrow_notes cells h theme
+    pub search_accepted : ((r : Refusal) → (search_told cells h theme way out).answer ≡ Refused r → ⊥) ↔ Accepted most_notes cells h theme
     unfolding search_told
     search_accepted = (
-      λ f. (accepted_clear narrow_notes cells h theme).1
-          (judge_clear_of away (told lines out) (λ (t : Tale). (r : Refusal) → t.answer ≡ Refused r → ⊥) (λ r g. g r refl) (request_rows narrow_notes cells h theme) f),
+      λ f. (accepted_clear most_notes cells h theme).1
+          (judge_clear_of away (told lines out) (λ (t : Tale). (r : Refusal) → t.answer ≡ Refused r → ⊥) (λ r g. g r refl) (request_rows most_notes cells h theme) f),
       λ a r e. never_refused lines out r (sym (ap (λ (t : Tale). t.answer) (accepted_told out a)) ∙ e),
     )
 
     pub search_refused : (k p : ℕ) → ((search_told cells h theme way out).answer ≡ Refused (record { number = k; place = p }))
-        ↔ (GivenBy (request_rows narrow_notes cells h theme) k × (p ≡ place_by (request_rows narrow_notes cells h theme) k))
+        ↔ (GivenBy (request_rows most_notes cells h theme) k × (p ≡ place_by (request_rows most_notes cells h theme) k))
     unfolding search_told
     search_refused k p =
         answer_refused (λ (t : Tale). t.answer) Refused (λ r s e. cc) away (told lines out) (λ r. refl) (never_refused lines out)
-        (request_rows narrow_notes cells h theme) refl k p
+        (request_rows most_notes cells h theme) refl k p
 
     pub search_kept : ((n : ℕ) → (search_told cells h theme way out).answer ≡ Told n → ⊥) → (search_told cells h theme way out).out ≡ out
     unfolding search_told
     search_kept =
-        judge_either away (told lines out) (λ (t : Tale). ((n : ℕ) → t.answer ≡ Told n → ⊥) → t.out ≡ out) (λ r f. refl) (untold_kept lines out) (request_rows narrow_notes cells h theme)
+        judge_either away (told lines out) (λ (t : Tale). ((n : ℕ) → t.answer ≡ Told n → ⊥) → t.out ≡ out) (λ r f. refl) (untold_kept lines out) (request_rows most_notes cells h theme)

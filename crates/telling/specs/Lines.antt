@@ -7,7 +7,6 @@ use Rattle.score.specs.Sets.{sets}
 use Rattle.ways.specs.declared.way.AnyWay.{AnyWay}
 use Rattle.ways.specs.declared.way.AnyWay.TheVariants.{Moved, Written}
 use Rattle.ways.specs.declared.bookmark.Pair.{Pair}
-use Rattle.filter.specs.Limits.{narrow_bits}
 use Rattle.search.specs.Pairs.{pairs_as}
 use Rattle.search.specs.WholeList.{candidate_looks}
 use Rattle.telling.specs.Text.{hit_word, end_word, refused_word, decimal, signed, line}
@@ -32,7 +31,7 @@ hit_lines list = join (map hit_line list)
 
 -- the looks of all pages: the quick way, with the score's own sets; as the tune is written, none
 abbrev pub told_looks : AnyWay → (score : List (List ℕ)) (theme : List ℕ) → ℕ
-told_looks (Moved way) score theme = candidate_looks narrow_bits way score theme (sets score)
+told_looks (Moved way) score theme = candidate_looks way score theme (sets score)
 told_looks Written score theme = 0
 
 -- a line for each pair, and the line behind them

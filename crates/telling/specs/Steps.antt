@@ -8,12 +8,11 @@ use Rattle.score.specs.Sets.{sets as setsOf}
 use Rattle.ways.specs.declared.way.AnyWay.{AnyWay}
 use Rattle.ways.specs.declared.way.AnyWay.TheVariants.{Moved, Written}
 use Rattle.ways.specs.declared.bookmark.Bookmark.{Bookmark}
-use Rattle.asking.specs.Limits.{narrow_notes}
+use Rattle.asking.specs.Limits.{most_notes}
 use Rattle.asking.specs.Asking.{Accepted}
 use Rattle.paging.specs.declared.page.Page.{Page}
 use Rattle.paging.specs.Lent.{Lent, Room as PairsRoom}
 use Rattle.paging.specs.Page.{Leaf, Pages}
-use Rattle.filter.specs.Limits.{narrow_bits}
 use Rattle.search.specs.Page.{plain_page, quick_page}
 use Rattle.telling.specs.Limits.{room as textRoom, page_pairs}
 
@@ -30,19 +29,19 @@ pub record Room (table : List ℕ) (buffers : Lent) (out : List ℕ) : Type 0 wh
 
 -- what a search is given: an accepted score and theme, and room for all
 pub record Sought (cells : List ℕ) (h : ℕ) (theme sets table : List ℕ) (buffers : Lent) (out : List ℕ) : Type 0 where
-  pub accepted : Accepted narrow_notes cells h theme
+  pub accepted : Accepted most_notes cells h theme
   pub sets_room : length sets ≡ most_columns - 1
   pub room : Room table buffers out
 
 -- what the pages are written of: an accepted score and theme, the score's own sets, and room for all
 pub record Asked (cells : List ℕ) (h : ℕ) (theme sets table : List ℕ) (buffers : Lent) (out : List ℕ) : Type 0 where
-  pub accepted : Accepted narrow_notes cells h theme
+  pub accepted : Accepted most_notes cells h theme
   pub own : sets ≡ setsOf (score_of cells h)
   pub room : Room table buffers out
 
 -- a page of the search that is told: a quick one, by these sets, or, as the tune is written, a plain one
 abbrev pub told_page : (cells : List ℕ) (h : ℕ) (theme : List ℕ) → AnyWay → Bookmark → (sets table : List ℕ) → Lent → Leaf
-told_page cells h theme (Moved way) b sets table buffers = quick_page narrow_bits cells h theme way b sets table buffers
+told_page cells h theme (Moved way) b sets table buffers = quick_page cells h theme way b sets table buffers
 told_page cells h theme Written b sets table buffers = plain_page cells h theme Written b buffers
 
 pub record PageTold (cells : List ℕ) (h : ℕ) (theme : List ℕ) (way : AnyWay) (b : Bookmark) (sets table : List ℕ) (buffers : Lent)

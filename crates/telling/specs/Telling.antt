@@ -5,7 +5,7 @@ use Rattle.theory.specs.Lists.{over}
 use Rattle.score.specs.Score.{score_of}
 use Rattle.score.specs.Refusals.{judge}
 use Rattle.ways.specs.declared.way.AnyWay.{AnyWay}
-use Rattle.asking.specs.Limits.{narrow_notes}
+use Rattle.asking.specs.Limits.{most_notes}
 use Rattle.asking.specs.Refusals.{request_rows}
 use Rattle.telling.specs.declared.calls.Telling.{Telling}
 use Rattle.telling.specs.declared.calls.Telling.TheVariants.{Told, Refused, Short}
@@ -24,7 +24,7 @@ told text out = cond (ltb (length out) room) (record { answer = Short; out = out
 -- a search: refused, by 1 to 5 in this order, and not written; or the text of all its lines
 unfoldable pub search_told : (cells : List ℕ) (h : ℕ) (theme : List ℕ) → AnyWay → (out : List ℕ) → Tale
 search_told cells h theme way out =
-    judge (request_rows narrow_notes cells h theme) (λ r. record { answer = Refused r; out = out }) (told (lines_of way (score_of cells h) theme) out)
+    judge (request_rows most_notes cells h theme) (λ r. record { answer = Refused r; out = out }) (told (lines_of way (score_of cells h) theme) out)
 
 -- what a call promises: this answer, and this buffer
 pub record Tells (tale : Tale) (answer : Telling) (out' : List ℕ) : Type 0 where

@@ -6,7 +6,7 @@ ghost use Rattle.telling.specs.Telling.{told, search_told, Tells};
 use crate::limits::ROOM;
 use crate::pages::search_lines;
 use crate::writing::refused_line;
-use asking::{NARROW_NOTES, check_request};
+use asking::{MOST_NOTES, check_request};
 use score::{Refusal, Verdict};
 use ways::AnyWay;
 
@@ -24,7 +24,7 @@ pub enum Telling {
 pub fn tell(cells: &[u8], tracks: usize, theme: &[u8], way: AnyWay, out: &mut [u8]) -> Telling
     ensures { Tells (search_told cells.now tracks theme.now way out.old) result out.new }
 {
-    if let Verdict::Refused(e) = check_request(cells, tracks, theme, NARROW_NOTES) {
+    if let Verdict::Refused(e) = check_request(cells, tracks, theme, MOST_NOTES) {
         return Telling::Refused(e);
     }
     if out.len() < ROOM {

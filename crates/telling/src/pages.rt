@@ -2,7 +2,7 @@
 
 ghost use Rattle.std.specs.Prelude.{◌≤◌, length};
 ghost use Rattle.score.specs.Score.{score_of};
-ghost use Rattle.asking.specs.Limits.{narrow_notes};
+ghost use Rattle.asking.specs.Limits.{most_notes};
 ghost use Rattle.asking.specs.Asking.{Accepted};
 ghost use Rattle.paging.specs.Lent.{lent};
 ghost use Rattle.telling.specs.Lines.{lines_of};
@@ -13,7 +13,7 @@ use crate::limits::PAGE_PAIRS;
 use crate::writing::{end_line, hit_lines};
 use preparing::prepare;
 use score::{MOST_COLUMNS, TABLE_WORDS, columns_in};
-use search::{Page, plain_page, quick_page_32};
+use search::{Page, plain_page, quick_page};
 use ways::{AnyWay, Bookmark};
 
 // One page of the search: a quick one, by the sets of the score; as the tune is written, a plain one.
@@ -31,7 +31,7 @@ fn page_of(
     ensures { PageTold cells.now tracks theme.now way bookmark sets.now table.old (lent columns.old shifts.old) result (lent columns.new shifts.new) }
 {
     match way {
-        AnyWay::Moved(w) => quick_page_32(
+        AnyWay::Moved(w) => quick_page(
             cells, tracks, theme, w, bookmark, sets, table, columns, shifts,
         ),
         AnyWay::Written => plain_page(
@@ -117,7 +117,7 @@ fn search_in(
 
 // The same with room of its own for all that is between.
 pub fn search_lines(cells: &[u8], tracks: usize, theme: &[u8], way: AnyWay, out: &mut [u8]) -> usize
-    requires accepted { Accepted narrow_notes cells.now tracks theme.now }
+    requires accepted { Accepted most_notes cells.now tracks theme.now }
     requires room_in_bounds { room ≤ length out.old }
     ensures { Wrote (lines_of way (score_of cells.now tracks) theme.now) 0 out.old result out.new }
 {

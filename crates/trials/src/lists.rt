@@ -6,14 +6,13 @@ use jobs::job::Job;
 use judging::answers::{Got, refused};
 use judging::compare::{Fault, Seen, differs};
 use reporting::lines::{
-    DIFFERED, LONG_PAGES, LONG_PAIRS, NARROW_PAGES, NARROW_PAIRS, PAGES, PAIRS, REFUSALS, SCORES,
-    WRITTEN_PAGES, WRITTEN_PAIRS, differing, page,
+    DIFFERED, PAGES, PAIRS, REFUSALS, SCORES, WRITTEN_PAGES, WRITTEN_PAIRS, differing, page,
 };
-use second::asks::{Ask, Call, NARROW_NOTES};
+use second::asks::{Ask, Call};
 use second::finder::most_looks;
 use second::totals::{add, count, more, product, size32};
 use second::ways::{Way, lowest};
-use turning::turns::{turn_both, turn_plain, turn_widths};
+use turning::turns::{turn_both, turn_plain, turn_quick};
 
 // No list has so many pages.
 const MOST: usize = 70000;
@@ -36,51 +35,30 @@ pub fn noted(cells: &[u8], theme: &[u8], sets: &[u16], tally: &mut Tally, a: Ask
         return true;
     }
     let call = s.call;
-    accepted(tally, call, a, s.got.written);
+    let way = a.way;
+    accepted(tally, call, way, s.got.written);
     true
 }
 
 // Counts what an accepted call made: the sets of a score, or a page, for each call that turned it.
-fn accepted(tally: &mut Tally, call: Call, a: Ask, written: usize) {
+fn accepted(tally: &mut Tally, call: Call, way: Way, written: usize) {
     match call {
         Call::Prepare => add(tally, SCORES, 1),
-        Call::Plain => page_noted(tally, a, 1, written),
-        Call::Quick => quick_noted(tally, a, 1, written),
-        Call::Narrow => narrow_noted(tally, a, written),
-        Call::Both => quick_noted(tally, a, 2, written),
+        Call::Both => page_noted(tally, way, 2, written),
+        _ => page_noted(tally, way, 1, written),
     }
 }
 
-// Counts a page that a quick call turned too: beside it the one by words of 32 bits, which takes no long theme.
-fn quick_noted(tally: &mut Tally, a: Ask, calls: usize, written: usize) {
-    page_noted(tally, a, calls, written);
-    if a.notes <= NARROW_NOTES {
-        narrow_noted(tally, a, written);
-    }
-}
-
-// Counts a page by words of 32 bits, and once more by itself.
-fn narrow_noted(tally: &mut Tally, a: Ask, written: usize) {
-    page_noted(tally, a, 1, written);
-    pages_noted(tally, NARROW_PAGES, NARROW_PAIRS, 1, written);
-}
-
-// Counts a page and its pairs, for so many calls; those in written, and of long themes, once more by themselves.
-fn page_noted(tally: &mut Tally, a: Ask, calls: usize, written: usize) {
-    pages_noted(tally, PAGES, PAIRS, calls, written);
-    let way = a.way;
+// Counts a page and its pairs, for so many calls; those in written once more by themselves.
+fn page_noted(tally: &mut Tally, way: Way, calls: usize, written: usize) {
+    let pages = calls as u64;
+    let pairs = product(written, calls) as u64;
+    add(tally, PAGES, pages);
+    add(tally, PAIRS, pairs);
     if let Way::Written = way {
-        pages_noted(tally, WRITTEN_PAGES, WRITTEN_PAIRS, calls, written);
+        add(tally, WRITTEN_PAGES, pages);
+        add(tally, WRITTEN_PAIRS, pairs);
     }
-    if NARROW_NOTES < a.notes {
-        pages_noted(tally, LONG_PAGES, LONG_PAIRS, calls, written);
-    }
-}
-
-// The same at two places.
-fn pages_noted(tally: &mut Tally, pages: usize, pairs: usize, calls: usize, written: usize) {
-    add(tally, pages, calls as u64);
-    add(tally, pairs, product(written, calls) as u64);
 }
 
 // How many pages so many pairs need.
@@ -148,7 +126,7 @@ fn judged(cells: &[u8], a: Ask, r: Reading, s: Seen) -> Seen {
     Seen { call, fault, got }
 }
 
-// One page of a job; of all calls, where the sets are the score's own.
+// One page of a job; of both calls, where the sets are the score's own.
 pub fn turned(
     cells: &[u8],
     theme: &[u8],
@@ -162,9 +140,7 @@ pub fn turned(
     let call = j.call;
     match call {
         Call::Plain => turn_plain(cells, theme, sets, columns, shifts, a),
-        Call::Quick | Call::Narrow => turn_widths(
-            cells, theme, sets, table, columns, shifts, a, j.deep, call,
-        ),
+        Call::Quick => turn_quick(cells, theme, sets, table, columns, shifts, a, j.deep),
         _ => turn_both(cells, theme, sets, table, columns, shifts, a, j.deep),
     }
 }

@@ -4,20 +4,17 @@ mod lists;
 
 use attempts::attempt;
 use cases::families::{job, number_of_jobs};
-use jobs::buffers::{
-    CELL_PLACES, COUNT_PLACES, Cells, Columns, NOTE_PLACES, PAIR_PLACES, SET_PLACES, Sets, Shifts,
-    Table, Tally, Theme, WORD_PLACES,
-};
+use jobs::buffers::{Cells, Columns, Sets, Shifts, Table, Tally, Theme};
 use reporting::lines::totals;
 
 fn main() {
-    let mut cells = [0u8; CELL_PLACES];
-    let mut theme = [0u8; NOTE_PLACES];
-    let mut sets = [0u16; SET_PLACES];
-    let mut table = [0u64; WORD_PLACES];
-    let mut columns = [0u16; PAIR_PLACES];
-    let mut shifts = [0i16; PAIR_PLACES];
-    let mut tally = [0u64; COUNT_PLACES];
+    let mut cells = [0u8; 34000];
+    let mut theme = [0u8; 64];
+    let mut sets = [0u16; 2100];
+    let mut table = [0u32; 4100];
+    let mut columns = [0u16; 4100];
+    let mut shifts = [0i16; 4100];
+    let mut tally = [0u64; 8];
     run(
         &mut cells,
         &mut theme,

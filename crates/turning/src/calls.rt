@@ -2,7 +2,7 @@
 
 use judging::answers::{Got, Lengths, part, refused, too_short, unasked};
 use score::Column;
-use search::{AnyWay, Bookmark, Page, Way, plain_page, quick_page, quick_page_32};
+use search::{AnyWay, Bookmark, Page, Way, plain_page, quick_page};
 use second::asks::Ask;
 
 fn answer(p: Page) -> Got {
@@ -73,7 +73,7 @@ fn ask_moved(
     cells: &[u8],
     theme: &[u8],
     sets: &[u16],
-    table: &mut [u64],
+    table: &mut [u32],
     columns: &mut [u16],
     shifts: &mut [i16],
     a: Ask,
@@ -109,52 +109,12 @@ fn ask_moved(
     ))
 }
 
-fn ask_moved_narrow(
-    cells: &[u8],
-    theme: &[u8],
-    sets: &[u16],
-    table: &mut [u32],
-    columns: &mut [u16],
-    shifts: &mut [i16],
-    a: Ask,
-    way: Way,
-) -> Got {
-    let many = part(a.cells, cells.len());
-    let m = part(a.notes, theme.len());
-    let last = part(a.sets, sets.len());
-    let words = part(a.table, table.len());
-    let r = part(a.columns, columns.len());
-    let s = part(a.shifts, shifts.len());
-    let lent = Lengths {
-        cells: many,
-        theme: m,
-        sets: last,
-        table: words,
-        columns: r,
-        shifts: s,
-    };
-    if too_short(lent, a) {
-        return unasked();
-    }
-    answer(quick_page_32(
-        &cells[..many],
-        a.h,
-        &theme[..m],
-        way,
-        bookmark_of(a.column, a.shift),
-        &sets[..last],
-        &mut table[..words],
-        &mut columns[..r],
-        &mut shifts[..s],
-    ))
-}
-
 // A quick page, which only the ways that move a theme have.
 pub fn ask_quick(
     cells: &[u8],
     theme: &[u8],
     sets: &[u16],
-    table: &mut [u64],
+    table: &mut [u32],
     columns: &mut [u16],
     shifts: &mut [i16],
     a: Ask,
@@ -162,23 +122,6 @@ pub fn ask_quick(
     let asked = a.way;
     match way_of(asked) {
         AnyWay::Moved(way) => ask_moved(cells, theme, sets, table, columns, shifts, a, way),
-        AnyWay::Written => unasked(),
-    }
-}
-
-// The same by words of 32 bits.
-pub fn ask_narrow(
-    cells: &[u8],
-    theme: &[u8],
-    sets: &[u16],
-    table: &mut [u32],
-    columns: &mut [u16],
-    shifts: &mut [i16],
-    a: Ask,
-) -> Got {
-    let asked = a.way;
-    match way_of(asked) {
-        AnyWay::Moved(way) => ask_moved_narrow(cells, theme, sets, table, columns, shifts, a, way),
         AnyWay::Written => unasked(),
     }
 }

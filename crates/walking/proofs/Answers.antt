@@ -24,7 +24,8 @@ use Rattle.ways.specs.Bookmarks.{key_of}
 use Rattle.asking.specs.Limits.{most_notes}
 use Rattle.asking.specs.Asking.{Accepted, AcceptedSets, PlainAsks, QuickAsks}
 use Rattle.asking.specs.Refusals.{plain_rows, quick_rows}
-use Rattle.asking.proofs.Rows.{page_more, plain_clear, quick_clear}
+use Rattle.asking.proofs.Rows.{plain_clear, quick_clear}
+use Rattle.filter.specs.Limits.{word_bits}
 use Rattle.filter.specs.Table.{theme_table}
 use Rattle.walking.specs.declared.walked.Walked.{Walked}
 use Rattle.walking.specs.declared.calls.Walk.{Walk}
@@ -48,18 +49,15 @@ accepted_ready {cells} {h} {theme} a =
       sung = none_over 127 theme a.notes_good;
     }
 
-module _ {w : ℕ} {cells : List ℕ} {h : ℕ} {theme : List ℕ} {way : Way} {b : Bookmark} {sets table columns : List ℕ} {shifts : List ℤ}
-    (a : QuickAsks w cells h theme way b sets table columns shifts) where
-  pub asked_plain : w ≤ most_notes → PlainAsks cells h theme (Moved way) b columns shifts
-  asked_plain few = page_more few a.plain
-
+module _ {cells : List ℕ} {h : ℕ} {theme : List ℕ} {way : Way} {b : Bookmark} {sets table columns : List ℕ} {shifts : List ℤ}
+    (a : QuickAsks cells h theme way b sets table columns shifts) where
   pub asked_sets : length sets + 1 ≡ columns_in cells h
   asked_sets = omega (arith, a.with_sets.one_less, a.plain.accepted.columns_some)
 
   pub asked_small : (k : ℕ) → get_or sets k 0 < 4096
   asked_small k = let q : get_or sets k 0 ≤ 4095 = none_over 4095 sets a.with_sets.sets_good k in omega arith
 
-  pub asked_lent : {j end : ℕ} → 1 ≤ j → j < end → end ≡ end_of cells h theme → Lent w sets table (length theme) j end
+  pub asked_lent : {j end : ℕ} → 1 ≤ j → j < end → end ≡ end_of cells h theme → Lent sets table (length theme) j end
   asked_lent first more e =
       record {
         notes = a.plain.accepted.notes_some;
@@ -160,20 +158,20 @@ module _ (cells : List ℕ) (h : ℕ) (theme : List ℕ) (way : Way) (b : Bookma
   pub plain_asks : {v : Verdict} → v ≡ verdict (plain_rows cells h theme (Moved way) b columns shifts) → v ≡ Passed → PlainAsks cells h theme (Moved way) b columns shifts
   plain_asks a v = (plain_clear cells h theme (Moved way) b columns shifts).1 (verdict_clear (plain_rows cells h theme (Moved way) b columns shifts) (sym a ∙ v))
 
-module _ (w : ℕ) (cells : List ℕ) (h : ℕ) (theme : List ℕ) (way : Way) (b : Bookmark) (sets table columns : List ℕ) (shifts : List ℤ) where
+module _ (cells : List ℕ) (h : ℕ) (theme : List ℕ) (way : Way) (b : Bookmark) (sets table columns : List ℕ) (shifts : List ℤ) where
   abbrev rows : List Row
-  rows = quick_rows w cells h theme way b sets table columns shifts
+  rows = quick_rows cells h theme way b sets table columns shifts
 
-  pub quick_asks : {v : Verdict} → v ≡ verdict rows → v ≡ Passed → QuickAsks w cells h theme way b sets table columns shifts
-  quick_asks a v = (quick_clear w cells h theme way b sets table columns shifts).1 (verdict_clear rows (sym a ∙ v))
+  pub quick_asks : {v : Verdict} → v ≡ verdict rows → v ≡ Passed → QuickAsks cells h theme way b sets table columns shifts
+  quick_asks a v = (quick_clear cells h theme way b sets table columns shifts).1 (verdict_clear rows (sym a ∙ v))
 
   -- the table: as it was, or the theme's
-  pub table_kept : {v : Verdict} {e : Refusal} → v ≡ verdict rows → v ≡ Away e → table ≡ judge rows (λ r. table) (theme_table w theme)
+  pub table_kept : {v : Verdict} {e : Refusal} → v ≡ verdict rows → v ≡ Away e → table ≡ judge rows (λ r. table) (theme_table word_bits theme)
   table_kept a v = sym (judge_away (λ r. table) _ rows (sym a ∙ v))
 
-  pub table_filled : Clear rows → judge rows (λ r. table) (theme_table w theme) ≡ theme_table w theme
+  pub table_filled : Clear rows → judge rows (λ r. table) (theme_table word_bits theme) ≡ theme_table word_bits theme
   table_filled c = judge_clear (λ r. table) _ rows c
 
-  pub quick_walks_unique : {a a' : Walk} {t t' c c' : List ℕ} {s s' : List ℤ} → QuickWalks w cells h theme way b sets table columns shifts a t c s
-      → QuickWalks w cells h theme way b sets table columns shifts a' t' c' s' → ((a ≡ a') × (c ≡ c') × (s ≡ s')) × (t ≡ t')
+  pub quick_walks_unique : {a a' : Walk} {t t' c c' : List ℕ} {s s' : List ℤ} → QuickWalks cells h theme way b sets table columns shifts a t c s
+      → QuickWalks cells h theme way b sets table columns shifts a' t' c' s' → ((a ≡ a') × (c ≡ c') × (s ≡ s')) × (t ≡ t')
   quick_walks_unique p q = (finds_unique _ _ _ _ _ _ _ _ p.finds q.finds, p.fills_table ∙ sym q.fills_table)

@@ -6,7 +6,6 @@ use Rattle.theory.proofs.Unique.{◌beside◌}
 use Rattle.walking.proofs.Answers.{finds_unique, quick_walks_unique}
 use Rattle.walking.proofs.calls.walk_plain
 use Rattle.walking.proofs.calls.walk_quick
-use Rattle.walking.proofs.calls.walk_quick_32
 
 pub walk_plain_unique : Settles walk_plain.Kinds.ps walk_plain.Kinds.r walk_plain.Reads.Post
 walk_plain_unique κs args x y =
@@ -18,15 +17,7 @@ walk_plain_unique κs args x y =
 
 pub walk_quick_unique : Settles walk_quick.Kinds.ps walk_quick.Kinds.r walk_quick.Reads.Post
 walk_quick_unique κs args x y =
-    let ((answer, columns, shifts), table) = quick_walks_unique _ _ _ _ _ _ _ _ _ _ x.meets y.meets in (
-      answer,
-      refl beside refl beside refl beside refl beside refl beside refl
-          beside table beside columns beside shifts beside refl,
-    )
-
-pub walk_quick_32_unique : Settles walk_quick_32.Kinds.ps walk_quick_32.Kinds.r walk_quick_32.Reads.Post
-walk_quick_32_unique κs args x y =
-    let ((answer, columns, shifts), table) = quick_walks_unique _ _ _ _ _ _ _ _ _ _ x.meets y.meets in (
+    let ((answer, columns, shifts), table) = quick_walks_unique _ _ _ _ _ _ _ _ _ x.meets y.meets in (
       answer,
       refl beside refl beside refl beside refl beside refl beside refl
           beside table beside columns beside shifts beside refl,

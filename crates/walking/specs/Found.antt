@@ -11,6 +11,7 @@ use Rattle.ways.specs.declared.bookmark.Bookmark.{Bookmark}
 use Rattle.ways.specs.Way.{shift_of}
 use Rattle.ways.specs.Bookmarks.{key_of}
 use Rattle.asking.specs.Refusals.{plain_rows, quick_rows}
+use Rattle.filter.specs.Limits.{word_bits}
 use Rattle.filter.specs.Table.{theme_table}
 use Rattle.walking.specs.declared.calls.Walk.{Walk}
 use Rattle.walking.specs.declared.calls.Walk.TheVariants.{Done, Refused}
@@ -51,10 +52,9 @@ abbrev pub PlainWalks : (cells : List ℕ) (h : ℕ) (theme : List ℕ) → Way 
 PlainWalks cells h theme way b columns shifts =
     Finds (plain_rows cells h theme (Moved way) b columns shifts) way (score_of cells h) theme (starts way (score_of cells h) theme) b columns shifts
 
--- the quick way by words of w bits, for themes of 2 to w notes, reaches the starts at candidates: refusals 1 to 10; an accepted walk leaves
--- the theme's table
-pub record QuickWalks (w : ℕ) (cells : List ℕ) (h : ℕ) (theme : List ℕ) (way : Way) (b : Bookmark) (sets table columns : List ℕ) (shifts : List ℤ)
+-- the quick way reaches the starts at candidates: refusals 1 to 10; an accepted walk leaves the theme's table
+pub record QuickWalks (cells : List ℕ) (h : ℕ) (theme : List ℕ) (way : Way) (b : Bookmark) (sets table columns : List ℕ) (shifts : List ℤ)
     (answer : Walk) (table' columns' : List ℕ) (shifts' : List ℤ) : Type 0 where
-  pub finds : Finds (quick_rows w cells h theme way b sets table columns shifts) way (score_of cells h) theme
-      (quick_starts w way (score_of cells h) theme (theme_table w theme) sets) b columns shifts answer columns' shifts'
-  pub fills_table : table' ≡ judge (quick_rows w cells h theme way b sets table columns shifts) (λ r. table) (theme_table w theme)
+  pub finds : Finds (quick_rows cells h theme way b sets table columns shifts) way (score_of cells h) theme
+      (quick_starts word_bits way (score_of cells h) theme (theme_table word_bits theme) sets) b columns shifts answer columns' shifts'
+  pub fills_table : table' ≡ judge (quick_rows cells h theme way b sets table columns shifts) (λ r. table) (theme_table word_bits theme)

@@ -15,6 +15,7 @@ use Rattle.ways.specs.Way.{span, holds}
 use Rattle.ways.specs.Codes.{code_given}
 use Rattle.ways.specs.Bookmarks.{key_of}
 use Rattle.asking.specs.Limits.{most_notes}
+use Rattle.filter.specs.Limits.{word_bits}
 use Rattle.score.specs.Score.{note}
 use Rattle.walking.specs.declared.walked.Spot.{Spot}
 use Rattle.walking.specs.declared.walked.Walked.{Walked}
@@ -128,8 +129,8 @@ abbrev pub WalksEvery : Way → (cells : List ℕ) (h : ℕ) (theme : List ℕ) 
 WalksEvery way cells h theme b columns shifts w columns' shifts' =
     Walks way (score_of cells h) theme (from key (key_of way b) (starts way (score_of cells h) theme)) columns shifts w.found w.looks columns' shifts'
 
-abbrev pub WalksCandidates : (w : ℕ) → Way → (cells : List ℕ) (h : ℕ) (theme : List ℕ) → Bookmark → (sets table columns : List ℕ) (shifts : List ℤ)
+abbrev pub WalksCandidates : Way → (cells : List ℕ) (h : ℕ) (theme : List ℕ) → Bookmark → (sets table columns : List ℕ) (shifts : List ℤ)
     → Walked → (columns' : List ℕ) (shifts' : List ℤ) → Type 0
-WalksCandidates w way cells h theme b sets table columns shifts went columns' shifts' =
-    Walks way (score_of cells h) theme (from key (key_of way b) (quick_starts w way (score_of cells h) theme table sets)) columns shifts
-    went.found went.looks columns' shifts'
+WalksCandidates way cells h theme b sets table columns shifts w columns' shifts' =
+    Walks way (score_of cells h) theme (from key (key_of way b) (quick_starts word_bits way (score_of cells h) theme table sets)) columns shifts
+    w.found w.looks columns' shifts'

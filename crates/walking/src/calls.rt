@@ -1,13 +1,11 @@
-// The walks of a page: plain, along every start, and quick, along the starts at candidates, by words of 64 bits or of 32.
+// The two walks of a page: plain, along every start, and quick, along the starts at candidates.
 
-ghost use Rattle.filter.specs.Limits.{word_bits, narrow_bits};
 ghost use Rattle.walking.specs.Found.{PlainWalks, QuickWalks};
 
 use crate::walk::{walk_candidates, walk_every};
-use crate::walk_32::walk_candidates_32;
 use crate::walked::Walked;
-use asking::{check_plain, check_quick, check_quick_32};
-use filter::{fill_table, fill_table_32};
+use asking::{check_plain, check_quick};
+use filter::fill_table;
 use score::{Refusal, Verdict};
 use ways::{AnyWay, Bookmark, Way};
 
@@ -55,11 +53,11 @@ pub fn walk_quick(
     way: Way,
     bookmark: Bookmark,
     sets: &[u16],
-    table: &mut [u64],
+    table: &mut [u32],
     columns: &mut [u16],
     shifts: &mut [i16],
 ) -> Walk
-    ensures { QuickWalks word_bits cells.now tracks theme.now way bookmark sets.now table.old
+    ensures { QuickWalks cells.now tracks theme.now way bookmark sets.now table.old
         columns.old shifts.old result table.new columns.new shifts.new }
 {
     if let Verdict::Refused(e) = check_quick(
@@ -77,40 +75,6 @@ pub fn walk_quick(
     }
     fill_table(theme, table);
     Walk::Done(walk_candidates(
-        cells, tracks, theme, way, bookmark, sets, table, columns, shifts,
-    ))
-}
-
-// The same with words of 32 bits, for themes of 2 to 32 notes.
-pub fn walk_quick_32(
-    cells: &[u8],
-    tracks: usize,
-    theme: &[u8],
-    way: Way,
-    bookmark: Bookmark,
-    sets: &[u16],
-    table: &mut [u32],
-    columns: &mut [u16],
-    shifts: &mut [i16],
-) -> Walk
-    ensures { QuickWalks narrow_bits cells.now tracks theme.now way bookmark sets.now table.old
-        columns.old shifts.old result table.new columns.new shifts.new }
-{
-    if let Verdict::Refused(e) = check_quick_32(
-        cells,
-        tracks,
-        theme,
-        way,
-        bookmark,
-        sets,
-        table.len(),
-        columns.len(),
-        shifts.len(),
-    ) {
-        return Walk::Refused(e);
-    }
-    fill_table_32(theme, table);
-    Walk::Done(walk_candidates_32(
         cells, tracks, theme, way, bookmark, sets, table, columns, shifts,
     ))
 }

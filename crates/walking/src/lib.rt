@@ -3,20 +3,16 @@
 //
 // `walked` says where a walk stands and how far it has come. `starts` are the places whose first note is present, and what is looked
 // at from there. The starts of a `column` are tried one by one; the `ring` keeps columns as words of bits, by which `alive` tries
-// all of them at once. The `register` lists candidates, which are `noted`, a `walk` goes along listed columns, and the `calls` check
-// what is asked and walk. `register_32` and `walk_32` are the few functions that touch a table of 32-bit words.
+// all of them at once. The `register` lists candidates, a `walk` goes along listed columns, and the `calls` check what is asked and walk.
 
 mod alive;
 pub mod calls;
 mod column;
-mod noted;
 mod register;
-mod register_32;
 mod ring;
 mod starts;
 mod walk;
-mod walk_32;
 mod walked;
 
-pub use calls::{Walk, walk_plain, walk_quick, walk_quick_32};
+pub use calls::{Walk, walk_plain, walk_quick};
 pub use walked::Walked;

@@ -1,19 +1,18 @@
 // The register along the sets: one entry more at each column, and the candidates that it marks.
 
-ghost use Rattle.std.specs.Prelude.{◌≡◌, ℕ, ◌+◌, ◌-◌, ◌≤◌, ◌<◌, length, get_or};
+ghost use Rattle.std.specs.Prelude.{◌≡◌, ℕ, ◌+◌, ◌-◌, ◌≤◌, ◌<◌, cond, length, get_or, set};
 ghost use Rattle.theory.specs.Register as Register;
 ghost use Rattle.score.specs.Limits.{table_words};
 ghost use Rattle.filter.specs.Limits.{word_bits};
 ghost use Rattle.walking.specs.Scan.{entry_word, Filters, Lent, Seeks, ListsCandidates};
 
-use crate::noted::noted;
 use filter::{marks, step};
 use score::Column;
 
 // How many columns are passed, whether the last of them is a candidate, and what the register is behind it.
 #[derive(Drop)]
 pub struct Sought {
-    pub register: u64,
+    pub register: u32,
     pub passed: usize,
     pub marked: bool,
 }
@@ -21,13 +20,13 @@ pub struct Sought {
 // How many columns are passed, how many candidates among them are listed, and what the register is behind them.
 #[derive(Drop)]
 pub struct Listed {
-    pub register: u64,
+    pub register: u32,
     pub passed: usize,
     pub count: usize,
 }
 
 // One entry of the sets more: the table's word for it.
-pub fn taken(register: u64, sets: &[u16], table: &[u64], at: usize) -> u64
+pub fn taken(register: u32, sets: &[u16], table: &[u32], at: usize) -> u32
     requires at_in_bounds { at < length sets.now }
     requires table_len { length table.now ≡ table_words }
     requires by_index { (k : ℕ) → get_or sets.now k 0 < table_words }
@@ -39,14 +38,14 @@ pub fn taken(register: u64, sets: &[u16], table: &[u64], at: usize) -> u64
 
 // The register that begins, all ones, at an entry of the sets and takes as many as are counted. For a theme of m notes
 // they are m - 2, and the next one makes the first column a candidate or not.
-pub fn warmed(sets: &[u16], table: &[u64], from: usize, count: usize) -> u64
+pub fn warmed(sets: &[u16], table: &[u32], from: usize, count: usize) -> u32
     requires count_in_bounds { from + count ≤ length sets.now }
     requires table_len { length table.now ≡ table_words }
     requires by_index { (k : ℕ) → get_or sets.now k 0 < table_words }
     ensures { result ≡ Register.reg_from word_bits (entry_word table.now sets.now) from (from + count) }
 {
     let end = from + count;
-    let mut register: u64 = 0xffff_ffff_ffff_ffff;
+    let mut register: u32 = 0xffff_ffff;
     let mut at = from;
     while at < end {
         register = taken(register, sets, table, at);
@@ -55,20 +54,33 @@ pub fn warmed(sets: &[u16], table: &[u64], from: usize, count: usize) -> u64
     register
 }
 
+// Writes the last of the columns that are passed, from the first on, at its place of the list where it is marked, and gives
+// the next place; otherwise the place is given back.
+fn noted(list: &mut [u16], at: usize, first: Column, passed: usize, marked: bool) -> usize
+    requires { (at < length list.old) × (1 ≤ passed) × (first.0 + passed ≤ 65535) }
+    ensures { (result ≡ cond marked (at + 1) at) × (list.new ≡ cond marked (set list.old at (first.0 + passed - 1)) list.old) }
+{
+    if !marked {
+        return at;
+    }
+    list[at] = first.0 + (passed - 1) as u16;
+    at + 1
+}
+
 // Decides column after column of so many from the first on, behind those already passed: up to a candidate, or to the last
 // where there is none.
 fn seek(
-    register: u64,
+    register: u32,
     sets: &[u16],
-    table: &[u64],
+    table: &[u32],
     m: usize,
     first: Column,
     passed: usize,
     many: usize,
 ) -> Sought
-    requires lent { Lent word_bits sets.now table.now m (first.0 + passed) (first.0 + many) }
-    requires filters { Filters word_bits table.now sets.now m register (first.0 + passed) }
-    ensures { Seeks word_bits table.now sets.now m (first.0 + passed) (first.0 + many) result.register (first.0 + result.passed) result.marked }
+    requires lent { Lent sets.now table.now m (first.0 + passed) (first.0 + many) }
+    requires filters { Filters table.now sets.now m register (first.0 + passed) }
+    ensures { Seeks table.now sets.now m (first.0 + passed) (first.0 + many) result.register (first.0 + result.passed) result.marked }
 {
     let top = (m - 2) as u32;
     let j = first.0 as usize;
@@ -94,19 +106,19 @@ fn seek(
 
 // Lists, from the front, the candidates among so many columns from the first on, until as many are listed as are wanted.
 pub fn list_candidates(
-    register: u64,
+    register: u32,
     sets: &[u16],
-    table: &[u64],
+    table: &[u32],
     m: usize,
     first: Column,
     many: usize,
     wanted: usize,
     list: &mut [u16],
 ) -> Listed
-    requires lent { Lent word_bits sets.now table.now m first.0 (first.0 + many) }
-    requires filters { Filters word_bits table.now sets.now m register first.0 }
+    requires lent { Lent sets.now table.now m first.0 (first.0 + many) }
+    requires filters { Filters table.now sets.now m register first.0 }
     requires le_wanted { (1 ≤ wanted) × (wanted ≤ length list.old) }
-    ensures { ListsCandidates word_bits table.now sets.now m first.0 (first.0 + many) list.old
+    ensures { ListsCandidates table.now sets.now m first.0 (first.0 + many) list.old
         result.register (first.0 + result.passed) result.count list.new }
 {
     let mut word = register;

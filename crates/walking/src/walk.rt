@@ -1,9 +1,7 @@
 // The walks from a bookmark, along every column or along candidates: columns are listed, some at a time, and walked along.
 
 ghost use Rattle.std.specs.Prelude.{◌≡◌, ◌+◌, ◌-◌, ◌≤◌, length};
-ghost use Rattle.asking.specs.Limits.{most_notes};
 ghost use Rattle.asking.specs.Asking.{PlainAsks, QuickAsks};
-ghost use Rattle.filter.specs.Limits.{word_bits};
 ghost use Rattle.walking.specs.Alive.{Cached};
 ghost use Rattle.walking.specs.Walk.{Ready, ListsEvery, Along, TriesList, WalksEvery, WalksCandidates, listed, end_of};
 
@@ -15,13 +13,13 @@ use score::{Column, columns_in};
 use ways::{AnyWay, Bookmark, Way};
 
 // How many columns are listed at a time at most.
-pub const LISTED: usize = 64;
+const LISTED: usize = 64;
 
 // For so many looks taken, one more candidate is listed at a time.
 const LOOKS_AHEAD: usize = 16;
 
 // Tries the listed columns one after another, until none is left or no room. The spot's code counts on its own column only.
-pub fn walk_along(
+fn walk_along(
     cells: &[u8],
     h: usize,
     theme: &[u8],
@@ -76,7 +74,7 @@ fn some_of(left: usize) -> usize
 }
 
 // How many columns, from this one on, the theme has room in.
-pub fn columns_left(cells: &[u8], h: usize, theme: &[u8], column: Column) -> usize
+fn columns_left(cells: &[u8], h: usize, theme: &[u8], column: Column) -> usize
     requires { Ready cells.now h theme.now }
     ensures { result ≡ end_of cells.now h theme.now - column.0 }
 {
@@ -133,7 +131,7 @@ pub fn walk_every(
 
 // How many candidates are listed at a time: as many as there is room for pairs, so that a page which fills early does not seek
 // candidates that it never tries; and more of them the more looks there were, since a page that does not fill tries them all.
-pub fn wanted_of(room: usize, looks: u32) -> usize
+fn wanted_of(room: usize, looks: u32) -> usize
     requires { 1 ≤ room }
     ensures { (1 ≤ result) × (result ≤ listed) }
 {
@@ -151,12 +149,12 @@ pub fn walk_candidates(
     way: Way,
     bookmark: Bookmark,
     sets: &[u16],
-    table: &[u64],
+    table: &[u32],
     columns: &mut [u16],
     shifts: &mut [i16],
 ) -> Walked
-    requires { QuickAsks most_notes cells.now h theme.now way bookmark sets.now table.now columns.old shifts.old }
-    ensures { WalksCandidates word_bits way cells.now h theme.now bookmark sets.now table.now
+    requires { QuickAsks cells.now h theme.now way bookmark sets.now table.now columns.old shifts.old }
+    ensures { WalksCandidates way cells.now h theme.now bookmark sets.now table.now
         columns.old shifts.old result columns.new shifts.new }
 {
     let m = theme.len();

@@ -25,15 +25,12 @@ pub struct Barred {
 
 // The ends of the ranges: what is changed, and four numbers that it gets. The room is the places lent, and the bookmark is the
 // pair.
-const ROWS: usize = 15;
-
-const ENDS: [[u16; 5]; ROWS] = [
+const ENDS: [[u16; 5]; 14] = [
     [1, 0, 1, 16, 17],
     [2, 0, 1, 2048, 2049],
     [3, 9, 10, 11, 12],
     [4, 127, 128, 254, 255],
     [5, 1, 2, 32, 33],
-    [5, 34, 63, 64, 65],
     [6, 0, 127, 128, 255],
     [10, 0, 1, 2, 3],
     [10, 4, 5, 32, 80],
@@ -50,16 +47,14 @@ const FAULTS: [[u16; 9]; 7] = [
     [1, 0, 0, 1, 0, 17, 1, 0, 255],
     [3, 0, 9, 2, 0, 0, 2, 0, 2049],
     [4, 0, 128, 4, 5, 200, 4, 9, 254],
-    [5, 0, 1, 5, 0, 65, 5, 0, 0],
+    [5, 0, 1, 5, 0, 33, 5, 0, 0],
     [6, 0, 128, 6, 1, 255, 6, 2, 200],
     [13, 0, 0, 13, 0, 4, 14, 0, 3],
     [10, 0, 2, 10, 0, 0, 10, 0, 1],
 ];
 
-// How many there are: 60 ends at three places, and 64 pairs of refusals by nine pairs of faults, each in three ways.
-const ENDS_AT_ONE: usize = 4 * ROWS;
-
-const END_CALLS: usize = 9 * ENDS_AT_ONE;
+// How many there are: 56 ends at three places, and 64 pairs of refusals by nine pairs of faults, each in three ways.
+const END_CALLS: usize = 504;
 
 const DUE_CALLS: usize = 1728;
 
@@ -68,7 +63,7 @@ pub fn number_of_barred() -> usize {
 }
 
 fn end_item(row: usize, i: usize) -> u16 {
-    if row < ROWS {
+    if row < 14 {
         if i < 5 {
             return ENDS[row][i];
         }
@@ -124,8 +119,8 @@ fn changed_ask(way: Way, c: Change, d: Change) -> Ask {
 
 // Both ends of every range, at each place, in all ways.
 fn end_call(k: usize) -> Barred {
-    let p = (k / 3 / ENDS_AT_ONE % 3) as u8;
-    let c = end_at(k / 3 % ENDS_AT_ONE, p);
+    let p = (k / 168 % 3) as u8;
+    let c = end_at(k / 3 % 56, p);
     let what: What = c.what;
     let d = none();
     Barred {

@@ -1,12 +1,12 @@
-// Large scores, mostly of sixteen tracks, with a theme that is mostly of 32 notes or a long one. It was put into them note by
-// note, each note into one track at least and into more by chance: into few, into half of them, into most, or into the same ones
-// for some notes on end. Empty columns stand between the notes, or none; before and behind are columns by chance. In one round of
-// six a note is left out.
+// Large scores, mostly of sixteen tracks, with a theme that is mostly of 32 notes. It was put into them note by note, each note
+// into one track at least and into more by chance: into few, into half of them, into most, or into the same ones for some notes
+// on end. Empty columns stand between the notes, or none; before and behind are columns by chance. In one round of six a note is
+// left out.
 
 use crate::moves::{Move, move_of, moved_at, octave_in, up_by};
 use gapped::drawing::draw;
 use jobs::buffers::{Cells, Theme};
-use jobs::shapes::{ask_of, long_notes, way_of};
+use jobs::shapes::{ask_of, way_of};
 use second::asks::{Ask, columns_of};
 use second::totals::{more, place, product, put_byte};
 
@@ -23,11 +23,10 @@ fn tracks_in(round: usize) -> usize {
 }
 
 fn notes_in(round: usize) -> usize {
-    match draw(round, 3, 6) {
-        0 | 1 => more(draw(round, 4, 63), 2),
-        2 | 3 => 32,
-        _ => long_notes(draw(round, 10, 4)),
+    if draw(round, 3, 3) == 0 {
+        return more(draw(round, 4, 31), 2);
     }
+    32
 }
 
 // The columns before the theme, and those at the end.

@@ -11,7 +11,7 @@ use filter::{marks, step};
 use score::columns_in;
 
 // The register after one column more, that after k others: it takes the word of its cells.
-fn taken(register: u64, cells: &[u8], h: usize, words: &[u64; BYTES], k: usize) -> u64
+fn taken(register: u32, cells: &[u8], h: usize, words: &[u32; BYTES], k: usize) -> u32
     requires { (k * h + h ≤ length cells.now) × (1 ≤ h) }
     ensures { (theme : List ℕ) → Words theme words.now → result ≡ Register.step word_bits register (word_at word_bits cells.now h theme k) }
 {
@@ -26,7 +26,7 @@ pub fn list_from(
     cells: &[u8],
     h: usize,
     theme: &[u8],
-    words: &[u64; BYTES],
+    words: &[u32; BYTES],
     from: usize,
     columns: &mut [u16],
     shifts: &mut [i16],
@@ -38,7 +38,7 @@ pub fn list_from(
     let n = columns_in(cells, h);
     let m = theme.len();
     let top = (m - 1) as u32;
-    let mut register: u64 = 0xffff_ffff_ffff_ffff;
+    let mut register: u32 = 0xffff_ffff;
     let mut k = from;
     let mut found: usize = 0;
     while (k < n) & (found < columns.len()) {

@@ -9,11 +9,11 @@ pub const BYTES: usize = 256;
 
 // The word of every byte: bit i is 0 where note i + 1 of the theme is that pitch, and all other bits are 1. A rest is no note,
 // so its word is all ones.
-pub fn words_of(theme: &[u8]) -> [u64; BYTES]
+pub fn words_of(theme: &[u8]) -> [u32; BYTES]
     requires { length theme.now ≤ word_bits }
     ensures { Words theme.now result }
 {
-    let mut words = [0xffff_ffff_ffff_ffffu64; BYTES];
+    let mut words = [0xffff_ffffu32; BYTES];
     let mut i = 0;
     while i < theme.len() {
         let p = theme[i] as usize;
@@ -25,7 +25,7 @@ pub fn words_of(theme: &[u8]) -> [u64; BYTES]
 
 // The words of a column's cells, and-ed: all ones where there are only rests. After the first cell it takes two a turn,
 // and then the one that may be left.
-pub fn column_word(column: &[u8], words: &[u64; BYTES]) -> u64
+pub fn column_word(column: &[u8], words: &[u32; BYTES]) -> u32
     requires { 1 ≤ length column.now }
     ensures { (theme : List ℕ) → Words theme words.now → result ≡ cells_word word_bits theme column.now }
 {

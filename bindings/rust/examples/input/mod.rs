@@ -1,13 +1,12 @@
-//! What the programs `why` and `staff` have in common: they take an input of the lister, a column and a shift. The theme may be
-//! longer than the lister takes it, up to 64 notes, as many as the library takes.
+//! What the programs `why` and `staff` have in common: they take an input of the lister, a column and a shift.
 
-use finder::{AnyWay, Pair, Way, MOST_COLUMNS, MOST_NOTES};
+use finder::{AnyWay, Pair, Way, MOST_COLUMNS};
 use std::ffi::{OsStr, OsString};
 use std::fmt::Display;
 use std::process::ExitCode;
 use std::{env, fs};
 
-/// A right input, with the name of its file.
+/// A right input of the lister, with the name of its file.
 pub struct Input {
     pub name: String,
     pub way: AnyWay,
@@ -53,9 +52,9 @@ fn open(file: &OsStr) -> Result<Input, String> {
     read(&name, &text).map_err(faulty)
 }
 
-/// Reads an input as the lister does, save that a theme may have more notes than it takes; or gives the number of its first
-/// faulty line, from 1. That no line of the lister's may have more than 160 bytes needs no check of its own: only a theme of more
-/// than 32 notes can be as long.
+
+/// Reads an input as the lister does, or gives the number of its first faulty line, from 1. That no line may have more than
+/// 160 bytes needs no check of its own: no right line is as long.
 fn read(name: &str, text: &[u8]) -> Result<Input, usize> {
     let mut lines = text.split_inclusive(|byte| *byte == b'\n');
     let (way, theme) = lines.next().and_then(theme_line).ok_or(1usize)?;
@@ -80,7 +79,7 @@ fn theme_line(line: &[u8]) -> Option<(AnyWay, Vec<u8>)> {
         _ => return None,
     };
     let notes: Vec<u8> = fields.map(pitch).collect::<Option<_>>()?;
-    (2..=MOST_NOTES).contains(&notes.len()).then_some((way, notes))
+    (2..=32).contains(&notes.len()).then_some((way, notes))
 }
 
 /// The cells of a chord line.

@@ -3,7 +3,6 @@
 
 use crate::third::{summary_of, Call, Lent};
 use finder::{AnyWay, Bookmark, Summary, Way};
-use std::ops::RangeInclusive;
 
 /// Xorshift, 64 bits: the same numbers in every run.
 pub struct Random(pub u64);
@@ -55,14 +54,9 @@ impl Random {
     /// own, sets of this score, of another or of none, with their summary, any bookmark, any column as the changed one, and a
     /// route that is long enough.
     pub fn call(&mut self, most_tracks: usize, most_columns: usize, most_notes: usize) -> Call {
-        self.call_of(most_tracks, 1..=most_columns, 2..=most_notes)
-    }
-
-    /// The same with so many columns and notes.
-    pub fn call_of(&mut self, most_tracks: usize, columns: RangeInclusive<usize>, notes: RangeInclusive<usize>) -> Call {
         let tracks = self.from(1, most_tracks);
-        let n = self.from(*columns.start(), *columns.end());
-        let m = self.from(*notes.start(), *notes.end());
+        let n = self.from(1, most_columns);
+        let m = self.from(2, most_notes);
         let pitches = [2, 5, 13, 30, 128][self.from(0, 4)];
         let rests = [0, 2, 9][self.from(0, 2)];
         let mut cells = self.bytes(n * tracks, pitches, rests);
@@ -89,8 +83,7 @@ impl Random {
         let room = if self.one_in(8) { n * 255 } else { self.from(1, 12) };
         let lent = Lent {
             sets: (1..n).map(|_| self.set()).collect(),
-            table: vec![self.next(); 4096],
-            table_32: vec![self.next() as u32; 4096],
+            table: vec![self.next() as u32; 4096],
             columns: vec![self.next() as u16; room],
             shifts: vec![self.next() as i16; room],
             route: vec![self.next() as u8; m + [0, 0, 1, 40][self.from(0, 3)]],
@@ -157,7 +150,7 @@ impl Random {
                 let cell = [127, 128, 200, 254, 255][self.from(0, 4)];
                 call.cells.get_mut(at).map(|c| *c = cell);
             }
-            5 => call.theme = vec![60; [0, 1, 2, 32, 33, 63, 64, 65, 80][self.from(0, 8)]],
+            5 => call.theme = vec![60; [0, 1, 2, 32, 33, 40][self.from(0, 5)]],
             6 => {
                 let at = self.from(0, call.theme.len().max(1) - 1);
                 let note = [127, 128, 255][self.from(0, 2)];
@@ -169,10 +162,7 @@ impl Random {
                 let set = [4095, 4096, 65535][self.from(0, 2)];
                 lent.sets.get_mut(at).map(|s| *s = set);
             }
-            9 => {
-                lent.table = vec![1; [0, 4095, 4097][self.from(0, 2)]];
-                lent.table_32 = vec![1; [0, 4095, 4096, 4097][self.from(0, 3)]];
-            }
+            9 => lent.table = vec![1; [0, 4095, 4097][self.from(0, 2)]],
             10 => lent.columns = vec![1; [0, 1, 13][self.from(0, 2)]],
             11 => lent.shifts = vec![1; [0, 1, 13][self.from(0, 2)]],
             12 => {

@@ -1,6 +1,6 @@
 //! What each call refuses, and in which order.
 
-use super::{summary_of, Call, Search};
+use super::{summary_of, Call};
 use finder::{Pair, Refusal};
 
 fn refuse<T>(number: u8, place: usize) -> Result<T, Refusal> {
@@ -31,7 +31,7 @@ impl Call {
         self.check_theme()?;
         self.check_sets_len()?;
         self.check_sets()?;
-        self.check_table(self.lent.table.len())?;
+        self.check_table()?;
         if self.summary != summary_of(&self.lent.sets) {
             return refuse(12, 0);
         }
@@ -59,14 +59,14 @@ impl Call {
         Ok(())
     }
 
-    /// Of a page.
-    pub fn check_pages(&self, search: Search) -> Result<(), Refusal> {
+    /// Of a page, plain or quick.
+    pub fn check_pages(&self, quick: bool) -> Result<(), Refusal> {
         self.check_score()?;
-        self.check_theme_up_to(if search == Search::Quick32 { 32 } else { 64 })?;
-        if search != Search::Plain {
+        self.check_theme()?;
+        if quick {
             self.check_sets_len()?;
             self.check_sets()?;
-            self.check_table(if search == Search::Quick32 { self.lent.table_32.len() } else { self.lent.table.len() })?;
+            self.check_table()?;
         }
         self.check_page()
     }
@@ -85,11 +85,7 @@ impl Call {
     }
 
     fn check_theme(&self) -> Result<(), Refusal> {
-        self.check_theme_up_to(64)
-    }
-
-    fn check_theme_up_to(&self, most: usize) -> Result<(), Refusal> {
-        if self.theme.len() < 2 || self.theme.len() > most {
+        if !(2..=32).contains(&self.theme.len()) {
             return refuse(4, 0);
         }
         match self.theme.iter().position(|p| *p > 127) {
@@ -112,8 +108,8 @@ impl Call {
         }
     }
 
-    fn check_table(&self, places: usize) -> Result<(), Refusal> {
-        if places != 4096 {
+    fn check_table(&self) -> Result<(), Refusal> {
+        if self.lent.table.len() != 4096 {
             return refuse(8, 0);
         }
         Ok(())

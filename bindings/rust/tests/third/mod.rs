@@ -8,23 +8,11 @@ pub mod routing;
 
 use finder::{AnyWay, Bookmark, Page, Refusal, Summary, Way};
 
-/// The searches that give pages.
-#[derive(Clone, Copy, PartialEq, Eq, Debug)]
-pub enum Search {
-    Plain,
-    /// With a table of 64-bit words.
-    Quick,
-    /// With one of 32-bit words, for themes of up to 32 notes.
-    Quick32,
-}
-
 /// A call's lent buffers, before and after.
 #[derive(Clone, PartialEq, Eq, Debug)]
 pub struct Lent {
     pub sets: Vec<u16>,
-    pub table: Vec<u64>,
-    /// that of the 32-bit quick page
-    pub table_32: Vec<u32>,
+    pub table: Vec<u32>,
     pub columns: Vec<u16>,
     pub shifts: Vec<i16>,
     pub route: Vec<u8>,
@@ -127,16 +115,16 @@ impl Call {
         (i32::from(self.theme[i + 1]) - i32::from(self.theme[i])).rem_euclid(12)
     }
 
-    /// The theme's table, with words of so many bits: all of them, less the weight of each interval that the set has.
-    fn table<W: TryFrom<u128>>(&self, bits: u32) -> Vec<W> {
-        let word = |l: u32| {
-            let mut word = 2_u128.pow(bits) - 1;
+    /// The theme's table.
+    fn table(&self) -> Vec<u32> {
+        let word = |l: usize| {
+            let mut word = !0;
             for i in 0..self.theme.len() - 1 {
                 if l >> self.interval(i) & 1 == 0 {
-                    word -= 2_u128.pow(i as u32);
+                    word &= !(1 << i);
                 }
             }
-            W::try_from(word).ok().expect("the word has no more bits")
+            word
         };
         (0..4096).map(word).collect()
     }
@@ -157,7 +145,7 @@ impl Call {
         if let Err(r) = self.check_question() {
             return (Err(r), lent);
         }
-        lent.table = self.table(64);
+        lent.table = self.table();
         let (lowest, highest) = self.shifts();
         let listed = |j: usize| {
             self.sought(j, true).is_some_and(|places| {
@@ -168,15 +156,13 @@ impl Call {
     }
 
     /// A page: the answer, and the lent buffers after it.
-    pub fn page(&self, search: Search) -> (Result<Page, Refusal>, Lent) {
+    pub fn page(&self, quick: bool) -> (Result<Page, Refusal>, Lent) {
         let mut lent = self.lent.clone();
-        if let Err(r) = self.check_pages(search) {
+        if let Err(r) = self.check_pages(quick) {
             return (Err(r), lent);
         }
-        match search {
-            Search::Plain => {}
-            Search::Quick => lent.table = self.table(64),
-            Search::Quick32 => lent.table_32 = self.table(32),
+        if quick {
+            lent.table = self.table();
         }
         let room = lent.columns.len();
         let (lowest, highest) = self.shifts();
@@ -184,7 +170,7 @@ impl Call {
         let cost = u32::from(self.way != AnyWay::Written);
         let (mut written, mut looks) = (0, 0);
         for j in 1..=self.n() {
-            let Some(places) = self.sought(j, search != Search::Plain) else { continue };
+            let Some(places) = self.sought(j, quick) else { continue };
             for c in lowest..=highest {
                 if (j, c) < (usize::from(self.bookmark.column), i32::from(self.bookmark.shift)) || !self.holds(j, 0, c) {
                     continue;

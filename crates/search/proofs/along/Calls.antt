@@ -20,6 +20,7 @@ use Rattle.ways.specs.Way.{range_of}
 use Rattle.ways.specs.Bookmarks.{key_of, finished_bookmark}
 use Rattle.asking.specs.Asking.{InRange, PlainAsks, QuickAsks}
 use Rattle.asking.proofs.Rows.{plain_clear, quick_clear}
+use Rattle.filter.specs.Limits.{word_bits}
 use Rattle.filter.specs.Table.{theme_table}
 use Rattle.paging.specs.declared.page.Page.{Page}
 use Rattle.paging.specs.declared.page.Page.TheVariants.{Turned, Refused}
@@ -107,32 +108,32 @@ written_along p = record { pages = p.pages }
 
 -- ---- quick
 
-module _ (w : ℕ) (cells : List ℕ) (h : ℕ) (theme : List ℕ) (way : Way) (b : Bookmark) (sets table columns : List ℕ) (shifts : List ℤ) {table' columns' : List ℕ} {shifts' : List ℤ} where
-  pub quick_away : {e : Refusal} → QuickWalks w cells h theme way b sets table columns shifts (Away e) table' columns' shifts'
-      → QuickAlongPages w cells h theme way b sets table (lent columns shifts) (Refused e) table' (lent columns' shifts')
+module _ (cells : List ℕ) (h : ℕ) (theme : List ℕ) (way : Way) (b : Bookmark) (sets table columns : List ℕ) (shifts : List ℤ) {table' columns' : List ℕ} {shifts' : List ℤ} where
+  pub quick_away : {e : Refusal} → QuickWalks cells h theme way b sets table columns shifts (Away e) table' columns' shifts'
+      → QuickAlongPages cells h theme way b sets table (lent columns shifts) (Refused e) table' (lent columns' shifts')
   unfolding quick_along_page quick_table quick_starts
   quick_away l =
       record {
-        pages = search_away (rows_of_quick w cells h theme way b sets table (lent columns shifts)) way (score_of cells h) theme (quick_starts w way (score_of cells h) theme (theme_table w theme) sets) b columns shifts l.finds;
+        pages = search_away (rows_of_quick cells h theme way b sets table (lent columns shifts)) way (score_of cells h) theme (quick_starts word_bits way (score_of cells h) theme (theme_table word_bits theme) sets) b columns shifts l.finds;
         fills_table = l.fills_table;
       }
 
-  module _ {went : Walked} (l : QuickWalks w cells h theme way b sets table columns shifts (Done went) table' columns' shifts') where
-    asked_quick : QuickAsks w cells h theme way b sets table columns shifts
-    asked_quick = (quick_clear w cells h theme way b sets table columns shifts).1 (finds_clear _ _ _ _ _ _ _ _ l.finds)
+  module _ {w : Walked} (l : QuickWalks cells h theme way b sets table columns shifts (Done w) table' columns' shifts') where
+    asked_quick : QuickAsks cells h theme way b sets table columns shifts
+    asked_quick = (quick_clear cells h theme way b sets table columns shifts).1 (finds_clear _ _ _ _ _ _ _ _ l.finds)
 
     pub quick_fits : {n : ℕ} → n ≡ columns_in cells h → n < 65536
     quick_fits e = omega (arith, e, asked_quick.plain.accepted.columns_few)
 
     pub quick_turns : {n : ℕ} {page : Page} → n ≡ columns_in cells h
-        → page ≡ Turned (read_turn (finished_bookmark (range_of way) (column_at n)) went.found went.looks (lent columns' shifts'))
-        → QuickAlongPages w cells h theme way b sets table (lent columns shifts) page table' (lent columns' shifts')
+        → page ≡ Turned (read_turn (finished_bookmark (range_of way) (column_at n)) w.found w.looks (lent columns' shifts'))
+        → QuickAlongPages cells h theme way b sets table (lent columns shifts) page table' (lent columns' shifts')
     unfolding quick_along_page quick_table quick_starts
     quick_turns e r =
         let asks = asked_quick.plain in
         record {
           pages =
-              search_turns (rows_of_quick w cells h theme way b sets table (lent columns shifts)) way (score_of cells h) theme (quick_starts w way (score_of cells h) theme (theme_table w theme) sets) b columns shifts asks.room asks.same_room
-              (left_quick way (score_of cells h) theme b (rw (score_length cells h) asks.marked) w (theme_table w theme) sets) l.finds (e ∙ sym (score_length cells h)) r;
+              search_turns (rows_of_quick cells h theme way b sets table (lent columns shifts)) way (score_of cells h) theme (quick_starts word_bits way (score_of cells h) theme (theme_table word_bits theme) sets) b columns shifts asks.room asks.same_room
+              (left_quick way (score_of cells h) theme b (rw (score_length cells h) asks.marked) word_bits (theme_table word_bits theme) sets) l.finds (e ∙ sym (score_length cells h)) r;
           fills_table = l.fills_table;
         }

@@ -29,6 +29,7 @@ use Rattle.ways.specs.declared.way.AnyWay.TheVariants.{Moved}
 use Rattle.ways.specs.declared.bookmark.Bookmark.{Bookmark}
 use Rattle.asking.specs.Asking.{Accepted, PlainAsks, QuickAsks}
 use Rattle.asking.proofs.Rows.{plain_clear, quick_clear}
+use Rattle.filter.specs.Limits.{word_bits}
 use Rattle.filter.specs.Table.{theme_table}
 use Rattle.paging.specs.declared.page.Page.{Page}
 use Rattle.paging.specs.declared.page.Page.TheVariants.{Refused}
@@ -158,53 +159,53 @@ module _ (cells : List ℕ) (h : ℕ) (theme : List ℕ) (way : AnyWay) (b : Boo
 
 -- ---- quick
 
-module _ (w : ℕ) (cells : List ℕ) (h : ℕ) (theme : List ℕ) (way : Way) (b : Bookmark) (sets table columns : List ℕ) (shifts : List ℤ) where
+module _ (cells : List ℕ) (h : ℕ) (theme : List ℕ) (way : Way) (b : Bookmark) (sets table columns : List ℕ) (shifts : List ℤ) where
   abbrev quickly : List Row
-  quickly = rows_of_quick w cells h theme way b sets table (lent columns shifts)
+  quickly = rows_of_quick cells h theme way b sets table (lent columns shifts)
 
   abbrev lents : Lent
   lents = lent columns shifts
 
-  full_quick_page : has_empty (score_of cells h) ≡ false → quick_page w cells h theme way b sets table lents ≡ quick_along_page w cells h theme way b sets table lents
+  full_quick_page : has_empty (score_of cells h) ≡ false → quick_page cells h theme way b sets table lents ≡ quick_along_page cells h theme way b sets table lents
   unfolding quick_page quick_along_page
   full_quick_page full =
       let score = score_of cells h in
-      let T = theme_table w theme in
-      judge_where (away lents) (leaf (quick_search w way score theme T sets) b lents) (leaf (quick_along w way score theme T sets) b lents) quickly
-      (λ c. let asks = (quick_clear w cells h theme way b sets table columns shifts).1 c in
+      let T = theme_table word_bits theme in
+      judge_where (away lents) (leaf (quick_search word_bits way score theme T sets) b lents) (leaf (quick_along word_bits way score theme T sets) b lents) quickly
+      (λ c. let asks = (quick_clear cells h theme way b sets table columns shifts).1 c in
       let a = asks.plain.accepted in
-      ap (λ (s : List (List ℕ)). leaf (in_score score (quick_along w way s theme T (entries_of score sets))) b lents) (full_heard score full)
-      ∙ ap (λ (l : List ℕ). leaf (in_score score (quick_along w way score theme T l)) b lents)
+      ap (λ (s : List (List ℕ)). leaf (in_score score (quick_along word_bits way s theme T (entries_of score sets))) b lents) (full_heard score full)
+      ∙ ap (λ (l : List ℕ). leaf (in_score score (quick_along word_bits way score theme T l)) b lents)
       (full_entries score full sets (asks.with_sets.one_less ∙ ap (λ (n : ℕ). n - 1) (sym (score_length cells h))))
-      ∙ full_leaf score full (quick_along w way score theme T sets) refl
-      (only_right (λ s. candidate w T sets (length theme) s.column) (along_search way score theme)
+      ∙ full_leaf score full (quick_along word_bits way score theme T sets) refl
+      (only_right (λ s. candidate word_bits T sets (length theme) s.column) (along_search way score theme)
       (along_right (Moved way) score theme a.notes_some (omega (arith, score_length cells h, a.columns_few)))) b lents)
 
-  silent_quick_page : heard_of (score_of cells h) ≡ [] → quick_page w cells h theme way b sets table lents ≡ quick_along_page w cells h theme way b sets table lents
+  silent_quick_page : heard_of (score_of cells h) ≡ [] → quick_page cells h theme way b sets table lents ≡ quick_along_page cells h theme way b sets table lents
   unfolding quick_page quick_along_page
   silent_quick_page silent =
       let score = score_of cells h in
-      let T = theme_table w theme in
-      judge_where (away lents) (leaf (quick_search w way score theme T sets) b lents) (leaf (quick_along w way score theme T sets) b lents) quickly
-      (λ c. let a = ((quick_clear w cells h theme way b sets table columns shifts).1 c).plain.accepted in
-      silent_quick_leaf score theme silent (omega (arith, a.notes_some)) b lents w way T sets)
+      let T = theme_table word_bits theme in
+      judge_where (away lents) (leaf (quick_search word_bits way score theme T sets) b lents) (leaf (quick_along word_bits way score theme T sets) b lents) quickly
+      (λ c. let a = ((quick_clear cells h theme way b sets table columns shifts).1 c).plain.accepted in
+      silent_quick_leaf score theme silent (omega (arith, a.notes_some)) b lents word_bits way T sets)
 
   pub along_quick_pages : {t : Bool} → t ≡ goes_along cells h → t ≡ true → {answer : Page} {table' : List ℕ} {after : Lent}
-      → QuickAlongPages w cells h theme way b sets table lents answer table' after → QuickPages w cells h theme way b sets table lents answer table' after
+      → QuickAlongPages cells h theme way b sets table lents answer table' after → QuickPages cells h theme way b sets table lents answer table' after
   along_quick_pages e g {answer} {table'} {after} p =
       record {
         pages = subst (λ (l : Leaf). Pages l answer after) (sym (goes_either cells h (sym e ∙ g) full_quick_page silent_quick_page)) p.pages;
         fills_table = p.fills_table;
       }
 
-  pub quick_checked : {v : Verdict} → v ≡ verdict quickly → v ≡ Passed → QuickAsks w cells h theme way b sets table columns shifts
-  quick_checked e p = (quick_clear w cells h theme way b sets table columns shifts).1 (verdict_clear quickly (sym e ∙ p))
+  pub quick_checked : {v : Verdict} → v ≡ verdict quickly → v ≡ Passed → QuickAsks cells h theme way b sets table columns shifts
+  quick_checked e p = (quick_clear cells h theme way b sets table columns shifts).1 (verdict_clear quickly (sym e ∙ p))
 
-  pub quick_refused : {v : Verdict} {r : Refusal} → v ≡ verdict quickly → v ≡ Away r → QuickPages w cells h theme way b sets table lents (Refused r) table lents
+  pub quick_refused : {v : Verdict} {r : Refusal} → v ≡ verdict quickly → v ≡ Away r → QuickPages cells h theme way b sets table lents (Refused r) table lents
   unfolding quick_page quick_table
   quick_refused {v} {r} e p =
-      let S = quick_search w way (score_of cells h) theme (theme_table w theme) sets in
+      let S = quick_search word_bits way (score_of cells h) theme (theme_table word_bits theme) sets in
       record {
         pages = away_pages quickly S b lents (judge_away (away lents) (leaf S b lents) quickly (sym e ∙ p)) refl;
-        fills_table = sym (judge_away (λ r. table) (theme_table w theme) quickly (sym e ∙ p));
+        fills_table = sym (judge_away (λ r. table) (theme_table word_bits theme) quickly (sym e ∙ p));
       }

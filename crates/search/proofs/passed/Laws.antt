@@ -29,8 +29,9 @@ use Rattle.ways.specs.declared.bookmark.Bookmark.{Bookmark}
 use Rattle.ways.specs.Way.{Range, range_as}
 use Rattle.ways.specs.Bookmarks.{finished_bookmark}
 use Rattle.asking.specs.Limits.{most_notes}
-use Rattle.asking.specs.Asking.{Accepted, InRange, PageAsks, QuickAsks}
-use Rattle.asking.proofs.Rows.{page_more, plain_clear, quick_clear}
+use Rattle.asking.specs.Asking.{Accepted, InRange, PlainAsks, QuickAsks}
+use Rattle.asking.proofs.Rows.{plain_clear, quick_clear}
+use Rattle.filter.specs.Limits.{word_bits}
 use Rattle.filter.specs.Table.{theme_table}
 use Rattle.paging.specs.declared.page.Turn.{Turn}
 use Rattle.paging.specs.declared.page.Page.{Page}
@@ -83,7 +84,7 @@ module _ {page : Page} {numbers columns : List ℕ} {shifts : List ℤ} where
 front : (vs d d' : List ℕ) (k : ℕ) → d' ≡ over d vs → k ≡ length vs → take k d' ≡ vs
 front vs d d' k e l = rw (l, e) (take-append_seam vs (drop (length vs) d))
 
-module _ {most : ℕ} (cells : List ℕ) (h : ℕ) (theme : List ℕ) (a : Accepted most cells h theme) where
+module _ (cells : List ℕ) (h : ℕ) (theme : List ℕ) (a : Accepted most_notes cells h theme) where
   abbrev heards : List (List ℕ)
   heards = heard_of (score_of cells h)
 
@@ -106,7 +107,7 @@ module _ {most : ℕ} (cells : List ℕ) (h : ℕ) (theme : List ℕ) (a : Accep
         many = many;
         some = omega (arith, many, l.some_heard);
         few = few;
-        small = omega (arith, mul-le-mul_right h few, all_cells);
+        small = omega (arith, mul-le-mul_right h few, most);
         cells_long = omega (arith, inside, l.room, kept_same);
         numbers_long = omega (arith, few, exact, numbers_same);
         numbers_many = length-take-le q numbers' (omega (arith, few, exact, numbers_same));
@@ -126,11 +127,11 @@ module _ {most : ℕ} (cells : List ℕ) (h : ℕ) (theme : List ℕ) (a : Accep
       few : q ≤ most_columns
       few = omega (arith, many, heard_few score, score_length cells h, a.columns_few)
 
-      all_cells : most_columns * h ≤ most_cells
-      all_cells = omega (arith, a.tracks_few)
+      most : most_columns * h ≤ most_cells
+      most = omega (arith, a.tracks_few)
 
       joined : length (join (heard_of score)) ≡ q * h
-      joined = kept_length most cells h theme a ∙ ap (λ (n : ℕ). n * h) (sym many)
+      joined = kept_length most_notes cells h theme a ∙ ap (λ (n : ℕ). n * h) (sym many)
 
       inside : q * h ≤ length cells
       inside =
@@ -150,15 +151,15 @@ module _ {most : ℕ} (cells : List ℕ) (h : ℕ) (theme : List ℕ) (a : Accep
       numbers_same = ap length named ∙ over_length numbers (heard_from 1 score) (omega (arith, heard_length 1 score, many, few, exact))
 
 -- the numbers go into a buffer that is all 0
-pub taken : {most : ℕ} {cells : List ℕ} {h : ℕ} {theme : List ℕ} (a : Accepted most cells h theme) {kept kept' numbers' : List ℕ} {q : ℕ} → Leaves cells h kept
+pub taken : {cells : List ℕ} {h : ℕ} {theme : List ℕ} (a : Accepted most_notes cells h theme) {kept kept' numbers' : List ℕ} {q : ℕ} → Leaves cells h kept
     → TakesOut cells h kept (replicate most_columns 0) q kept' numbers' → Took cells h theme a q kept' numbers'
-taken {cells = cells} {h = h} {theme = theme} a l t = took cells h theme a l (length-replicate {A = ℕ} most_columns 0) t
+taken {cells} {h} {theme} a l t = took cells h theme a l (length-replicate {A = ℕ} most_columns 0) t
 
--- ---- any page, for themes of `most` notes at most
+-- ---- plain
 
-module _ {most : ℕ} (cells : List ℕ) (h : ℕ) (theme : List ℕ) (way : AnyWay) (b : Bookmark) (columns : List ℕ) (shifts : List ℤ)
-    (asks : PageAsks most cells h theme way b columns shifts) where
-  abbrev a : Accepted most cells h theme
+module _ (cells : List ℕ) (h : ℕ) (theme : List ℕ) (way : AnyWay) (b : Bookmark) (columns : List ℕ) (shifts : List ℤ)
+    (asks : PlainAsks cells h theme way b columns shifts) where
+  abbrev a : Accepted most_notes cells h theme
   a = asks.accepted
 
   abbrev score : List (List ℕ)
@@ -183,56 +184,53 @@ module _ {most : ℕ} (cells : List ℕ) (h : ℕ) (theme : List ℕ) (way : Any
       among_same (range_as way) right.narrow score b (along.shown s) w.from_first w.to_last w.not_below
 
   -- the call along them is asked right
-  pub kept_asks : 1 ≤ length (heard_of score) → PageAsks most (join (heard_of score)) h theme way b' columns shifts
+  pub kept_asks : 1 ≤ length (heard_of score) → PlainAsks (join (heard_of score)) h theme way b' columns shifts
   kept_asks some =
       record {
-        accepted = kept_accepted most cells h theme a some;
+        accepted = kept_accepted most_notes cells h theme a some;
         room = asks.room;
         same_room = asks.same_room;
-        marked = rw (kept_columns most cells h theme a) marked;
+        marked = rw (kept_columns most_notes cells h theme a) marked;
       }
 
-  -- ---- plain
+  plain_rows : Clear (rows_of_plain cells h theme way b (lent columns shifts))
+  plain_rows = (plain_clear cells h theme way b columns shifts).0 asks
 
-  module _ (few : most ≤ most_notes) where
-    plain_rows : Clear (rows_of_plain cells h theme way b (lent columns shifts))
-    plain_rows = (plain_clear cells h theme way b columns shifts).0 (page_more few asks)
+  along_leaf : 1 ≤ length (heard_of score) → along_page (join (heard_of score)) h theme way b' (lent columns shifts) ≡ leaf along b' (lent columns shifts)
+  unfolding along_page
+  along_leaf some =
+      paged_clear (rows_of_plain (join (heard_of score)) h theme way b' (lent columns shifts)) (along_as way (score_of (join (heard_of score)) h) theme) b' (lent columns shifts)
+      ((plain_clear (join (heard_of score)) h theme way b' columns shifts).0 (kept_asks some))
+      ∙ ap (λ (s : List (List ℕ)). leaf (along_as way s theme) b' (lent columns shifts)) (kept_score most_notes cells h theme a)
 
-    along_leaf : 1 ≤ length (heard_of score) → along_page (join (heard_of score)) h theme way b' (lent columns shifts) ≡ leaf along b' (lent columns shifts)
-    unfolding along_page
-    along_leaf some =
-        paged_clear (rows_of_plain (join (heard_of score)) h theme way b' (lent columns shifts)) (along_as way (score_of (join (heard_of score)) h) theme) b' (lent columns shifts)
-        ((plain_clear (join (heard_of score)) h theme way b' columns shifts).0 (page_more few (kept_asks some)))
-        ∙ ap (λ (s : List (List ℕ)). leaf (along_as way s theme) b' (lent columns shifts)) (kept_score most cells h theme a)
+  -- a page along them, renamed and read anew
+  in_score : {columns' columns'' : List ℕ} {shifts' : List ℤ} {answer : Page} (page : Page) → Pages (leaf along b' (lent columns shifts)) page (lent columns' shifts')
+      → InScore page (finished_bookmark (range_as way) (column_at (length score))) (heard_from 1 score) columns' shifts' answer columns''
+      → Pages (plain_page cells h theme way b (lent columns shifts)) answer (lent columns'' shifts')
+  unfolding plain_page
+  in_score (Turned u) p i =
+      rw i.answers
+      (renumbered_pages (length score) (number_of score) along b b' same (rows_of_plain cells h theme way b (lent columns shifts)) columns shifts asks.room asks.same_room plain_rows p
+      i.renames refl)
+  in_score (Refused r) p i = absurd (turned_refused (sym p.answers))
 
-    -- a page along them, renamed and read anew
-    in_score : {columns' columns'' : List ℕ} {shifts' : List ℤ} {answer : Page} (page : Page) → Pages (leaf along b' (lent columns shifts)) page (lent columns' shifts')
-        → InScore page (finished_bookmark (range_as way) (column_at (length score))) (heard_from 1 score) columns' shifts' answer columns''
-        → Pages (plain_page cells h theme way b (lent columns shifts)) answer (lent columns'' shifts')
-    unfolding plain_page
-    in_score (Turned u) p i =
-        rw i.answers
-        (renumbered_pages (length score) (number_of score) along b b' same (rows_of_plain cells h theme way b (lent columns shifts)) columns shifts asks.room asks.same_room plain_rows p
-        i.renames refl)
-    in_score (Refused r) p i = absurd (turned_refused (sym p.answers))
+  -- a page along them, renamed, is one of the score
+  module _ {n q k : ℕ} {kept numbers : List ℕ} (t : Took cells h theme a q kept numbers) (counted : n ≡ columns_in cells h) (e : k ≡ q * h) where
+    some_heard : 1 ≤ length (heard_of score)
+    some_heard = omega (arith, t.some, t.many)
 
-    -- a page along them, renamed, is one of the score
-    module _ {n q k : ℕ} {kept numbers : List ℕ} (t : Took cells h theme a q kept numbers) (counted : n ≡ columns_in cells h) (e : k ≡ q * h) where
-      some_heard : 1 ≤ length (heard_of score)
-      some_heard = omega (arith, t.some, t.many)
-
-      pub passed_turns : {mark : Bookmark} → mark ≡ among (range_as way) (take q numbers) b
-          → {page answer : Page} {columns' columns'' : List ℕ} {shifts' : List ℤ}
-          → AlongPages (take k kept) h theme way mark (lent columns shifts) page (lent columns' shifts')
-          → InScore page (finished_bookmark (range_as way) (column_at n)) (take q numbers) columns' shifts' answer columns''
-          → PlainPages cells h theme way b (lent columns shifts) answer (lent columns'' shifts')
-      passed_turns {mark} m {page} {answer} {columns'} {columns''} {shifts'} p i =
-          let is : mark ≡ b' = m ∙ ap (λ (l : List ℕ). among (range_as way) l b) t.numbers_front in
-          let along_page_lem : Pages (leaf along b' (lent columns shifts)) page (lent columns' shifts') =
-          subst (λ (l : Leaf). Pages l page (lent columns' shifts'))
-          (ap (λ (c : List ℕ). along_page c h theme way mark (lent columns shifts)) (t.cells_front e)
-          ∙ ap (λ (x : Bookmark). along_page (join (heard_of score)) h theme way x (lent columns shifts)) is ∙ along_leaf some_heard) p.pages in
-          record { pages = in_score page along_page_lem (rw (t.numbers_front, counted ∙ sym (score_length cells h)) at i) }
+    pub passed_turns : {mark : Bookmark} → mark ≡ among (range_as way) (take q numbers) b
+        → {page answer : Page} {columns' columns'' : List ℕ} {shifts' : List ℤ}
+        → AlongPages (take k kept) h theme way mark (lent columns shifts) page (lent columns' shifts')
+        → InScore page (finished_bookmark (range_as way) (column_at n)) (take q numbers) columns' shifts' answer columns''
+        → PlainPages cells h theme way b (lent columns shifts) answer (lent columns'' shifts')
+    passed_turns {mark} m {page} {answer} {columns'} {columns''} {shifts'} p i =
+        let is : mark ≡ b' = m ∙ ap (λ (l : List ℕ). among (range_as way) l b) t.numbers_front in
+        let along_page_lem : Pages (leaf along b' (lent columns shifts)) page (lent columns' shifts') =
+        subst (λ (l : Leaf). Pages l page (lent columns' shifts'))
+        (ap (λ (c : List ℕ). along_page c h theme way mark (lent columns shifts)) (t.cells_front e)
+        ∙ ap (λ (x : Bookmark). along_page (join (heard_of score)) h theme way x (lent columns shifts)) is ∙ along_leaf some_heard) p.pages in
+        record { pages = in_score page along_page_lem (rw (t.numbers_front, counted ∙ sym (score_length cells h)) at i) }
 
 -- ---- quick
 
@@ -249,9 +247,9 @@ good_entries : (sets : List ℕ) → any_of bad_set sets ≡ false → (numbers 
 good_entries sets e [] = refl
 good_entries sets e (k ∷ numbers) = rw (le-ltb highest_set (entry_at sets k) (none_over highest_set sets e (k - 1))) (good_entries sets e numbers)
 
-module _ {w : ℕ} (cells : List ℕ) (h : ℕ) (theme : List ℕ) (way : Way) (b : Bookmark) (sets table columns : List ℕ) (shifts : List ℤ)
-    (asks : QuickAsks w cells h theme way b sets table columns shifts) where
-  abbrev plainly : PageAsks w cells h theme (Moved way) b columns shifts
+module _ (cells : List ℕ) (h : ℕ) (theme : List ℕ) (way : Way) (b : Bookmark) (sets table columns : List ℕ) (shifts : List ℤ)
+    (asks : QuickAsks cells h theme way b sets table columns shifts) where
+  abbrev plainly : PlainAsks cells h theme (Moved way) b columns shifts
   plainly = asks.plain
 
   abbrev columns_heard : List (List ℕ)
@@ -261,7 +259,7 @@ module _ {w : ℕ} (cells : List ℕ) (h : ℕ) (theme : List ℕ) (way : Way) (
   entries = entries_of (score_of cells h) sets
 
   abbrev candidates : Search Place
-  candidates = quick_along w way columns_heard theme (theme_table w theme) entries
+  candidates = quick_along word_bits way columns_heard theme (theme_table word_bits theme) entries
 
   abbrev mark' : Bookmark
   mark' = b' cells h theme (Moved way) b columns shifts plainly
@@ -270,9 +268,9 @@ module _ {w : ℕ} (cells : List ℕ) (h : ℕ) (theme : List ℕ) (way : Way) (
       → at_or_after b (renamed (number_of (score_of cells h)) (candidates.shown s)) ≡ at_or_after mark' (candidates.shown s)
   same_candidates s m =
       same cells h theme (Moved way) b columns shifts plainly s
-      (in_hits (λ s. candidate w (theme_table w theme) entries (length theme) s.column) (starts way columns_heard theme) m).0
+      (in_hits (λ s. candidate word_bits (theme_table word_bits theme) entries (length theme) s.column) (starts way columns_heard theme) m).0
 
-  kept_quick_asks : 1 ≤ length columns_heard → QuickAsks w (join columns_heard) h theme way mark' entries table columns shifts
+  kept_quick_asks : 1 ≤ length columns_heard → QuickAsks (join columns_heard) h theme way mark' entries table columns shifts
   kept_quick_asks some =
       record {
         plain = kept_asks cells h theme (Moved way) b columns shifts plainly some;
@@ -281,43 +279,43 @@ module _ {w : ℕ} (cells : List ℕ) (h : ℕ) (theme : List ℕ) (way : Way) (
               one_less =
                   length-map (take (length columns_heard - 1) (heard_from 1 (score_of cells h))) (entry_at sets)
                   ∙ length-take-le (length columns_heard - 1) (heard_from 1 (score_of cells h)) (omega (arith, heard_length 1 (score_of cells h)))
-                  ∙ ap (λ (n : ℕ). n - 1) (sym (kept_columns w cells h theme plainly.accepted));
+                  ∙ ap (λ (n : ℕ). n - 1) (sym (kept_columns most_notes cells h theme plainly.accepted));
               sets_good = good_entries sets asks.with_sets.sets_good (take (length columns_heard - 1) (heard_from 1 (score_of cells h)));
             };
         table_long = asks.table_long;
       }
 
-  quick_rows : Clear (rows_of_quick w cells h theme way b sets table (lent columns shifts))
-  quick_rows = (quick_clear w cells h theme way b sets table columns shifts).0 asks
+  quick_rows : Clear (rows_of_quick cells h theme way b sets table (lent columns shifts))
+  quick_rows = (quick_clear cells h theme way b sets table columns shifts).0 asks
 
-  pub quick_filled : quick_table w cells h theme way b sets table (lent columns shifts) ≡ theme_table w theme
+  pub quick_filled : quick_table cells h theme way b sets table (lent columns shifts) ≡ theme_table word_bits theme
   unfolding quick_table
-  quick_filled = judge_clear (λ r. table) (theme_table w theme) (rows_of_quick w cells h theme way b sets table (lent columns shifts)) quick_rows
+  quick_filled = judge_clear (λ r. table) (theme_table word_bits theme) (rows_of_quick cells h theme way b sets table (lent columns shifts)) quick_rows
 
   quick_leaf : 1 ≤ length columns_heard
-      → quick_along_page w (join columns_heard) h theme way mark' entries table (lent columns shifts) ≡ leaf candidates mark' (lent columns shifts)
+      → quick_along_page (join columns_heard) h theme way mark' entries table (lent columns shifts) ≡ leaf candidates mark' (lent columns shifts)
   unfolding quick_along_page
   quick_leaf some =
-      paged_clear (rows_of_quick w (join columns_heard) h theme way mark' entries table (lent columns shifts))
-      (quick_along w way (score_of (join columns_heard) h) theme (theme_table w theme) entries) mark' (lent columns shifts)
-      ((quick_clear w (join columns_heard) h theme way mark' entries table columns shifts).0 (kept_quick_asks some))
-      ∙ ap (λ (s : List (List ℕ)). leaf (quick_along w way s theme (theme_table w theme) entries) mark' (lent columns shifts))
-      (kept_score w cells h theme plainly.accepted)
+      paged_clear (rows_of_quick (join columns_heard) h theme way mark' entries table (lent columns shifts))
+      (quick_along word_bits way (score_of (join columns_heard) h) theme (theme_table word_bits theme) entries) mark' (lent columns shifts)
+      ((quick_clear (join columns_heard) h theme way mark' entries table columns shifts).0 (kept_quick_asks some))
+      ∙ ap (λ (s : List (List ℕ)). leaf (quick_along word_bits way s theme (theme_table word_bits theme) entries) mark' (lent columns shifts))
+      (kept_score most_notes cells h theme plainly.accepted)
 
-  inner_filled : 1 ≤ length columns_heard → quick_table w (join columns_heard) h theme way mark' entries table (lent columns shifts) ≡ theme_table w theme
+  inner_filled : 1 ≤ length columns_heard → quick_table (join columns_heard) h theme way mark' entries table (lent columns shifts) ≡ theme_table word_bits theme
   unfolding quick_table
   inner_filled some =
-      judge_clear (λ r. table) (theme_table w theme) (rows_of_quick w (join columns_heard) h theme way mark' entries table (lent columns shifts))
-      ((quick_clear w (join columns_heard) h theme way mark' entries table columns shifts).0 (kept_quick_asks some))
+      judge_clear (λ r. table) (theme_table word_bits theme) (rows_of_quick (join columns_heard) h theme way mark' entries table (lent columns shifts))
+      ((quick_clear (join columns_heard) h theme way mark' entries table columns shifts).0 (kept_quick_asks some))
 
   in_score_quick : {columns' columns'' : List ℕ} {shifts' : List ℤ} {answer : Page} (page : Page) → Pages (leaf candidates mark' (lent columns shifts)) page (lent columns' shifts')
       → InScore page (finished_bookmark (range_as (Moved way)) (column_at (length (score_of cells h)))) (heard_from 1 (score_of cells h)) columns' shifts' answer columns''
-      → Pages (quick_page w cells h theme way b sets table (lent columns shifts)) answer (lent columns'' shifts')
+      → Pages (quick_page cells h theme way b sets table (lent columns shifts)) answer (lent columns'' shifts')
   unfolding quick_page
   in_score_quick (Turned u) p i =
       rw i.answers
       (renumbered_pages (length (score_of cells h)) (number_of (score_of cells h)) candidates b mark' same_candidates
-      (rows_of_quick w cells h theme way b sets table (lent columns shifts)) columns shifts plainly.room plainly.same_room quick_rows p i.renames refl)
+      (rows_of_quick cells h theme way b sets table (lent columns shifts)) columns shifts plainly.room plainly.same_room quick_rows p i.renames refl)
   in_score_quick (Refused r) p i = absurd (turned_refused (sym p.answers))
 
   -- the entries of the columns that are kept
@@ -342,12 +340,12 @@ module _ {w : ℕ} (cells : List ℕ) (h : ℕ) (theme : List ℕ) (way : Way) (
 
     pub passed_quick_turns : {mark : Bookmark} → mark ≡ among (range_as (Moved way)) (take q numbers) b
         → {page answer : Page} {table' columns' columns'' : List ℕ} {shifts' : List ℤ}
-        → QuickAlongPages w (take k kept) h theme way mark (take last into') table (lent columns shifts) page table' (lent columns' shifts')
+        → QuickAlongPages (take k kept) h theme way mark (take last into') table (lent columns shifts) page table' (lent columns' shifts')
         → InScore page (finished_bookmark (range_as (Moved way)) (column_at n)) (take q numbers) columns' shifts' answer columns''
-        → QuickPages w cells h theme way b sets table (lent columns shifts) answer table' (lent columns'' shifts')
+        → QuickPages cells h theme way b sets table (lent columns shifts) answer table' (lent columns'' shifts')
     passed_quick_turns {mark} m {page} {answer} {table'} {columns'} {columns''} {shifts'} p i =
         let is : mark ≡ mark' = m ∙ ap (λ (l : List ℕ). among (range_as (Moved way)) l b) t.numbers_front in
-        let given : QuickAlongPages w (join columns_heard) h theme way mark' entries table (lent columns shifts) page table' (lent columns' shifts') =
+        let given : QuickAlongPages (join columns_heard) h theme way mark' entries table (lent columns shifts) page table' (lent columns' shifts') =
         rw (t.cells_front e, kept_entries t l (length-replicate {A = ℕ} most_columns 0) s, is) at p in
         record {
           pages =

@@ -107,7 +107,7 @@ pub record Filling (way : Way) (cells : List ℕ) (h : ℕ) (theme : List ℕ) (
   pub taking : Taking way (score_of cells h) theme (column_starts way (score_of cells h) theme j x) found columns₀ shifts₀
       columns shifts (column_starts way (score_of cells h) theme j code) at spent
   pub low : code ≤ span way
-  pub bounded : spent ≤ code * 64
+  pub bounded : spent ≤ code * 32
 
 module _ (way : Way) (cells : List ℕ) (h : ℕ) (theme : List ℕ) (j x found : ℕ) (columns₀ : List ℕ) (shifts₀ : List ℤ) where
   pub fill_start : x ≤ span way → found ≤ length columns₀ → length shifts₀ ≡ length columns₀
@@ -141,7 +141,7 @@ module _ (way : Way) (cells : List ℕ) (h : ℕ) (theme : List ℕ) (j x found 
       module _ (q : next < span way) (some_room : at < length columns) (hits : Bool) (costs : ℕ)
           (tried : Trial way (score_of cells h) theme j next hits costs) where
         -- it costs few looks
-        pub fill_bound : spent + costs ≤ (next + 1) * 64
+        pub fill_bound : spent + costs ≤ (next + 1) * 32
         fill_bound = omega (arith, t.bounded, tried.costs, looks_le way (score_of cells h) theme (place j next), r.notes_most, fill_further)
 
         pub fill_turn : (columns' : List ℕ) (shifts' : List ℤ) (at' : ℕ) → Puts way j

@@ -30,6 +30,7 @@ use Rattle.ways.proofs.Coding.{code_given_lem}
 use Rattle.asking.specs.Asking.{PlainAsks}
 use Rattle.walking.specs.declared.walked.Spot.{Spot}
 use Rattle.walking.specs.Starts.{Place, key, starts, hit, looks}
+use Rattle.filter.specs.Limits.{word_bits}
 use Rattle.walking.specs.Candidates.{candidate, quick_starts}
 use Rattle.walking.specs.Scan.{ListsCandidates}
 use Rattle.walking.specs.Walk.{Ready, Fits, end_of, begun, gone_on, list_starts, ListsEvery, Tries, Along, Walks}
@@ -202,13 +203,13 @@ module _ {cells : List ℕ} {h : ℕ} {theme : List ℕ} {way : Way} {b : Bookma
       walk_start (accepted_ready a.accepted) spot begun_first low (ap (λ (s : Spot). s.found) e) a.same_room
       (sym (hits_all (from key (spot_key spot) (starts way (score_of cells h) theme))))
 
-  pub quick_start : (w : ℕ) (table sets : List ℕ)
-      → Walking (candidate w table sets (length theme)) way cells h theme
-      (from key (spot_key spot) (quick_starts w way (score_of cells h) theme table sets)) columns shifts columns shifts spot 0
+  pub quick_start : (table sets : List ℕ)
+      → Walking (candidate word_bits table sets (length theme)) way cells h theme
+      (from key (spot_key spot) (quick_starts word_bits way (score_of cells h) theme table sets)) columns shifts columns shifts spot 0
   unfolding quick_starts
-  quick_start w table sets =
+  quick_start table sets =
       walk_start (accepted_ready a.accepted) spot begun_first low (ap (λ (s : Spot). s.found) e) a.same_room
-      (from_hits key (λ s. candidate w table sets (length theme) s.column) 256 (spot_key spot)
+      (from_hits key (λ s. candidate word_bits table sets (length theme) s.column) 256 (spot_key spot)
       (starts way (score_of cells h) theme) (starts_rising way (score_of cells h) theme))
 
 -- ---- what is listed in front: the columns that are kept
@@ -234,16 +235,16 @@ module _ {j many : ℕ} {list₀ list : List ℕ} (l : ListsEvery j many list₀
         listed = rw (← e, z) (listed_front list₀ (count j many) list many l.listed (sym (count_length j many)) ∙ sym (hits_all (count j many)));
       }
 
-module _ {w : ℕ} {table sets : List ℕ} {m j end : ℕ} {list₀ : List ℕ} {register j' k : ℕ} {list : List ℕ}
-    (l : ListsCandidates w table sets m j end list₀ register j' k list) where
+module _ {table sets : List ℕ} {m j end : ℕ} {list₀ : List ℕ} {register j' k : ℕ} {list : List ℕ}
+    (l : ListsCandidates table sets m j end list₀ register j' k list) where
   pub candidates_long : length list ≡ length list₀
   candidates_long = ap length l.listed ∙ over_length list₀ l.candidates (omega (arith, l.counted, l.few))
 
   pub candidates_turn : {way : Way} {cells : List ℕ} {h : ℕ} {theme : List ℕ} {whole : List Place} {columns₀ : List ℕ} {shifts₀ : List ℤ}
       {columns : List ℕ} {shifts : List ℤ} {spot : Spot} {spent : ℕ}
-      → Walking (candidate w table sets m) way cells h theme whole columns₀ shifts₀ columns shifts spot spent → j ≡ spot.column.0
+      → Walking (candidate word_bits table sets m) way cells h theme whole columns₀ shifts₀ columns shifts spot spent → j ≡ spot.column.0
       → end ≤ end_of cells h theme
-      → Turn (candidate w table sets m) way cells h theme whole columns₀ shifts₀ columns shifts spot spent j' (take (k - 0) (drop 0 list))
+      → Turn (candidate word_bits table sets m) way cells h theme whole columns₀ shifts₀ columns shifts spot spent j' (take (k - 0) (drop 0 list))
   candidates_turn t e f =
       record {
         walking = t;

@@ -3,7 +3,6 @@
 use borrow.Author.Rules.{rules}
 use Rattle.score.specs.Score.{columns_in}
 use Rattle.ways.specs.Way.{range_of}
-use Rattle.asking.specs.Limits.{most_notes}
 use Rattle.asking.specs.Refusals.{with_sets_rows, page_rows}
 use Rattle.score.proofs.Judging.{turned_away, gone_on}
 use Rattle.asking.proofs.checks.check_quick.Statement.{statement}
@@ -19,7 +18,7 @@ returns : tie.Need-returns
 returns c =
     let k = c.before.before.before in
     let a = k.before.before.before.before.args in
-    turned_away (with_sets_rows most_notes a.cells.now a.tracks a.theme.now a.sets.now a.table)
+    turned_away (with_sets_rows a.cells.now a.tracks a.theme.now a.sets.now a.table)
     (page_rows (range_of a.way) (columns_in a.cells.now a.tracks) a.bookmark a.r a.other) k.check-with-sets.ensures c.before.e.given.1
 
 enum_told : tie.Need-enum-told
@@ -35,7 +34,7 @@ returns_2 : tie.Need-returns-2
 returns_2 c =
     let k = c.before.before.before.before in
     let a = k.before.before.before.before.args in
-    gone_on (with_sets_rows most_notes a.cells.now a.tracks a.theme.now a.sets.now a.table)
+    gone_on (with_sets_rows a.cells.now a.tracks a.theme.now a.sets.now a.table)
     (page_rows (range_of a.way) (columns_in a.cells.now a.tracks) a.bookmark a.r a.other) k.check-with-sets.ensures
     c.before.before.enum_told.given.1 (rw c.before.columns-in.ensures at c.check-page.ensures)
 

@@ -3,6 +3,7 @@
 use borrow.Author.Rules.{rules}
 use mathlib.Core.List.{[]}
 use mathlib.Core.Path.{refl}
+use Rattle.asking.specs.Limits.{most_notes}
 use Rattle.asking.specs.Refusals.{request_rows, sets_rows}
 use Rattle.score.proofs.Judging.{turned_away}
 use Rattle.asking.proofs.checks.Laws.{sets_away, sets_on, table_away, table_on}
@@ -19,7 +20,7 @@ returns : tie.Need-returns
 returns c =
     let m = c.before.before.before in
     let a = m.before.before.before.before.args in
-    turned_away (request_rows a.most a.cells.now a.tracks a.theme.now) (sets_rows a.cells.now a.tracks a.sets.now a.table)
+    turned_away (request_rows most_notes a.cells.now a.tracks a.theme.now) (sets_rows a.cells.now a.tracks a.sets.now a.table)
     m.check-request.ensures c.before.e.given.1
 
 enum_told : tie.Need-enum-told
@@ -36,7 +37,7 @@ returns_2 c =
     let k = c.before.before.before in
     let m = k.before.before.before in
     let a = m.before.before.before.before.args in
-    sets_away (request_rows a.most a.cells.now a.tracks a.theme.now) a.cells.now a.tracks a.sets.now a.table []
+    sets_away (request_rows most_notes a.cells.now a.tracks a.theme.now) a.cells.now a.tracks a.sets.now a.table []
     m.check-request.ensures k.before.enum_told.given.1 k.check-sets.ensures c.before.e2.given.1
 
 enum-told-2 : tie.Need-enum-told-2
@@ -50,7 +51,7 @@ returns-3 c =
     let k = c.before.before.before.before in
     let m = k.before.before.before in
     let a = m.before.before.before.before.args in
-    sets_on (request_rows a.most a.cells.now a.tracks a.theme.now) a.cells.now a.tracks a.sets.now a.table []
+    sets_on (request_rows most_notes a.cells.now a.tracks a.theme.now) a.cells.now a.tracks a.sets.now a.table []
     m.check-request.ensures k.before.enum_told.given.1 k.check-sets.ensures c.before.before.enum-told2.given.1
     (table_away a.table [] c.before.if1.true c.refused.ensures)
 
@@ -59,7 +60,7 @@ returns-4 c =
     let k = c.before.before.before in
     let m = k.before.before.before in
     let a = m.before.before.before.before.args in
-    sets_on (request_rows a.most a.cells.now a.tracks a.theme.now) a.cells.now a.tracks a.sets.now a.table []
+    sets_on (request_rows most_notes a.cells.now a.tracks a.theme.now) a.cells.now a.tracks a.sets.now a.table []
     m.check-request.ensures k.before.enum_told.given.1 k.check-sets.ensures c.before.enum-told2.given.1
     (table_on a.table [] c.if1.false refl)
 

@@ -10,7 +10,7 @@ abbrev invariant-loop : tie.invariant-loop
 invariant-loop theme₀ e i₀ theme i = length theme ≡ length theme₀
 
 abbrev decreases-loop : tie.decreases-loop
-decreases-loop theme₀ e i₀ theme i = 66 - i
+decreases-loop theme₀ e i₀ theme i = 32 - i
 
 loop-holds : tie.Need-loop-init invariant-loop decreases-loop
 loop-holds c = search rules

@@ -6,9 +6,6 @@ use Rattle.filter.specs.Limits.{word_bits}
 use Rattle.filter.proofs.register.marks.Statement.{statement}
 use Rattle.filter.proofs.register.marks.Tie as tie
 
-cast-result : tie.Need-overflow-cast-result
-cast-result c = record { fits = omega arith }
-
 shr-result : tie.Need-overflow-shr-result
 shr-result c = omega arith
 
@@ -16,4 +13,4 @@ returns : tie.Need-returns
 returns c = ap (λ (n : ℕ). eqb n 0) (shr_and_one c.args.register (c.args.top % word_bits))
 
 pub marks_spec : {M : Type 1} → statement M
-marks_spec = tie.close (tie.spec cast-result shr-result returns)
+marks_spec = tie.close (tie.spec shr-result returns)

@@ -2,7 +2,6 @@
 -- is told. Assumes nothing.
 use borrow.Author.Rules.{rules}
 use mathlib.Core.Path.{sym, ◌∙◌}
-use native.Mathlib.Omega.{arith}
 use lib.ListN.{length}
 use mir.Syntax.{w16, w64}
 use mir.Facts.{to_z-of_z}
@@ -29,7 +28,7 @@ told-page-requires c κs =
     let called = page.before.before.before.before.before in
     let start = called.before.before.before.before.before.before.before in
     let long = call_long octave start.args.way answer_numbers (length start.args.answer.now) in
-    (quick_pages_small page.quick_page_lem.ensures (omega arith), long (sym called.before.no_call.ensures ∙ called.if1.false))
+    (quick_pages_small page.quick_page_lem.ensures, long (sym called.before.no_call.ensures ∙ called.if1.false))
 
 same_length : tie.Need-same-length
 same_length c = search rules

@@ -15,8 +15,8 @@ decreases-loop cells theme₀ a round n j₀ i₀ i-end theme j i = i-end - i
 columns-of-requires : tie.Need-columns-of-requires invariant-loop decreases-loop
 columns-of-requires c κs = search rules
 
-cut-column-requires : tie.Need-cut-column-requires invariant-loop decreases-loop
-cut-column-requires c κs = search rules
+column-in-requires : tie.Need-column-in-requires invariant-loop decreases-loop
+column-in-requires c κs = search rules
 
 loop-holds : tie.Need-loop-init invariant-loop decreases-loop
 loop-holds c = search rules
@@ -52,7 +52,7 @@ fill_sparse_theme_spec =
     invariant-loop
     decreases-loop
     columns-of-requires
-    cut-column-requires
+    column-in-requires
     loop-holds
     note-of-requires
     put-byte-requires

@@ -19,6 +19,9 @@ word-requires c κs = search rules
 word-mark-requires : tie.Need-word-mark-requires invariant-loop decreases-loop
 word-mark-requires c κs = search rules
 
+size32-requires : tie.Need-size32-requires invariant-loop decreases-loop
+size32-requires c κs = search rules
+
 returns : tie.Need-returns invariant-loop decreases-loop
 returns c = search rules
 
@@ -43,6 +46,7 @@ words_kept_spec =
     loop-holds
     word-requires
     word-mark-requires
+    size32-requires
     returns
     add-i
     loop-less

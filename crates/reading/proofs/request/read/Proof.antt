@@ -2,7 +2,7 @@
 use Prim.Native.Nat.{◌≤◌}
 use native.Mathlib.Omega.{arith}
 use lib.ListN.{length}
-use Rattle.asking.specs.Limits.{narrow_notes}
+use Rattle.asking.specs.Limits.{most_notes}
 use Rattle.score.specs.Limits.{most_cells}
 use Rattle.reading.proofs.Takings.{both_long, takes_short, Within, held_within, takes_held}
 use borrow.Author.Rules.{rules}
@@ -34,7 +34,7 @@ within l = held_within l.all_lines.ensures
 -- and both lent buffers are long enough
 room : (l : tie.After-all-lines)
     → let a = l.before.before.before.before.before.before.before in
-    (narrow_notes ≤ length a.args.theme.now) × (most_cells ≤ length a.args.cells.now)
+    (most_notes ≤ length a.args.theme.now) × (most_cells ≤ length a.args.cells.now)
 room l =
     let e = l.before.before.before in
     let a = e.before.before.before.before in

@@ -17,7 +17,7 @@ columns-in-requires c κs = search rules
 page-of-requires : tie.Need-page-of-requires
 page-of-requires c κs =
     let found = c.before.before.before.before in
-    quick_fits _ _ _ _ _ _ _ _ _ _
+    quick_fits _ _ _ _ _ _ _ _ _
     (rw found.w.given.1 at found.before.before.before.before.before.before.before.walk-quick.ensures) c.before.before.columns-in.ensures
 
 enum-known-e : tie.Need-enum-known-e
@@ -36,7 +36,7 @@ returns : tie.Need-returns
 returns c =
     let counted = c.before.before.before in
     let found = counted.before.before in
-    quick_turns _ _ _ _ _ _ _ _ _ _
+    quick_turns _ _ _ _ _ _ _ _ _
     (rw found.w.given.1 at found.before.before.before.before.before.before.before.walk-quick.ensures) counted.columns-in.ensures c.page-of.ensures
 
 same-length-4 : tie.Need-same-length-4
@@ -49,7 +49,7 @@ same-length-6 : tie.Need-same-length-6
 same-length-6 c = search rules
 
 returns_2 : tie.Need-returns-2
-returns_2 c = quick_away _ _ _ _ _ _ _ _ _ _ (rw c.before.e.given.1 at c.before.before.before.before.before.before.before.before.walk-quick.ensures)
+returns_2 c = quick_away _ _ _ _ _ _ _ _ _ (rw c.before.e.given.1 at c.before.before.before.before.before.before.before.before.walk-quick.ensures)
 
 pub quick_along_page_spec : {M : Type 1} → statement M
 quick_along_page_spec =

@@ -4,7 +4,6 @@ use Prim.Native.Nat.{ℕ}
 use native.Mathlib.Omega.{arith}
 use lib.ListN.{length-replicate}
 use Rattle.score.specs.Limits.{most_cells}
-use Rattle.filter.specs.Limits.{word_bits}
 use Rattle.search.proofs.page.Choosing.{cells_most, leaves, along_quick_pages, quick_checked, quick_refused}
 use Rattle.search.proofs.page.quick_page.Statement.{statement}
 use Rattle.search.proofs.page.quick_page.Tie as tie
@@ -29,7 +28,7 @@ returns c =
     let p = c.before.before.before.before.before in
     let g = p.before.before.before.before.before in
     let a = g.before.before.before.before.before.before.args in
-    along_quick_pages word_bits a.cells.now a.tracks a.theme.now a.way a.bookmark a.sets.now a.table.now a.columns.now
+    along_quick_pages a.cells.now a.tracks a.theme.now a.way a.bookmark a.sets.now a.table.now a.columns.now
     a.shifts.now g.goes-along.ensures p.before.before.before.before.if1.true p.quick-along-page.ensures
 
 check-quick-requires : tie.Need-check-quick-requires
@@ -42,7 +41,7 @@ returns_2 : tie.Need-returns-2
 returns_2 c =
     let c8 = c.before.before.before.before.before.before.before.before in
     let a = c8.before.before.before.args in
-    quick_refused word_bits a.cells.now a.tracks a.theme.now a.way a.bookmark a.sets.now a.table.now a.columns.now a.shifts.now
+    quick_refused a.cells.now a.tracks a.theme.now a.way a.bookmark a.sets.now a.table.now a.columns.now a.shifts.now
     c.before.before.before.check-quick.ensures c.before.e.given.1
 
 enum_told : tie.Need-enum-told
@@ -57,7 +56,7 @@ passed-quick-page-requires c κs =
     let checked = told.before.before in
     let g = checked.before.before in
     let a = g.before.before.before.before.before.before.args in
-    let k = quick_checked word_bits a.cells.now a.tracks a.theme.now a.way a.bookmark a.sets.now a.table.now a.columns.now
+    let k = quick_checked a.cells.now a.tracks a.theme.now a.way a.bookmark a.sets.now a.table.now a.columns.now
     a.shifts.now checked.check-quick.ensures told.enum_told.given.1 in
     (k, leaves k.plain.accepted g.goes-along.ensures checked.before.if1.false (omega (arith, c.before.before.before.before.if2.true, length-replicate {A = ℕ} 2048 0)))
 
@@ -82,7 +81,7 @@ passed-quick-page-requires-2 c κs =
     let checked = told.before.before in
     let g = checked.before.before in
     let a = g.before.before.before.before.before.before.args in
-    let k = quick_checked word_bits a.cells.now a.tracks a.theme.now a.way a.bookmark a.sets.now a.table.now a.columns.now
+    let k = quick_checked a.cells.now a.tracks a.theme.now a.way a.bookmark a.sets.now a.table.now a.columns.now
     a.shifts.now checked.check-quick.ensures told.enum_told.given.1 in
     (k, leaves k.plain.accepted g.goes-along.ensures checked.before.if1.false (omega (arith, cells_most k.plain.accepted, length-replicate {A = ℕ} most_cells 0)))
 

@@ -86,7 +86,7 @@ returns c =
     let s = t.before.before.before.before.before.before.before in
     let a = s.args in
     let k = taken s.requires.0.accepted s.requires.1 t.take_out.ensures in
-    passed_turns a.cells.now a.tracks a.theme.now a.way a.bookmark a.columns.now a.shifts.now s.requires.0 (omega arith) k
+    passed_turns a.cells.now a.tracks a.theme.now a.way a.bookmark a.columns.now a.shifts.now s.requires.0 k
     n.columns-in.ensures refl m.among.ensures p.along_page_lem.ensures c.before.before.in_score.ensures
 
 pub passed_page_spec : {M : Type 1} → statement M

@@ -4,10 +4,10 @@ use Rattle.second.proofs.finder.word_right.Statement.{statement}
 use Rattle.second.proofs.finder.word_right.Tie as tie
 
 abbrev invariant-loop : tie.invariant-loop
-invariant-loop theme m l word bits i₀ i = Unit {0}
+invariant-loop theme m l word i₀ i = Unit {0}
 
 abbrev decreases-loop : tie.decreases-loop
-decreases-loop theme m l word bits i₀ i = bits - i
+decreases-loop theme m l word i₀ i = 32 - i
 
 loop-holds : tie.Need-loop-init invariant-loop decreases-loop
 loop-holds c = search rules
@@ -33,8 +33,8 @@ interval-requires c κs = search rules
 bit-requires : tie.Need-bit-requires invariant-loop decreases-loop
 bit-requires c κs = search rules
 
-word-bit-requires : tie.Need-word-bit-requires invariant-loop decreases-loop
-word-bit-requires c κs = search rules
+bit-requires-2 : tie.Need-bit-requires-2 invariant-loop decreases-loop
+bit-requires-2 c κs = search rules
 
 returns : tie.Need-returns invariant-loop decreases-loop
 returns c = search rules
@@ -65,7 +65,7 @@ word_right_spec =
     byte-requires-2
     interval-requires
     bit-requires
-    word-bit-requires
+    bit-requires-2
     returns
     add-i
     loop-less

@@ -1,7 +1,7 @@
 -- `telling::calls::tell` meets its contract: the check turns away, or the lines of an accepted search are written.
 -- Assumes nothing.
 use borrow.Author.Rules.{rules}
-use Rattle.asking.specs.Limits.{narrow_notes}
+use Rattle.asking.specs.Limits.{most_notes}
 use Rattle.asking.specs.Asking.{Accepted}
 use Rattle.telling.proofs.Searching.{lines_few}
 use Rattle.telling.proofs.Tellings.{checked_accepted, tells_refused, accepted_told, tells_short, tells_told}
@@ -24,7 +24,7 @@ returns c =
 enum_told : tie.Need-enum-told
 enum_told c = search rules
 
-accepted : (e : tie.After-enum-told) → let a = e.before.before.before.before.before.before in Accepted narrow_notes a.args.cells.now a.args.tracks a.args.theme.now
+accepted : (e : tie.After-enum-told) → let a = e.before.before.before.before.before.before in Accepted most_notes a.args.cells.now a.args.tracks a.args.theme.now
 accepted e =
     let k = e.before.before in
     let a = k.before.before.before.before in

@@ -7,8 +7,8 @@ use Rattle.telling.proofs.pages.page_of.Tie as tie
 enum-known-way : tie.Need-enum-known-way
 enum-known-way c = search rules
 
-quick-page-32-requires : tie.Need-quick-page-32-requires
-quick-page-32-requires c κs = search rules
+quick-page-requires : tie.Need-quick-page-requires
+quick-page-requires c κs = search rules
 
 enum_told : tie.Need-enum-told
 enum_told c = search rules
@@ -26,7 +26,7 @@ same-length-3 : tie.Need-same-length-3
 same-length-3 c = search rules
 
 returns : tie.Need-returns
-returns c = let q = c.before.before.before.before.before in rw q.before.before.before.before.before.way.given.1 (quick_told q.quick-page-32.ensures)
+returns c = let q = c.before.before.before.before.before in rw q.before.before.before.before.before.way.given.1 (quick_told q.quick_page_lem.ensures)
 
 same-length-4 : tie.Need-same-length-4
 same-length-4 c = search rules
@@ -42,7 +42,7 @@ page_of_spec =
     tie.close
     (tie.spec
     enum-known-way
-    quick-page-32-requires
+    quick-page-requires
     enum_told
     plain-page-requires
     same_length

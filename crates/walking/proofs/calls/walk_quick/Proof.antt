@@ -26,7 +26,7 @@ returns c =
     record {
       finds = finds_away _ _ _ _ _ _ _ _ v c.before.e.given.1;
       fills_table =
-          table_kept word_bits a.cells.now a.tracks a.theme.now a.way a.bookmark a.sets.now a.table.now a.columns.now
+          table_kept a.cells.now a.tracks a.theme.now a.way a.bookmark a.sets.now a.table.now a.columns.now
           a.shifts.now v c.before.e.given.1;
     }
 
@@ -34,11 +34,11 @@ enum_told : tie.Need-enum-told
 enum_told c = search rules
 
 -- what is asked is accepted
-asked : (c : tie.After-enum-told) → let a = c.before.before.before.before.before.before.before.before.args in QuickAsks word_bits a.cells.now
+asked : (c : tie.After-enum-told) → let a = c.before.before.before.before.before.before.before.before.args in QuickAsks a.cells.now
     a.tracks a.theme.now a.way a.bookmark a.sets.now a.table.now a.columns.now a.shifts.now
 asked c =
     let a = c.before.before.before.before.before.before.before.before.args in
-    quick_asks word_bits a.cells.now a.tracks a.theme.now a.way a.bookmark a.sets.now a.table.now a.columns.now a.shifts.now
+    quick_asks a.cells.now a.tracks a.theme.now a.way a.bookmark a.sets.now a.table.now a.columns.now a.shifts.now
     c.before.before.check-quick.ensures c.enum_told.given.1
 
 fill-table-requires : tie.Need-fill-table-requires
@@ -78,12 +78,12 @@ returns_2 c =
     let f =
     c.before.before.before.before.before.before.before.before.before.fill-table.ensures ∙ filled e in
     let z =
-    (quick_clear word_bits a.cells.now a.tracks a.theme.now a.way a.bookmark a.sets.now a.table.now a.columns.now
+    (quick_clear a.cells.now a.tracks a.theme.now a.way a.bookmark a.sets.now a.table.now a.columns.now
     a.shifts.now).0 (asked e) in
     record {
       finds = finds_done _ _ _ _ _ _ _ _ z (rw f at c.before.before.before.walk-candidates.ensures);
       fills_table =
-          f ∙ sym (table_filled word_bits a.cells.now a.tracks a.theme.now a.way a.bookmark a.sets.now a.table.now a.columns.now
+          f ∙ sym (table_filled a.cells.now a.tracks a.theme.now a.way a.bookmark a.sets.now a.table.now a.columns.now
           a.shifts.now z);
     }
 

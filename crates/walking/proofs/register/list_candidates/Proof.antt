@@ -8,14 +8,13 @@ use mathlib.Core.Bool.{Bool, true, false, cond}
 use Prim.Native.Nat.{ℕ, ◌+◌, ◌-◌, ◌≤◌, ◌<◌, zero-le}
 use lib.Dec.{ltb}
 use Rattle.theory.proofs.Either.{both_left, both_right}
-use Rattle.filter.specs.Limits.{word_bits}
 use Rattle.walking.proofs.register.Laws.{lent_on, Listing, list_start, list_long, list_turn, list_end}
 use Rattle.walking.proofs.register.list_candidates.Statement.{statement}
 use Rattle.walking.proofs.register.list_candidates.Tie as tie
 
 abbrev invariant-loop : tie.invariant-loop
 invariant-loop register sets table m first many wanted list₀ word₀ passed₀ count₀ list word passed count =
-    Listing word_bits table sets m first.0 (first.0 + many) list₀ list word (first.0 + passed) count × (count ≤ wanted)
+    Listing table sets m first.0 (first.0 + many) list₀ list word (first.0 + passed) count × (count ≤ wanted)
 
 abbrev decreases-loop : tie.decreases-loop
 decreases-loop register sets table m first many wanted list₀ word₀ passed₀ count₀ list word passed count = many - passed

@@ -4,14 +4,13 @@ use borrow.Author.Rules.{rules}
 use native.Mathlib.Omega.{arith}
 use mathlib.Core.List.{[]}
 use Prim.Native.Nat.{◌+◌, ◌-◌}
-use Rattle.filter.specs.Limits.{word_bits}
 use Rattle.walking.specs.Scan.{Decides}
 use Rattle.walking.proofs.register.Laws.{decide_start, seek_end, seek_found, seek_on}
 use Rattle.walking.proofs.register.seek.Statement.{statement}
 use Rattle.walking.proofs.register.seek.Tie as tie
 
 abbrev invariant-loop : tie.invariant-loop
-invariant-loop register sets table m passed many top j word₀ i₀ word i = Decides word_bits table sets m (j + passed) (j + many) word (j + i) []
+invariant-loop register sets table m passed many top j word₀ i₀ word i = Decides table sets m (j + passed) (j + many) word (j + i) []
 
 abbrev decreases-loop : tie.decreases-loop
 decreases-loop register sets table m passed many top j word₀ i₀ word i = many - i
@@ -57,7 +56,7 @@ marks-requires c κs = tt
 returns : tie.Need-returns invariant-loop decreases-loop
 returns c =
     let l = c.before.before.before in
-    seek_found (omega arith) (start l.before).pre.0 l.before.loop.invariant (omega (arith, l.loop-test.true)) c.before.before.taken.ensures
+    seek_found (start l.before).pre.0 l.before.loop.invariant (omega (arith, l.loop-test.true)) c.before.before.taken.ensures
     c.before.marks.ensures c.if1.true (omega arith)
 
 loop-less : tie.Need-loop-smaller invariant-loop decreases-loop
@@ -66,11 +65,11 @@ loop-less c = omega (arith, c.before.before.before.loop-test.true)
 loop-again : tie.Need-loop-preserved invariant-loop decreases-loop
 loop-again c =
     let l = c.before.before.before in
-    seek_on (omega arith) (start l.before).pre.0 l.before.loop.invariant (omega (arith, l.loop-test.true)) c.before.before.taken.ensures
+    seek_on (start l.before).pre.0 l.before.loop.invariant (omega (arith, l.loop-test.true)) c.before.before.taken.ensures
     c.before.marks.ensures c.if1.false (omega arith)
 
 returns_2 : tie.Need-returns-2 invariant-loop decreases-loop
-returns_2 c = seek_end (omega arith) (start c.before).pre.0 c.before.loop.invariant (omega (arith, c.loop-test.false))
+returns_2 c = seek_end (start c.before).pre.0 c.before.loop.invariant (omega (arith, c.loop-test.false))
 
 pub seek_spec : {M : Type 1} → statement M
 seek_spec =

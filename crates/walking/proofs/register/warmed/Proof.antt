@@ -6,13 +6,12 @@ use Prim.Native.Nat.{◌+◌, ◌-◌, ◌≤◌}
 use native.Mathlib.Omega.{arith}
 use Rattle.theory.specs.Register.{reg_from}
 use Rattle.theory.proofs.Register.{reg_from_none, reg_from_turn}
-use Rattle.filter.specs.Limits.{word_bits}
 use Rattle.walking.specs.Scan.{entry_word}
 use Rattle.walking.proofs.register.warmed.Statement.{statement}
 use Rattle.walking.proofs.register.warmed.Tie as tie
 
 abbrev invariant-loop : tie.invariant-loop
-invariant-loop sets table from count end register₀ at₀ register at = (from ≤ at) × (at ≤ end) × (register ≡ reg_from word_bits (entry_word table sets) from at)
+invariant-loop sets table from count end register₀ at₀ register at = (from ≤ at) × (at ≤ end) × (register ≡ reg_from 32 (entry_word table sets) from at)
 
 abbrev decreases-loop : tie.decreases-loop
 decreases-loop sets table from count end register₀ at₀ register at = end - at
@@ -21,7 +20,7 @@ add-end : tie.Need-overflow-add-end invariant-loop decreases-loop
 add-end c = search rules
 
 loop-holds : tie.Need-loop-init invariant-loop decreases-loop
-loop-holds c = (omega arith, omega arith, sym (reg_from_none word_bits _ _))
+loop-holds c = (omega arith, omega arith, sym (reg_from_none 32 _ _))
 
 taken-requires : tie.Need-taken-requires invariant-loop decreases-loop
 taken-requires c κs = (omega arith, c.before.before.before.before.requires.1)
@@ -35,7 +34,7 @@ loop-less c = search rules
 loop-again : tie.Need-loop-preserved invariant-loop decreases-loop
 loop-again c =
     let a = c.before.before.loop in
-    (omega arith, omega arith, reg_from_turn word_bits _ _ a.at a.invariant.0 a.invariant.2 c.taken.ensures)
+    (omega arith, omega arith, reg_from_turn 32 _ _ a.at a.invariant.0 a.invariant.2 c.taken.ensures)
 
 returns : tie.Need-returns invariant-loop decreases-loop
 returns c =

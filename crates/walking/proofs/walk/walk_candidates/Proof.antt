@@ -9,8 +9,6 @@ use lib.ListN.{length}
 use borrow.Author.Tests.{ltb-true}
 use Rattle.theory.specs.Pages.{from}
 use Rattle.score.specs.Score.{score_of}
-use Rattle.ways.specs.declared.way.AnyWay.TheVariants.{Moved}
-use Rattle.asking.specs.Asking.{PlainAsks}
 use Rattle.filter.specs.Limits.{word_bits}
 use Rattle.walking.specs.declared.walked.Spot.{Spot}
 use Rattle.walking.specs.Starts.{key}
@@ -18,7 +16,7 @@ use Rattle.walking.specs.Candidates.{candidate, quick_starts}
 use Rattle.walking.specs.Scan.{Filters}
 use Rattle.walking.specs.Walk.{end_of, listed}
 use Rattle.walking.specs.Alive.{Cached}
-use Rattle.walking.proofs.Answers.{accepted_ready, asked_plain, asked_sets, asked_small, asked_lent}
+use Rattle.walking.proofs.Answers.{accepted_ready, asked_sets, asked_small, asked_lent}
 use Rattle.walking.proofs.ring.Laws.{cached_none}
 use Rattle.theory.proofs.Either.{both_left, both_right}
 use Rattle.walking.proofs.register.Laws.{warmed_filters}
@@ -31,7 +29,7 @@ abbrev invariant-loop : tie.invariant-loop
 invariant-loop cells h theme way sets table columns₀ shifts₀ m spot₀ left₀ looks₀ register₀ ring₀ list₀ columns shifts spot left looks register ring list =
     Walking (candidate word_bits table sets (length theme)) way cells h theme
     (from key (spot_key spot₀) (quick_starts word_bits way (score_of cells h) theme table sets)) columns₀ shifts₀ columns shifts spot looks
-    × (left ≡ end_of cells h theme - spot.column.0) × Filters word_bits table sets (length theme) register spot.column.0 × Cached way cells h ring
+    × (left ≡ end_of cells h theme - spot.column.0) × Filters table sets (length theme) register spot.column.0 × Cached way cells h ring
     × (length list ≡ listed)
 
 abbrev decreases-loop : tie.decreases-loop
@@ -57,30 +55,25 @@ listing c = c.before.before.before.before.before.before.before
 abbrev tried : tie.After-struct-known5 invariant-loop decreases-loop → tie.After-walk-along invariant-loop decreases-loop
 tried c = c.before.before.before.before.before
 
--- what is asked is what a plain walk asks for
-plainly : (c : tie.After-begin invariant-loop decreases-loop) → let a = (entered c).args in
-    PlainAsks a.cells.now a.h a.theme.now (Moved a.way) a.bookmark a.columns.now a.shifts.now
-plainly c = asked_plain (entered c).requires (omega arith)
-
 begin-requires : tie.Need-begin-requires invariant-loop decreases-loop
 begin-requires c κs = tt
 
 columns-left-requires : tie.Need-columns-left-requires invariant-loop decreases-loop
-columns-left-requires c κs = accepted_ready (plainly c).accepted
+columns-left-requires c κs = accepted_ready (entered c).requires.plain.accepted
 
 returns : tie.Need-returns invariant-loop decreases-loop
 returns c =
     let k = c.before in
     let b = k.before in
-    let p = plainly b in
-    let t = quick_start p b.begin.ensures word_bits (entered b).args.table.now (entered b).args.sets.now in
+    let p = (entered b).requires.plain in
+    let t = quick_start p b.begin.ensures (entered b).args.table.now (entered b).args.sets.now in
     rw (← (begun_key p b.begin.ensures)) (walk_over t k.columns-left.ensures (rw c.if1.true))
 
 cast-warmed : tie.Need-overflow-cast-warmed invariant-loop decreases-loop
 cast-warmed c = search rules
 
 sub-warmed : tie.Need-overflow-sub-warmed invariant-loop decreases-loop
-sub-warmed c = let b = c.before.before.before in begun_first (plainly b) b.begin.ensures
+sub-warmed c = let b = c.before.before.before in begun_first (entered b).requires.plain b.begin.ensures
 
 sub-warmed-2 : tie.Need-overflow-sub-warmed-2 invariant-loop decreases-loop
 sub-warmed-2 c = (entered c.before.before.before).pre.plain.accepted.notes_some
@@ -95,7 +88,7 @@ warmed-requires c κs =
         c.before.if1.false,
         k.columns-left.ensures,
         asked_sets s.pre,
-        begun_first (plainly b) b.begin.ensures,
+        begun_first s.pre.plain b.begin.ensures,
         s.pre.plain.accepted.notes_some,
       ),
       (s.pre.table_long, asked_small s.pre),
@@ -105,10 +98,10 @@ loop-holds : tie.Need-loop-init invariant-loop decreases-loop
 loop-holds c =
     let k = c.before.before.before in
     let b = k.before in
-    let p = plainly b in (
-      quick_start p b.begin.ensures word_bits _ _,
+    let p = (entered b).requires.plain in (
+      quick_start p b.begin.ensures _ _,
       k.columns-left.ensures,
-      warmed_filters word_bits _ _ _ _ _ p.accepted.notes_some (begun_first p b.begin.ensures) c.warmed.ensures,
+      warmed_filters _ _ _ _ _ p.accepted.notes_some (begun_first p b.begin.ensures) c.warmed.ensures,
       cached_none _ _ _,
       refl,
     )
@@ -208,13 +201,13 @@ same_length c = c.before.before.loop.invariant.0.taking.long
 same_length_2 : tie.Need-same-length-2 invariant-loop decreases-loop
 same_length_2 c =
     let l = c.before.before in
-    l.loop.invariant.0.taking.long_shifts ∙ sym (plainly (begun l)).same_room
+    l.loop.invariant.0.taking.long_shifts ∙ sym (entered (begun l)).pre.plain.same_room
 
 returns_2 : tie.Need-returns-2 invariant-loop decreases-loop
 returns_2 c =
     let l = c.before.before in
     let b = begun l in
-    rw (← (begun_key (plainly b) b.begin.ensures)) (walk_over l.loop.invariant.0 l.loop.invariant.1 c.if2.false)
+    rw (← (begun_key (entered b).pre.plain b.begin.ensures)) (walk_over l.loop.invariant.0 l.loop.invariant.1 c.if2.false)
 
 pub walk_candidates_spec : {M : Type 1} → statement M
 walk_candidates_spec =

@@ -37,6 +37,9 @@ array-read-words : tie.Need-array-read-words invariant-loop decreases-loop
 array-read-words c = omega (arith, c.shared-slice-known.given c.before.before.loop.i)
 
 -- src/words.rt:24:38
+cast-words : tie.Need-overflow-cast-words invariant-loop decreases-loop
+cast-words c = search rules
+
 -- src/words.rt:24:33
 shl-words : tie.Need-overflow-shl-words invariant-loop decreases-loop
 shl-words c = search rules
@@ -62,7 +65,7 @@ loop-again : tie.Need-loop-preserved invariant-loop decreases-loop
 loop-again c =
     let a = c.before.before.loop in
     let i = a.i in (
-      made_more word_bits _ a.invariant.0 (omega arith) (omega (arith, c.shared-slice-known.given i)) (rw (one_shl i 64 (omega arith))),
+      made_more word_bits _ a.invariant.0 (omega arith) (omega (arith, c.shared-slice-known.given i)) (rw (one_shl i 32 (omega arith))),
       omega arith,
     )
 
@@ -81,6 +84,7 @@ words_of_spec =
     cast-p
     mul_words
     array-read-words
+    cast-words
     shl-words
     mul-words-2
     array-write-words
