@@ -3,6 +3,8 @@
 // `limits` says how many notes a theme may have, and `checks` what is turned away of each call. Ways of matching and bookmarks
 // are those of the crate `ways`.
 
+#![tactic(auto)]
+
 pub mod checks;
 pub mod limits;
 

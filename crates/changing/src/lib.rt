@@ -4,6 +4,8 @@
 // second finder's, and `turns` marks what is lent, makes a call, and compares what it did. The functions promise only to be safe
 // and to end.
 
+#![tactic(auto)]
+
 mod calls;
 pub mod turns;
 mod verdicts;

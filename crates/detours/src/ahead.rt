@@ -11,7 +11,7 @@ pub type Ahead = [u8; 1024];
 const NEVER: u8 = 255;
 
 // A track, and the changes from there on, with the one into it.
-#[derive(Drop)]
+#[derive(Clone, Copy)]
 struct Step {
     track: usize,
     changes: usize,

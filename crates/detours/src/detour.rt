@@ -10,7 +10,7 @@ use second::asks::Ask;
 use second::away::{Away, of_score, of_theme, row};
 
 // The methods: every route, or what lies ahead.
-#[derive(Drop)]
+#[derive(Clone, Copy)]
 pub enum Method {
     Every,
     Ahead,
@@ -18,7 +18,7 @@ pub enum Method {
 
 // An answer: the refusal's number and place, 0 and 0 where there is none; and the route with its changes, and how many have no
 // more, 0 where they were not counted.
-#[derive(Drop)]
+#[derive(Clone, Copy)]
 pub struct Detour {
     pub number: u8,
     pub place: usize,

@@ -6,6 +6,8 @@
 // the fewest changes that lie ahead of each note in each track. `detour` puts them together, behind what is turned away. Columns
 // and tracks count from 1, notes from 0. The functions promise only to be safe and to end, on purpose.
 
+#![tactic(auto)]
+
 mod ahead;
 pub mod detour;
 mod every;

@@ -6,7 +6,7 @@ use second::totals::{byte, less_one, more};
 pub type Path = [u8; 64];
 
 // A route that was found: its changes, and how many routes have no more, 0 where they were not counted.
-#[derive(Drop)]
+#[derive(Clone, Copy)]
 pub struct Best {
     pub path: Path,
     pub changes: usize,

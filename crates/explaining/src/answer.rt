@@ -7,7 +7,7 @@ use seeking::MOST_SOUGHT;
 // column is 0. From it on there are fewer columns with a pitch than the theme has notes, as from one above n. The column itself has
 // no pitch. A note is not held, the first such one, named by its number from 1: moved, it lies outside 0 to 127, or it is absent
 // from its column. A refused call has its refusal for a reason.
-#[derive(Drop)]
+#[derive(Clone, Copy)]
 pub enum Reason {
     Listed,
     NoShift,
@@ -20,7 +20,7 @@ pub enum Reason {
 }
 
 // An interval of the theme: its number, from 1 for the one between the first two notes, and its size, 0 to 11.
-#[derive(Drop)]
+#[derive(Clone, Copy)]
 pub struct Lacking {
     pub number: u8,
     pub size: Interval,
@@ -28,7 +28,7 @@ pub struct Lacking {
 
 // What the lent sets make of the column, whatever the shift. Nothing is asked of them where the column fails one of its checks;
 // otherwise it is kept, or dismissed by the first interval of the theme that is not in its set.
-#[derive(Drop)]
+#[derive(Clone, Copy)]
 pub enum Sifted {
     Unasked,
     Kept,
@@ -37,7 +37,7 @@ pub enum Sifted {
 
 // The answer. The tracks are those of the notes, the lowest that holds each, from 1; 0 behind the last note, and everywhere where
 // the pair is not listed.
-#[derive(Drop)]
+#[derive(Clone, Copy)]
 pub struct Explanation {
     pub reason: Reason,
     pub tracks: [u8; MOST_SOUGHT],

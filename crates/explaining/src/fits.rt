@@ -6,7 +6,7 @@ ghost use Rattle.explaining.specs.Inner.{fit_by};
 use score::Column;
 
 // The column is 0; from it on there are too few columns with a pitch; it has none itself; or it fits.
-#[derive(Drop)]
+#[derive(Clone, Copy)]
 pub enum Fit {
     Zero,
     Short,

@@ -4,6 +4,8 @@
 // `answer` is what is answered, and `explainer` has the call. `fits` checks the column by itself, `notes` goes through the notes
 // of a theme that has room there, and `intervals` through its intervals.
 
+#![tactic(auto)]
+
 pub mod answer;
 pub mod explainer;
 mod fits;

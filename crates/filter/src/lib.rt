@@ -3,6 +3,8 @@
 // `limits` names the width. The `table` has a word for each set, and the `register` takes a word for each column: a bit of
 // it is zero where the last columns have the theme's first intervals, one each.
 
+#![tactic(auto)]
+
 pub mod limits;
 pub mod register;
 pub mod table;

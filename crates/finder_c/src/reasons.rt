@@ -11,7 +11,7 @@ use explaining::{Explanation, Reason, Sifted};
 use score::Refusal;
 
 // The reason's number and the note's, 0 where the reason names no note; or a refusal.
-#[derive(Drop)]
+#[derive(Clone, Copy)]
 pub enum ReasonNumbers {
     Told(u8, u8),
     Refused(Refusal),
@@ -19,7 +19,7 @@ pub enum ReasonNumbers {
 
 // What the sets make of the column, as a number, and the interval that dismisses it, by its number and its size; 0 where there
 // is none.
-#[derive(Drop)]
+#[derive(Clone, Copy)]
 pub struct SiftedNumbers {
     pub part: u8,
     pub interval: u8,

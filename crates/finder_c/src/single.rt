@@ -11,7 +11,7 @@ use score::Refusal;
 use updating::Change;
 
 // The number that an accepted call says, or a refusal.
-#[derive(Drop)]
+#[derive(Clone, Copy)]
 pub enum Single {
     Said(u16),
     Refused(Refusal),

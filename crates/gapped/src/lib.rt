@@ -5,6 +5,8 @@
 // their themes. `drawing` has what is drawn for them, and for the pseudo-random scores of `cases`. The functions promise only
 // to be safe and to end, and a few counts that are divided by to be above 0.
 
+#![tactic(auto)]
+
 pub mod beats;
 pub mod drawing;
 pub mod gaps;

@@ -20,7 +20,7 @@ pub const ABSENT: u8 = 6;
 pub const REFUSED: u8 = 7;
 
 // A reason, and the note that fails; 0 where the reason names none.
-#[derive(Drop)]
+#[derive(Clone, Copy)]
 pub struct Why {
     pub reason: u8,
     pub note: usize,
@@ -39,7 +39,7 @@ pub const KEPT: u8 = 1;
 pub const DISMISSED: u8 = 2;
 
 // The same with the interval of the theme by which they dismiss it, its number and its size; 0 and 0 where they do not.
-#[derive(Drop)]
+#[derive(Clone, Copy)]
 pub struct Screened {
     pub verdict: u8,
     pub interval: usize,
@@ -57,7 +57,7 @@ pub fn unnamed(verdict: u8) -> Screened {
 
 // An answer: the refusal's number and place, 0 and 0 where there is none; the reason and its note; and what the sets make of the
 // column, with the interval.
-#[derive(Drop)]
+#[derive(Clone, Copy)]
 pub struct Answer {
     pub number: u8,
     pub place: usize,

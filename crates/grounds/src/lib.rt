@@ -5,6 +5,8 @@
 // is sought; `notes` goes through the notes and `intervals` through the lent sets; `explainer` puts them together, behind what is
 // turned away. Columns, notes, intervals and tracks count from 1. The functions promise only to be safe and to end, on purpose.
 
+#![tactic(auto)]
+
 pub mod answers;
 mod columns;
 pub mod explainer;

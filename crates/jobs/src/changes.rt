@@ -6,7 +6,7 @@ use second::totals::{less_one, product, put_byte, put_set, size16};
 
 // What can be changed. Where it is the tracks, there are three columns of them; where it is the columns, their sets change with
 // them; where it is each set, the bits of the number say what they become.
-#[derive(Drop)]
+#[derive(Clone, Copy)]
 pub enum What {
     Nothing,
     Tracks,
@@ -48,7 +48,7 @@ pub fn what_of(number: u16) -> What {
 }
 
 // What is changed, at which place, and the number that it gets.
-#[derive(Drop)]
+#[derive(Clone, Copy)]
 pub struct Change {
     pub what: What,
     pub place: usize,

@@ -4,7 +4,7 @@ use crate::changes::Change;
 use second::asks::{Ask, Call};
 
 // Where a score and a theme come from.
-#[derive(Drop)]
+#[derive(Clone, Copy)]
 pub enum Source {
     Worked,
     World,
@@ -17,7 +17,7 @@ pub enum Source {
 }
 
 // What is written before a job: nothing, the case, the end of a range, or the refusals that are due.
-#[derive(Drop)]
+#[derive(Clone, Copy)]
 pub enum Head {
     Quiet,
     Case,
@@ -25,7 +25,7 @@ pub enum Head {
     Due,
 }
 
-#[derive(Drop)]
+#[derive(Clone, Copy)]
 pub struct Job {
     // whether there is anything to try
     pub tried: bool,

@@ -3,6 +3,8 @@
 // `job` says what a job is. What it asks comes from `shapes`, and from `changes` to what is asked. `worked` has the worked
 // cases, and `refused` what is turned away. `buffers` are lent. The functions promise only to be safe and to end.
 
+#![tactic(auto)]
+
 pub mod buffers;
 pub mod changes;
 pub mod job;

@@ -6,7 +6,7 @@ use preparing::{Preparation, prepare};
 use second::asks::Ask;
 
 // An answer: the refusal's number and place, or 0 and the page.
-#[derive(Drop)]
+#[derive(Clone, Copy)]
 pub struct Got {
     pub number: u8,
     pub place: usize,
@@ -36,7 +36,7 @@ pub fn unasked() -> Got {
 }
 
 // How much of each buffer is lent. Of a buffer that a call is not lent it is what is asked.
-#[derive(Drop)]
+#[derive(Clone, Copy)]
 pub struct Lengths {
     pub cells: usize,
     pub theme: usize,

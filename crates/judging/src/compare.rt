@@ -8,7 +8,7 @@ use second::finder::{Found, next_pair, sets_right, table_right};
 use second::totals::{more, raised, set, shift, size16, size32};
 
 // What differs.
-#[derive(Drop)]
+#[derive(Clone, Copy)]
 pub enum Fault {
     Nothing,
     Refusal,
@@ -36,7 +36,7 @@ pub fn differs(fault: Fault) -> bool {
 }
 
 // What was seen of a call: its answer, and what differs.
-#[derive(Drop)]
+#[derive(Clone, Copy)]
 pub struct Seen {
     pub call: Call,
     pub fault: Fault,

@@ -3,6 +3,8 @@
 // The input buffer holds more than any right input has, so that what lies behind it changes nothing of the answer; the output
 // buffer holds every output.
 
+#![tactic(auto)]
+
 use libc::{STDIN_FILENO, STDOUT_FILENO};
 use listing::{INPUT_ROOM, Listing, ROOM, list};
 

@@ -2,6 +2,8 @@
 //
 // `limits` names the room for an input; `output` is the call: it has the crate `reading` read, and the crate `telling` write.
 
+#![tactic(auto)]
+
 pub mod limits;
 pub mod output;
 

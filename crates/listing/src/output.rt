@@ -13,7 +13,7 @@ use score::MOST_CELLS;
 use telling::{ROOM, Telling, refuse, tell};
 
 // How many bytes were written; or the output buffer is too short for some inputs, and nothing was written.
-#[derive(Drop)]
+#[derive(Clone, Copy)]
 pub enum Listing {
     Written(usize),
     Short,

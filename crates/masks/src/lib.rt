@@ -3,6 +3,8 @@
 // A `word` is 128 bits in two halves of 64. `columns` makes the word of a column, and `moving` moves it by a note, so that its bits
 // are the starts at which the column holds that note.
 
+#![tactic(auto)]
+
 pub mod columns;
 pub mod moving;
 pub mod word;

@@ -6,7 +6,7 @@ ghost use Rattle.masks.specs.Masks.{value, width, all_starts};
 use ways::Way;
 
 // The lower 64 bits, and those above.
-#[derive(Drop)]
+#[derive(Clone, Copy)]
 pub struct Word {
     pub low: u64,
     pub high: u64,

@@ -1,7 +1,7 @@
 // What an edit is: a score of so many tracks and columns, by its number, a column that is changed, and what it becomes.
 
 // How a score and its changed column are made.
-#[derive(Drop)]
+#[derive(Clone, Copy)]
 pub enum Kind {
     Worked,
     Small,
@@ -11,7 +11,7 @@ pub enum Kind {
 
 // The lent sets: those of the score before the change; these with some bits of each turned; all with no interval, 4095; or all
 // with every interval, 0.
-#[derive(Drop)]
+#[derive(Clone, Copy)]
 pub enum Lent {
     Right,
     Turned,
@@ -19,7 +19,7 @@ pub enum Lent {
     EveryInterval,
 }
 
-#[derive(Drop)]
+#[derive(Clone, Copy)]
 pub struct Edit {
     pub kind: Kind,
     pub h: usize,

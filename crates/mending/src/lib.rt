@@ -6,6 +6,8 @@
 // buffers. `twists` are changes to what is lent, `refused` are calls with such changes, and `twisting` puts these into the lent
 // buffers. The functions promise only to be safe and to end, and a few counts that are divided by to be above 0.
 
+#![tactic(auto)]
+
 pub mod arranging;
 mod drawn;
 pub mod edit;

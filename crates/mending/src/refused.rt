@@ -10,14 +10,14 @@ use second::totals::{more, product, size16};
 use second::ways::Way;
 
 // The two calls.
-#[derive(Drop)]
+#[derive(Clone, Copy)]
 pub enum Asked {
     Question,
     Update,
 }
 
 // A call on twists to an accepted one.
-#[derive(Drop)]
+#[derive(Clone, Copy)]
 pub struct Twisted {
     // whether there is anything to try
     pub tried: bool,

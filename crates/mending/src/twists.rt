@@ -9,7 +9,7 @@ pub const SUMMARY: u16 = 15;
 pub const COLUMN: u16 = 16;
 
 // What is changed, at which place, and the number that it gets. A summary's number says how it is wrong.
-#[derive(Drop)]
+#[derive(Clone, Copy)]
 pub struct Twist {
     pub what: u16,
     pub place: usize,

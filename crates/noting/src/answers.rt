@@ -3,7 +3,7 @@
 use judging::compare::Fault;
 
 // An answer: the refusal's number and place, or 0 and whether the theme occurs, or the summary of the sets.
-#[derive(Drop)]
+#[derive(Clone, Copy)]
 pub struct Said {
     pub number: u8,
     pub place: usize,
@@ -12,7 +12,7 @@ pub struct Said {
 }
 
 // What was seen of a call: its answer, and what differs.
-#[derive(Drop)]
+#[derive(Clone, Copy)]
 pub struct Judged {
     pub fault: Fault,
     pub said: Said,

@@ -3,6 +3,8 @@
 //
 // `lacking` says whether the theme has an interval that the summary lacks, and `question` answers.
 
+#![tactic(auto)]
+
 mod lacking;
 pub mod question;
 

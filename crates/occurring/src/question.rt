@@ -22,7 +22,7 @@ use summing::{Summary, summary_of};
 
 // The answer by the lent sets: the quick list has a pair, or it has none, or a refusal. With the score's own sets the theme then
 // stands somewhere, or nowhere; with others it may stand where they make no candidate.
-#[derive(Drop)]
+#[derive(Clone, Copy)]
 pub enum Occurrence {
     Somewhere,
     Nowhere,

@@ -8,7 +8,7 @@ use score::{Column, Refusal};
 use ways::{Bookmark, Pair};
 
 // A page: how many pairs were written, where the next page goes on, whether the list is finished, and the looks.
-#[derive(Drop)]
+#[derive(Clone, Copy)]
 pub struct Turn {
     pub written: usize,
     pub next: Bookmark,
@@ -16,7 +16,7 @@ pub struct Turn {
     pub looks: u32,
 }
 
-#[derive(Drop)]
+#[derive(Clone, Copy)]
 pub enum Page {
     Turned(Turn),
     Refused(Refusal),

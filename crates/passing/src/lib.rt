@@ -4,6 +4,8 @@
 // number that each has in the score. `numbers` goes by those numbers: the sets of the columns that are kept, where a column
 // stands among them, and what their numbers are in the score.
 
+#![tactic(auto)]
+
 pub mod empties;
 pub mod numbers;
 pub mod taking;

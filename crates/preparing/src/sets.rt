@@ -19,7 +19,7 @@ use score::{HIGHEST_SET, MOST_COLUMNS, Refusal, Verdict};
 use summing::{Summary, summary_of};
 
 // The answer of a preparation: the summary of the sets, or a refusal.
-#[derive(Drop)]
+#[derive(Clone, Copy)]
 pub enum Preparation {
     Prepared(Summary),
     Refused(Refusal),

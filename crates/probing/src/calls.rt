@@ -16,7 +16,7 @@ use ways::{Pair, Way};
 pub type Tracks = [u8; 64];
 
 // An explanation, with its tracks.
-#[derive(Drop)]
+#[derive(Clone, Copy)]
 pub struct Told {
     pub answer: Answer,
     pub tracks: Tracks,

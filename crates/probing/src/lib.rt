@@ -4,6 +4,8 @@
 // `lines` are what is written of explanations, `turns` asks for one, compares and counts it, and `totals` says how many there
 // were. The functions promise only to be safe and to end.
 
+#![tactic(auto)]
+
 mod calls;
 mod compare;
 pub mod lines;

@@ -1,4 +1,7 @@
 // Trials of the question whether a theme occurs, of the summaries, and of updates, each beside the second finder.
+
+#![tactic(auto)]
+
 mod editing;
 mod questioning;
 mod refusing;

@@ -3,6 +3,8 @@
 // The crate `words` reads a word or a cell at a place of the input, `lines` a theme line, a chord line and all chord lines.
 // `request` is the call.
 
+#![tactic(auto)]
+
 mod lines;
 pub mod request;
 

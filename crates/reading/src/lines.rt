@@ -13,14 +13,14 @@ use ways::{AnyWay, Way};
 use words::{Numeral, cell, stands};
 
 // A line was read: how many values it has, and the place behind its line feed; or bad text.
-#[derive(Drop)]
+#[derive(Clone, Copy)]
 pub enum Line {
     Read { count: usize, next: usize },
     Bad,
 }
 
 // A theme line was read.
-#[derive(Drop)]
+#[derive(Clone, Copy)]
 pub enum ThemeLine {
     Read {
         way: AnyWay,
@@ -31,7 +31,7 @@ pub enum ThemeLine {
 }
 
 // All chord lines were read: how many tracks and columns they make; or how many stand before the first faulty one.
-#[derive(Drop)]
+#[derive(Clone, Copy)]
 pub enum ChordLines {
     Read { tracks: usize, columns: usize },
     Faulty(usize),

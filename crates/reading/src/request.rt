@@ -13,7 +13,7 @@ use ways::AnyWay;
 
 // A right input: its way, how many notes stand in the one buffer, and how many tracks and columns in the other; or the number
 // of its first faulty line; or a buffer is too short for some inputs. Only a right input is written into the buffers.
-#[derive(Drop)]
+#[derive(Clone, Copy)]
 pub enum Reading {
     Right {
         way: AnyWay,

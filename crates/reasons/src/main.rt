@@ -1,4 +1,7 @@
 // Trials of the explainer, beside the second explainer.
+
+#![tactic(auto)]
+
 mod refusing;
 mod trying;
 

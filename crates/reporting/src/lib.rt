@@ -4,6 +4,8 @@
 // what is written of answers: those that are to be said, one that differs, and how much was tried. The functions promise only to
 // be safe and to end.
 
+#![tactic(auto)]
+
 pub mod heads;
 pub mod lines;
 pub mod pieces;

@@ -1,4 +1,7 @@
 // Trials of the router, beside the second router.
+
+#![tactic(auto)]
+
 mod attempts;
 mod barring;
 

@@ -4,6 +4,8 @@
 // `along` those of each note of a theme, `standing` at a pair. `fewest` goes through these sets from the last to the first, and
 // `choosing` chooses a track from each, from the first to the last.
 
+#![tactic(auto)]
+
 mod along;
 pub mod answer;
 mod choosing;

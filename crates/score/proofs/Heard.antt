@@ -1,7 +1,7 @@
 -- Columns with a pitch. The i-th number of `heard_from` names the i-th column of `heard_of`, and the columns with a pitch from it
 -- on are those from the i-th on (`At`); numbers rise, and every column with a pitch has one. A score without an empty column is
 -- its own, under its own numbers. By the columns of the score, one at a time. Assumes nothing.
-use mathlib.Core.Path.{◌≡◌, refl, sym, ap, ap₂, ◌∙◌, subst}
+use mathlib.Core.Path.{◌≡◌, refl, sym, ap, ◌∙◌, subst}
 use mathlib.Core.Bool.{Bool, true, false, cond, not, true≢false, false≢true}
 use mathlib.Core.List.Memᴰ.{not-nil}
 use mathlib.Core.List.{List, [], ◌∷◌, ◌++◌, append_assoc, Memᴰ as In}
@@ -12,8 +12,8 @@ use native.Mathlib.Decide.{dec_lt}
 use native.Mathlib.Omega.{arith}
 use lib.Dec.{leb}
 use lib.ListN.{length, get_or, take, drop, get_or-eq_default}
-use lib.Seq.{drop-cons, get_or-drop}
-use Rattle.theory.specs.Lists.{some, count}
+use lib.Seq.{drop-cons}
+use Rattle.theory.specs.Lists.{count}
 use Rattle.score.specs.declared.quantities.Pitch.{Pitch}
 use Rattle.score.specs.Limits.{highest_pitch}
 use Rattle.score.specs.Score.{pitch, column_at, column, pitches, heard, has_empty, heard_of, heard_from, number_of, rank_of, columns_from, onward}

@@ -3,7 +3,7 @@ use mathlib.Core.Path.{◌≡◌, refl, ap}
 use mathlib.Core.Bool.{Bool, true, false, cond}
 use mathlib.Core.List.Memᴰ.{head as at_head}
 use mathlib.Core.List.Memᴰ.{tail as in_Tail}
-use mathlib.Core.List.{List, ◌∷◌, Memᴰ as In}
+use mathlib.Core.List.{List, [], ◌∷◌, Memᴰ as In}
 use Prim.Native.Nat.{ℕ, ◌≤◌}
 use native.Mathlib.Omega.{arith}
 use lib.Dec.{leb}
@@ -13,6 +13,7 @@ use Rattle.score.specs.declared.quantities.Pitch.{Pitch}
 use Rattle.score.specs.Score.{pitch, pitches}
 
 pub pitch_le : (column : List ℕ) {t : Pitch} → In t (pitches column) → t.0 ≤ highest_pitch
+pitch_le [] m = elim m [ ]
 pitch_le (cell ∷ cells) m = step (leb cell highest_pitch) refl m (λ k. pitch_le cells k)
   where
     step : {t : Pitch} → (b : Bool) → leb cell highest_pitch ≡ b → In t (cond b (pitch cell ∷ pitches cells) (pitches cells))

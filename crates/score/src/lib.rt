@@ -3,6 +3,8 @@
 // `limits` names the numbers that a score is held to; `quantities` keeps pitch, interval, class, distance and column apart;
 // `refusals` says what a refusal holds; `checks` says what is refused and where.
 
+#![tactic(auto)]
+
 pub mod checks;
 pub mod limits;
 pub mod quantities;

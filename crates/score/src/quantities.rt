@@ -4,23 +4,23 @@ ghost use Rattle.std.specs.Prelude.{◌≡◌, ◌%◌};
 ghost use Rattle.score.specs.Sets.{interval};
 
 // A MIDI pitch: 0 to 127 where it was checked.
-#[derive(Drop)]
+#[derive(Clone, Copy)]
 pub struct Pitch(pub u8);
 
 // The distance of two pitches with octaves ignored, in semitones upwards: 0 to 11 where `interval_of` made it.
-#[derive(Drop)]
+#[derive(Clone, Copy)]
 pub struct Interval(pub u8);
 
 // A pitch with octaves ignored, which is one of twelve tones: 0 to 11 where `class_of` made it.
-#[derive(Drop)]
+#[derive(Clone, Copy)]
 pub struct Class(pub u8);
 
 // How far two pitches are apart, octaves included, in semitones; it does not say which is the higher.
-#[derive(Drop)]
+#[derive(Clone, Copy)]
 pub struct Distance(pub u8);
 
 // The number of a column, counted from 1.
-#[derive(Drop)]
+#[derive(Clone, Copy)]
 pub struct Column(pub u16);
 
 // The interval from x to y, a falling one too: 22 octaves are added before x is taken away.

@@ -2,6 +2,8 @@
 //
 // It goes `along` the columns of a score one after another; where some of them are empty, those are `passed` over.
 
+#![tactic(auto)]
+
 mod along;
 pub mod page;
 mod passed;

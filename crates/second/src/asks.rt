@@ -3,7 +3,7 @@
 use crate::ways::Way;
 
 // What is asked: how much of each lent buffer is handed over, and the numbers beside.
-#[derive(Drop)]
+#[derive(Clone, Copy)]
 pub struct Ask {
     pub h: usize,
     pub cells: usize,
@@ -18,7 +18,7 @@ pub struct Ask {
 }
 
 // The calls: preparation, plain and quick search, and these two beside one another.
-#[derive(Drop)]
+#[derive(Clone, Copy)]
 pub enum Call {
     Prepare,
     Plain,

@@ -5,7 +5,7 @@ use crate::totals::{byte, less_one, more, set, size16};
 use crate::ways::marked_by;
 
 // The number of a refusal and its place; 0 where nothing is turned away.
-#[derive(Drop)]
+#[derive(Clone, Copy)]
 pub struct Away {
     pub number: u8,
     pub place: usize,

@@ -8,7 +8,7 @@ use crate::totals::{apart, byte, less_one, more, place, product, set, size, twel
 use crate::ways::{Way, counted, lowest, same, shift_at, span};
 
 // What comes first at or after a bookmark: a pair, where there is one, and the looks on the way.
-#[derive(Drop)]
+#[derive(Clone, Copy)]
 pub struct Found {
     pub hit: bool,
     pub column: usize,

@@ -6,6 +6,8 @@
 // makes the summary of sets, `questions` answers whether there is any pair, and `updates` judges sets that were brought up to
 // date. The functions promise only to be safe and to end, on purpose.
 
+#![tactic(auto)]
+
 pub mod asks;
 pub mod away;
 pub mod finder;

@@ -3,7 +3,7 @@
 use crate::totals::twelves;
 
 // Exact: a note moved by the shift. Octave: the same with octaves ignored. Written: exact with shift 0 alone.
-#[derive(Drop)]
+#[derive(Clone, Copy)]
 pub enum Way {
     Exact,
     Octave,

@@ -8,7 +8,7 @@ use second::totals::size;
 use ways::{AnyWay, Pair, Way};
 
 // An answer, the route aside: the refusal's number and place, 0 and 0 where there is none, and the changes.
-#[derive(Drop)]
+#[derive(Clone, Copy)]
 pub struct Stray {
     pub number: u8,
     pub place: usize,

@@ -4,6 +4,8 @@
 // as plain numbers, and `beside` holds it against the second router's. `told` is what is written of routes, `strays` asks for
 // one, compares and counts it, and `tallies` says how many there were. The functions promise only to be safe and to end.
 
+#![tactic(auto)]
+
 mod beside;
 mod calling;
 mod marked;

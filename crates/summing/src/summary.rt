@@ -6,7 +6,7 @@ ghost use Rattle.summing.specs.Summary.{summary_of};
 use score::HIGHEST_SET;
 
 // Twelve bits as those of a set: bit d is 0 where some set has the interval d. A kind of its own, so that no set passes for it.
-#[derive(Drop)]
+#[derive(Clone, Copy)]
 pub struct Summary(pub u16);
 
 // The summary of the sets, whatever numbers they are; bits above the twelve play no part. Of no sets it is 4095.

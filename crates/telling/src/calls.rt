@@ -11,7 +11,7 @@ use score::{Refusal, Verdict};
 use ways::AnyWay;
 
 // How many bytes were written; or what is turned away, or the buffer is too short for some texts, and nothing was written.
-#[derive(Drop)]
+#[derive(Clone, Copy)]
 pub enum Telling {
     Told(usize),
     Refused(Refusal),

@@ -3,6 +3,8 @@
 // `limits` names the room that is needed, `writing` puts numbers and lines into the output, `pages` searches and writes out each page as it comes, and `calls` has the
 // two calls: a search is told, or an input is refused.
 
+#![tactic(auto)]
+
 pub mod calls;
 pub mod limits;
 mod pages;

@@ -171,6 +171,7 @@ module _ {A : Type 0} (test : A → Bool) where
       step false e k ih = let found = ih k in (found.0, in_Tail found.1, found.2)
 
   pub in_some : (xs : List A) {x : A} → In x xs → test x ≡ true → some test xs ≡ true
+  in_some [] m e = elim m [ ]
   in_some (y ∷ xs) (at_head p) e = rw (ap test (sym p) ∙ e)
   in_some (y ∷ xs) (in_Tail m) e = step (test y) (in_some xs m e)
     where

@@ -70,7 +70,7 @@ fn pages_for(pairs: usize, r: usize) -> usize {
 }
 
 // A list that is being read: where it goes on, and what there was so far.
-#[derive(Drop)]
+#[derive(Clone, Copy)]
 struct Reading {
     column: u16,
     shift: i16,

@@ -1,4 +1,7 @@
 // Trials: the cases that are run and not proved, each beside a second finder.
+
+#![tactic(auto)]
+
 mod attempts;
 mod lists;
 

@@ -3,5 +3,7 @@
 // `calls` are the library's pages on the lent buffers, with their answers as plain numbers. `turns` marks what is lent, makes a
 // call, and compares what it did. The functions promise only to be safe and to end.
 
+#![tactic(auto)]
+
 mod calls;
 pub mod turns;

@@ -15,7 +15,7 @@ use score::{Column, HIGHEST_SET, Refusal, Verdict, check_score, check_sets, colu
 use summing::{Summary, summary_of};
 
 // The answer of an update: the summary of the sets as they then are, or a refusal.
-#[derive(Drop)]
+#[derive(Clone, Copy)]
 pub enum Change {
     Updated(Summary),
     Refused(Refusal),

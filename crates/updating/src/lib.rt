@@ -2,6 +2,8 @@
 //
 // `nearby` finds the next column with a pitch on either side of a column, and `changes` rewrites the sets that rest on a column.
 
+#![tactic(auto)]
+
 pub mod changes;
 mod nearby;
 

@@ -16,7 +16,7 @@ use score::{Column, Pitch};
 use ways::Way;
 
 // The starts of a column that are hits, and the looks of all its starts.
-#[derive(Drop)]
+#[derive(Clone, Copy)]
 pub struct Alive {
     pub word: Word,
     pub looks: u32,

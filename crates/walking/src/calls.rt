@@ -10,7 +10,7 @@ use score::{Refusal, Verdict};
 use ways::{AnyWay, Bookmark, Way};
 
 // What a walk comes to: how far it came, or why it is turned away.
-#[derive(Drop)]
+#[derive(Clone, Copy)]
 pub enum Walk {
     Done(Walked),
     Refused(Refusal),

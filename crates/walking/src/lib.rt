@@ -5,6 +5,8 @@
 // at from there. The starts of a `column` are tried one by one; the `ring` keeps columns as words of bits, by which `alive` tries
 // all of them at once. The `register` lists candidates, a `walk` goes along listed columns, and the `calls` check what is asked and walk.
 
+#![tactic(auto)]
+
 mod alive;
 pub mod calls;
 mod column;

@@ -10,7 +10,7 @@ use filter::{marks, step};
 use score::Column;
 
 // How many columns are passed, whether the last of them is a candidate, and what the register is behind it.
-#[derive(Drop)]
+#[derive(Clone, Copy)]
 pub struct Sought {
     pub register: u32,
     pub passed: usize,
@@ -18,7 +18,7 @@ pub struct Sought {
 }
 
 // How many columns are passed, how many candidates among them are listed, and what the register is behind them.
-#[derive(Drop)]
+#[derive(Clone, Copy)]
 pub struct Listed {
     pub register: u32,
     pub passed: usize,

@@ -9,7 +9,7 @@ use score::{Column, Pitch};
 use ways::Way;
 
 // What trying a start finds: whether every note follows, and how many were looked for.
-#[derive(Drop)]
+#[derive(Clone, Copy)]
 pub struct Tried {
     pub hit: bool,
     pub looks: u32,

@@ -7,7 +7,7 @@ use score::Column;
 use ways::{Bookmark, Way, code_of};
 
 // The starts of this column from this code on are to be tried, and so many pairs are found: as many places of the buffers are taken.
-#[derive(Drop)]
+#[derive(Clone, Copy)]
 pub struct Spot {
     pub column: Column,
     pub code: u16,
@@ -15,7 +15,7 @@ pub struct Spot {
 }
 
 // The pairs found, and the looks.
-#[derive(Drop)]
+#[derive(Clone, Copy)]
 pub struct Walked {
     pub found: usize,
     pub looks: u32,

@@ -10,7 +10,7 @@ use second::totals::{more, product, put_byte, size16};
 use second::ways::Way;
 
 // A call on two changes to the accepted one.
-#[derive(Drop)]
+#[derive(Clone, Copy)]
 pub struct Barred {
     // whether there is anything to try, and whether it is written out
     pub tried: bool,

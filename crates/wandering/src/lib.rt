@@ -5,6 +5,8 @@
 // many tracks. `moves` says by what shift a theme stands in these, and `rooms` how many places are lent. The functions promise
 // only to be safe and to end.
 
+#![tactic(auto)]
+
 pub mod barred;
 pub mod broad;
 mod moves;

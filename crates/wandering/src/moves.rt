@@ -6,7 +6,7 @@ use second::asks::Ask;
 use second::ways::{Way, shift_at};
 
 // How far the score's notes are up, and the theme's.
-#[derive(Drop)]
+#[derive(Clone, Copy)]
 pub struct Move {
     pub score: u8,
     pub theme: u8,

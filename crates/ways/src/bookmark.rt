@@ -9,14 +9,14 @@ use crate::way::AnyWay;
 use score::Column;
 
 // The theme stands at this column with this shift: score minus theme.
-#[derive(Drop)]
+#[derive(Clone, Copy)]
 pub struct Pair {
     pub column: Column,
     pub shift: i16,
 }
 
 // The first pair to consider.
-#[derive(Drop)]
+#[derive(Clone, Copy)]
 pub struct Bookmark {
     pub column: Column,
     pub shift: i16,

@@ -3,6 +3,8 @@
 // A `way` is how notes are matched; `limits` names its shifts, and `codes` are the shifts counted from its lowest. A found
 // place is a pair, and a `bookmark` the first pair to consider.
 
+#![tactic(auto)]
+
 pub mod bookmark;
 mod codes;
 pub mod limits;

@@ -2,6 +2,8 @@
 //
 // `bytes` reads one byte or a word, `numbers` a number or a cell. Places only go forward.
 
+#![tactic(auto)]
+
 mod bytes;
 pub mod numbers;
 

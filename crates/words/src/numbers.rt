@@ -8,7 +8,7 @@ use crate::bytes::byte_at;
 use score::{HIGHEST_PITCH, REST};
 
 // A value, and the place behind it; or bad text.
-#[derive(Drop)]
+#[derive(Clone, Copy)]
 pub enum Numeral {
     At { value: u8, next: usize },
     Bad,

@@ -4,6 +4,8 @@
 // The `words` say for each pitch at which notes of the theme it stands. The `walk` takes the words of a column's pitches into a
 // register, column by column, which then marks where the theme has just ended. The `page` checks what is asked and walks.
 
+#![tactic(auto)]
+
 pub mod page;
 mod walk;
 mod words;

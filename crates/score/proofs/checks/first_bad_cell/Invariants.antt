@@ -1,0 +1,12 @@
+-- The invariant and the measure.
+use Prim.Native.Nat.{◌-◌}
+use lib.ListN.{length}
+use Rattle.theory.proofs.Scans.{Passed}
+use Rattle.score.specs.Refusals.{bad_cell}
+use Rattle.score.proofs.checks.first_bad_cell.Given as goal
+
+abbrev pub invariant-loop-place : goal.invariant-loop-place
+invariant-loop-place l = Passed bad_cell l.cells l.place
+
+abbrev pub decreases-loop-place : goal.decreases-loop-place
+decreases-loop-place l = length l.cells - l.place
