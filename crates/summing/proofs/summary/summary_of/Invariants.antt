@@ -1,0 +1,11 @@
+-- The invariant and the measure.
+use Prim.Native.Nat.{◌-◌}
+use lib.ListN.{length}
+use Rattle.summing.proofs.Making.{Kept}
+use Rattle.summing.proofs.summary.summary_of.Given as goal
+
+abbrev pub invariant-loop-k : goal.invariant-loop-k
+invariant-loop-k l = Kept l.sets l.k l.kept
+
+abbrev pub decreases-loop-k : goal.decreases-loop-k
+decreases-loop-k l = length l.sets - l.k
