@@ -1,6 +1,6 @@
 -- What a call asks for (`PlainAsks`, `QuickAsks`), in the words of the table of refusals turned round and apart from any
 -- method. Assumes nothing.
-use Rattle.std.specs.Prelude.{◌≡◌, false, List, [], ℕ, ◌+◌, ◌-◌, ◌%◌, ◌≤◌, ℤ, pos, ◌+ℤ◌, length, ◌≤ℤ◌}
+use Rattle.std.specs.Prelude.{◌≡◌, false, List, ℕ, ◌+◌, ◌-◌, ◌%◌, ◌≤◌, ℤ, pos, ◌+ℤ◌, length, ◌≤ℤ◌}
 use Rattle.theory.specs.Lists.{some}
 use Rattle.score.specs.Limits.{most_tracks, most_columns, table_words}
 use Rattle.score.specs.Score.{columns_in}

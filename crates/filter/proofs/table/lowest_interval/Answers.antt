@@ -1,0 +1,6 @@
+use Rattle.std.proofs.Common.{arith}
+use Rattle.filter.proofs.LowestInterval.{lowest_counted}
+use Rattle.filter.proofs.table.lowest_interval.Goals as goal
+
+pub returns : goal.returns
+returns c = lowest_counted 64 _ (omega (arith, c.requires))

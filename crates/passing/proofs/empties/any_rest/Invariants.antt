@@ -1,0 +1,12 @@
+-- The invariant and the measure.
+use Prim.Native.Nat.{◌-◌}
+use lib.ListN.{length}
+use Rattle.theory.proofs.Scans.{Flagged}
+use Rattle.passing.proofs.Looking.{no_pitch}
+use Rattle.passing.proofs.empties.any_rest.Given as goal
+
+abbrev pub invariant-loop-i : goal.invariant-loop-i
+invariant-loop-i l = Flagged no_pitch l.cells l.i l.rest
+
+abbrev pub decreases-loop-i : goal.decreases-loop-i
+decreases-loop-i l = length l.cells - l.i

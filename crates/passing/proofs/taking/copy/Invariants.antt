@@ -1,0 +1,11 @@
+-- The invariant and the measure.
+use Prim.Native.Nat.{◌-◌}
+use lib.ListN.{length}
+use Rattle.passing.proofs.Copied.{Copying}
+use Rattle.passing.proofs.taking.copy.Given as goal
+
+abbrev pub invariant-loop-i : goal.invariant-loop-i
+invariant-loop-i l = Copying l.column l.initial.kept l.at l.kept l.i
+
+abbrev pub decreases-loop-i : goal.decreases-loop-i
+decreases-loop-i l = length l.column - l.i

@@ -1,0 +1,6 @@
+use native.Mathlib.Omega.{arith}
+use Rattle.preparing.proofs.Filling.{gathering_end}
+use Rattle.preparing.proofs.classes.gather.Goals as goal
+
+pub returns : goal.returns
+returns c = gathering_end _ _ _ c.loop-k.invariant (omega arith) c.class_set-2.ensures

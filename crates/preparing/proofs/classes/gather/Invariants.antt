@@ -1,0 +1,11 @@
+-- The invariant and the measure.
+use Prim.Native.Nat.{◌-◌}
+use lib.ListN.{length}
+use Rattle.preparing.proofs.Filling.{Gathering}
+use Rattle.preparing.proofs.classes.gather.Given as goal
+
+abbrev pub invariant-loop-k : goal.invariant-loop-k
+invariant-loop-k l = Gathering l.cells l.tracks (length l.initial.others) l.others l.k l.base
+
+abbrev pub decreases-loop-k : goal.decreases-loop-k
+decreases-loop-k l = length l.initial.others - l.k

@@ -1,0 +1,11 @@
+-- The invariant and the measure.
+use Prim.Native.Nat.{◌-◌}
+use lib.ListN.{length}
+use Rattle.preparing.proofs.ClassSets.{Gathered}
+use Rattle.preparing.proofs.classes.looked_up.Given as goal
+
+abbrev pub invariant-loop-i : goal.invariant-loop-i
+invariant-loop-i l = Gathered l.column l.i l.mask
+
+abbrev pub decreases-loop-i : goal.decreases-loop-i
+decreases-loop-i l = length l.column - l.i
