@@ -1,4 +1,5 @@
--- The invariant and the measure.
+-- `passing::empties::any_from` meets its contract. The invariant: the columns left settle the answer, and the next begins at
+-- `at`. The measure is the columns left.
 use Prim.Native.Nat.{◌-◌}
 use Rattle.passing.proofs.Looking.{Ones}
 use Rattle.passing.proofs.empties.any_from.Given as goal

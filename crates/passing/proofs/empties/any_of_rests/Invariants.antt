@@ -1,4 +1,5 @@
--- The invariant and the measure.
+-- `passing::empties::any_of_rests` meets its contract. The invariant: the columns left settle the answer, and the next begins at
+-- base. The measure is the columns left.
 use Rattle.score.specs.Score.{columns_in}
 use Rattle.passing.proofs.Looking.{Left}
 use Rattle.passing.proofs.empties.any_of_rests.Given as goal

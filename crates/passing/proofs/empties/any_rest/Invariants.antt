@@ -1,4 +1,5 @@
--- The invariant and the measure.
+-- `passing::empties::any_rest` meets its contract. The invariant: the flag says whether some cell passed is no pitch. The measure
+-- is the cells left.
 use Prim.Native.Nat.{◌-◌}
 use lib.ListN.{length}
 use Rattle.theory.proofs.Scans.{Flagged}

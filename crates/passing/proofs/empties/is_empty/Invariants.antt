@@ -1,4 +1,4 @@
--- The invariant and the measure.
+-- `passing::empties::is_empty` meets its contract. The invariant: no cell passed is a pitch. The measure is the cells left.
 use mathlib.Core.Bool.{false}
 use Prim.Native.Nat.{◌-◌}
 use lib.ListN.{length}

@@ -1,15 +1,7 @@
-use Rattle.passing.specs.Passing.{entry_at}
-use Rattle.passing.proofs.Numbering.{kept_more}
+-- `passing::numbers::kept_sets` meets its contract: the entry at the next number stands at the next place, which is within both.
+use Rattle.passing.proofs.Numbering.{both_below, kept_more}
 use Rattle.passing.proofs.numbers.kept_sets.Goals as goal
 
--- OLDHELPER abbrev start : tie.At-loop invariant-loop decreases-loop → tie.Start invariant-loop decreases-loop
--- OLDHELPER start l = l.before.before.before.before
-
--- OLDHELPER -- the next place is within both
--- OLDHELPER below : (c : tie.In-loop invariant-loop decreases-loop) → let l = c.before in (l.loop.i < length (start l).args.numbers.now) × (l.loop.i < length l.loop.auto)
--- OLDHELPER below c = both_below _ _ _ c.loop-test.true
-
 pub loop-i-preserved : goal.loop-i-preserved
-loop-i-preserved c =    let l = c in
-    let a = (start l).args in
-    kept_more a.sets.now a.numbers.now _ _ l.loop-i.invariant (below l) c.entry_at.ensures
+loop-i-preserved c =
+    kept_more c.args.sets.now c.args.numbers.now _ _ c.loop-i.invariant (both_below _ _ _ c.loop-i-test.true) c.entry_at.ensures

@@ -1,4 +1,5 @@
--- The invariant and the measure.
+-- `passing::numbers::kept_sets` meets its contract. The invariant: the entries at the numbers passed stand over the front of the
+-- buffer. The measure is the numbers left.
 use mathlib.Core.List.{map}
 use Prim.Native.Nat.{◌-◌}
 use lib.ListN.{length}

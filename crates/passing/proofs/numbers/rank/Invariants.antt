@@ -1,4 +1,5 @@
--- The invariant and the measure.
+-- `passing::numbers::rank` meets its contract. The invariant: the numbers passed are below the one asked for. The measure is the
+-- numbers left.
 use Prim.Native.Nat.{◌-◌}
 use lib.ListN.{length}
 use Rattle.theory.proofs.Scans.{Passed}

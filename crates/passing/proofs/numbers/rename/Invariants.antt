@@ -1,4 +1,5 @@
--- The invariant and the measure.
+-- `passing::numbers::rename` meets its contract. The invariant: the columns passed stand under their other numbers over the front
+-- of the buffer. The measure is the columns left.
 use mathlib.Core.List.{map}
 use Prim.Native.Nat.{◌-◌}
 use lib.ListN.{take}

@@ -1,3 +1,4 @@
+-- `passing::taking::copy` meets its contract: one more cell is stored.
 use Rattle.passing.proofs.Copied.{copying_more}
 use Rattle.passing.proofs.taking.copy.Goals as goal
 

@@ -1,4 +1,5 @@
--- The invariant and the measure.
+-- `passing::taking::copy` meets its contract. The invariant: the cells passed are stored from the place on. The measure is the
+-- cells left.
 use Prim.Native.Nat.{◌-◌}
 use lib.ListN.{length}
 use Rattle.passing.proofs.Copied.{Copying}

@@ -1,4 +1,5 @@
--- The invariant and the measure.
+-- `passing::taking::take_each` meets its contract. The invariant: the columns with a pitch that were passed are copied, and their
+-- numbers. The measure is the columns left.
 use Prim.Native.Nat.{◌-◌}
 use Rattle.passing.proofs.Copied.{Taking}
 use Rattle.passing.proofs.taking.take_each.Given as goal
