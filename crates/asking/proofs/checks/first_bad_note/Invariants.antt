@@ -1,4 +1,4 @@
--- The invariant and the measure.
+-- The invariant: no note passed is bad. The measure is the notes left.
 use Prim.Native.Nat.{◌-◌}
 use lib.ListN.{length}
 use Rattle.theory.proofs.Scans.{Passed}

@@ -1,3 +1,4 @@
+-- `filter::register::marks` meets its contract: the lowest bit of the register shifted down is its bit `top`. Assumes nothing.
 use Rattle.std.proofs.Common.{ℕ, ◌%◌, eqb, ap}
 use Rattle.theory.proofs.Masks.{shr_and_one}
 use Rattle.filter.specs.Limits.{word_bits}

@@ -1,24 +1,38 @@
-use Rattle.std.proofs.Common.{sym, arith}
+-- `filter::table::fill_table` meets its contract: a table that is left alone, or filled. Assumes nothing.
+use Rattle.std.proofs.Common.{sym, ◌∙◌, arith}
 use Rattle.filter.specs.Limits.{word_bits}
-use Rattle.filter.proofs.Words.{after_none}
-use Rattle.filter.proofs.table.Downward.{even_first, even_more}
+use Rattle.filter.specs.Table.{theme_table}
+use Rattle.filter.proofs.Words.{after_none, after_other, after_filled}
+use Rattle.filter.proofs.LowestInterval.{lowest_lt}
+use Rattle.filter.proofs.table.Downward.{even_first, odd_source, even_more, right_all}
 use Rattle.filter.proofs.table.fill_table.Goals as goal
 
+pub returns-then-theme-eq0 : goal.returns-then-theme-eq0
+returns-then-theme-eq0 c = sym (after_none word_bits c.args.theme.now _ c.if-theme-eq0.true)
+
+pub returns-then-table-ne-TABLE_WORDS : goal.returns-then-table-ne-TABLE_WORDS
+returns-then-table-ne-TABLE_WORDS c = sym (after_other word_bits c.args.theme.now _ (λ e. omega arith))
+
 pub loop-even-init : goal.loop-even-init
-loop-even-init c = even_first word_bits _ c.interval_words.ensures c.args.table.now (omega arith)
+loop-even-init c = even_first word_bits _ c.interval_words-words.ensures c.args.table.now (omega arith)
 
 pub bounds-table-odd : goal.bounds-table-odd
-bounds-table-odd c = ?
+bounds-table-odd c =
+    omega (arith, odd_source word_bits _ c.interval_words-words.ensures c.loop-even.invariant (omega arith), c.loop-even.invariant.right.long)
 
 pub offset_bounds-words-lowest_interval : goal.offset_bounds-words-lowest_interval
-offset_bounds-words-lowest_interval c = ?
+offset_bounds-words-lowest_interval c =
+    omega (arith, lowest_lt c.lowest_interval.ensures (omega (arith, c.loop-even.invariant.right.within)))
 
 pub bounds-words-lowest_interval : goal.bounds-words-lowest_interval
-bounds-words-lowest_interval c = ?
+bounds-words-lowest_interval c =
+    omega (arith, lowest_lt c.lowest_interval.ensures (omega (arith, c.loop-even.invariant.right.within)))
 
 pub loop-even-preserved : goal.loop-even-preserved
-loop-even-preserved c =    let at-loop = c in
-    even_more word_bits _ at-loop.interval_words.ensures at-loop.loop-even.invariant (omega arith) c.lowest_interval.ensures
+loop-even-preserved c = even_more word_bits _ c.interval_words-words.ensures c.loop-even.invariant (omega arith) c.lowest_interval.ensures
 
 pub returns : goal.returns
-returns c = sym (after_none word_bits c.args.theme.now _ c.if1.true)
+unfolding theme_table
+returns c =
+    right_all c.loop-even.invariant.right (omega arith)
+    ∙ sym (after_filled word_bits _ _ c.if-theme-eq0.false c.if-table-ne-TABLE_WORDS.false)

@@ -1,4 +1,4 @@
--- The invariant and the measure.
+-- The invariant: each entry from `even` on is right. The measure is the entries left.
 use Rattle.filter.specs.Limits.{word_bits}
 use Rattle.filter.proofs.table.Downward.{FromEven}
 use Rattle.filter.proofs.table.fill_table.Given as goal

@@ -1,3 +1,4 @@
+-- `filter::table::interval_words` meets its contract. Assumes nothing.
 use Rattle.std.proofs.Common.{ap, arith}
 use Rattle.score.specs.declared.quantities.Interval.{Interval}
 use Rattle.filter.specs.Limits.{word_bits}
@@ -8,8 +9,8 @@ pub loop-i-init : goal.loop-i-init
 loop-i-init c = marked_start word_bits _ (omega arith)
 
 pub loop-i-preserved : goal.loop-i-preserved
-loop-i-preserved c =    let at-loop = c in
-    marked_more _ at-loop.loop-i.invariant (omega arith) (ap (λ (d : Interval). d.0) c.interval_of.ensures)
+loop-i-preserved c =
+    marked_more _ c.loop-i.invariant (omega arith) (ap (λ (d : Interval). d.0) c.interval_of-d.ensures)
 
 pub returns : goal.returns
 returns c = marked_all c.loop-i.invariant (omega arith)

@@ -1,4 +1,4 @@
--- The invariant and the measure.
+-- The invariant: the words are right for the first i intervals, and the mark is bit i. The measure is the notes left.
 use Rattle.std.proofs.Common.{◌-◌, length}
 use Rattle.filter.specs.Limits.{word_bits}
 use Rattle.filter.proofs.table.IntervalWords.{Marked}

@@ -1,3 +1,4 @@
+-- `filter::table::lowest_interval` meets its contract: below the lowest interval a set has ones, and `!set` zeros. Assumes nothing.
 use Rattle.std.proofs.Common.{arith}
 use Rattle.filter.proofs.LowestInterval.{lowest_counted}
 use Rattle.filter.proofs.table.lowest_interval.Goals as goal
