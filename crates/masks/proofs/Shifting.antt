@@ -10,7 +10,7 @@ use lib.Bits.{bit_or, bit_and, or_lt, and_mask, or_mod}
 use lib.Dec.{leb}
 use lib.Pow.{pow_pos, shr_le, mod-mod-pow}
 use borrow.Author.Tests.{le-leb, lt-leb}
-use Rattle.theory.specs.Bits.{bit, number}
+use Rattle.theory.specs.Bits.{bit}
 use Rattle.theory.proofs.Bits.{bit_lt, bit_or_lem, bit_shr, bit_shl, bit_shl_low, bit_high, bit_ext, number_unique}
 use Rattle.theory.proofs.Masks.{shl_high, shl_low}
 use Rattle.masks.specs.Masks.{value, turned_word, shifted_word}

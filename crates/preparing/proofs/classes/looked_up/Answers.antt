@@ -6,9 +6,8 @@ pub loop-i-init : goal.loop-i-init
 loop-i-init c = gathered_start _
 
 pub loop-i-preserved : goal.loop-i-preserved
-loop-i-preserved c =    let at-loop = c in
-    let cell = c.shared-slice-known.given at-loop.loop-i.i in
-    gathered_look _ at-loop.loop-i.invariant (omega arith) at-loop.requires (omega (arith, cell))
+loop-i-preserved c =
+    gathered_look _ c.loop-i.invariant (omega arith) c.requires (omega (arith, c.type_inv.column c.loop-i.i))
 
 pub returns : goal.returns
 returns c = gathered_end _ c.loop-i.invariant (omega arith)

@@ -4,13 +4,13 @@ use Rattle.preparing.proofs.Filling.{turned_sets}
 use Rattle.preparing.proofs.sets.fill.Goals as goal
 
 pub returns-then-any_empty : goal.returns-then-any_empty
-returns-then-any_empty c =    let at_turn = c in
+returns-then-any_empty c = let at_turn = c in
     let at-carry = at_turn in
     let at-gather = at-carry in
     turned_sets _ at-gather.gather-first.ensures at-carry.carry-later.ensures at_turn.turn_to.ensures
 
 pub returns-else-any_empty : goal.returns-else-any_empty
-returns-else-any_empty c =    let at_turn = c in
+returns-else-any_empty c = let at_turn = c in
     let at-else = at_turn in
     let at_test = at-else in
     let at-gather = at_test in
