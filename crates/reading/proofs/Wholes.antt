@@ -10,10 +10,8 @@ use Rattle.score.specs.Limits.{most_tracks, most_columns}
 use Rattle.score.specs.Score.{cut}
 use Rattle.ways.specs.declared.way.AnyWay.{AnyWay}
 use Rattle.reading.specs.declared.lines.ThemeLine.{ThemeLine}
-use Rattle.reading.specs.declared.lines.ThemeLine.TheVariants as ThemeLine
 use Rattle.reading.specs.declared.lines.ChordLines.{ChordLines}
-use Rattle.reading.specs.declared.lines.ChordLines.TheVariants as ChordLines
-use Rattle.words.specs.Words.{Read, got}
+use Rattle.words.specs.Words.{got}
 use Rattle.reading.specs.Reading.{Theme, theme_line}
 use Rattle.reading.specs.Request.{Chords, all, fault, chords, right, faulty, with_chords, with_theme, meaning}
 use Rattle.reading.specs.Steps.{theme_read, theme_next, theme_count, Themed, chords_read, chords_tracks, chords_count, Scored, Stood}

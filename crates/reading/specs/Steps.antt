@@ -5,13 +5,9 @@ use Rattle.theory.specs.Lists.{over}
 use Rattle.asking.specs.Limits.{most_notes}
 use Rattle.score.specs.Limits.{most_tracks, most_columns}
 use Rattle.reading.specs.declared.lines.Line.{Line}
-use Rattle.reading.specs.declared.lines.Line.TheVariants as Line
 use Rattle.reading.specs.declared.lines.ThemeLine.{ThemeLine}
-use Rattle.reading.specs.declared.lines.ThemeLine.TheVariants as ThemeLine
 use Rattle.reading.specs.declared.lines.ChordLines.{ChordLines}
-use Rattle.reading.specs.declared.lines.ChordLines.TheVariants as ChordLines
 use Rattle.reading.specs.declared.request.Reading.{Reading}
-use Rattle.reading.specs.declared.request.Reading.TheVariants as Reading
 use Rattle.ways.specs.declared.way.AnyWay.{AnyWay}
 use Rattle.score.specs.Score.{cut}
 use Rattle.words.specs.Words.{Read, got, bad}

@@ -90,6 +90,7 @@ fn chord_line(text: &[u8], from: usize, h: usize, cells: &mut [u8], base: usize)
 }
 
 // All chord lines from the place on, to the end of the input.
+#[tactic(auto, using(crate::proofs::Scoring::scoring_many))]
 pub fn chord_lines(text: &[u8], from: usize, cells: &mut [u8]) -> ChordLines
     requires { (from ≤ length text.now) × (most_cells ≤ length cells.old) }
     ensures { Scored result cells.new (chordsOf most_columns 0 (drop from text.now)) }

@@ -39,6 +39,7 @@ fn more_digits(text: &[u8], at: usize, value: u8) -> Numeral
 }
 
 // A number 0 to 127 without leading zeros.
+#[tactic(auto, using(crate::proofs::Places::number_zero))]
 fn number(text: &[u8], at: usize) -> Numeral
     ensures { Numbered text.now result (number_of (drop at text.now)) }
 {

@@ -1,4 +1,5 @@
--- The invariant and the measure.
+-- The invariant: the word begins at the place exactly where what is left of it begins at what is left of the text. The measure
+-- is what is left of the word.
 use Prim.Native.Nat.{◌-◌}
 use lib.ListN.{length}
 use Rattle.words.proofs.Standing.{Standing}
