@@ -1,0 +1,10 @@
+-- The invariant and the measure.
+use Prim.Native.Nat.{◌+◌, ◌-◌, ◌≤◌}
+use Rattle.walking.proofs.register.Laws.{Listing}
+use Rattle.walking.proofs.register.list_candidates.Given as goal
+
+abbrev pub invariant-loop-passed : goal.invariant-loop-passed
+invariant-loop-passed l = Listing l.table l.sets l.m l.first.0 (l.first.0 + l.many) l.initial.list l.list l.word (l.first.0 + l.passed) l.count × (l.count ≤ l.wanted)
+
+abbrev pub decreases-loop-passed : goal.decreases-loop-passed
+decreases-loop-passed l = l.many - l.passed

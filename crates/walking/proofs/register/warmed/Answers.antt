@@ -1,0 +1,12 @@
+use mathlib.Core.Path.{sym}
+use native.Mathlib.Omega.{arith}
+use Rattle.theory.proofs.Register.{reg_from_none, reg_from_turn}
+use Rattle.walking.proofs.register.warmed.Goals as goal
+
+pub loop-at-init : goal.loop-at-init
+loop-at-init c = (omega arith, omega arith, sym (reg_from_none 32 _ _))
+
+pub loop-at-preserved : goal.loop-at-preserved
+loop-at-preserved c =
+    let a = c.loop-at in
+    (omega arith, omega arith, reg_from_turn 32 _ _ a.at a.invariant.0 a.invariant.2 c.taken-register.ensures)
