@@ -11,4 +11,5 @@ returns-then-n-next c =
 pub returns : goal.returns
 returns c =
     let a = c.args in
-    set_follows a.cells.now a.tracks a.n a.k c.requires.0 c.requires.1 c.heard_after-next.ensures c.if-n-next.false c.set_between.ensures
+    let next = c.heard_after-next.ensures in
+    set_follows a.cells.now a.tracks a.n a.k c.requires.0 c.requires.1 next c.if-n-next.false c.set_between.ensures

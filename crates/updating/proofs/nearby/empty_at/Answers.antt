@@ -10,4 +10,5 @@ use Rattle.updating.proofs.nearby.empty_at.Goals as goal
 pub returns : goal.returns
 returns c =
     let a = c.args in
-    c.is_empty.ensures ∙ ap (λ (column : List ℕ). not (heard column)) (column_cells a.cells.now a.tracks a.n a.k c.requires.0 c.requires.1)
+    c.is_empty.ensures
+    ∙ ap (λ (column : List ℕ). not (heard column)) (column_cells a.cells.now a.tracks a.n a.k c.requires.0 c.requires.1)
