@@ -2,19 +2,19 @@
 -- changed column only (`fresh_sets`). The idea: another set rests on that column only where it is the next column with a pitch,
 -- and then its own column is the last with a pitch before it. Assumes nothing.
 use mathlib.Core.Path.{◌≡◌, refl, sym, ap, ap₂, ◌∙◌}
-use mathlib.Core.Bool.{Bool, true, false, cond, ◌||◌, true≢false}
+use mathlib.Core.Bool.{Bool, true, false, cond, ◌||◌}
 use mathlib.Core.List.{List, [], ◌++◌, map, append-nil}
 use Prim.Native.Nat.{ℕ, suc, ◌+◌, ◌-◌, ◌≤◌, ◌<◌}
 use native.Mathlib.Decide.{dec_lt}
 use native.Mathlib.Omega.{arith}
 use lib.Dec.{eqb}
 use lib.ListN.{length, get_or, take, drop, length-take, length-drop, take-append-drop}
-use lib.Seq.{ext_get_or, get_or-take, get_or-drop, take-add, length-take-le}
-use borrow.Author.Tests.{eqb-false, eq-eqb}
+use lib.Seq.{ext_get_or, get_or-take, get_or-drop, take-add}
+use borrow.Author.Tests.{eqb-false}
 use Rattle.theory.specs.Lists.{some, count, last}
 use Rattle.theory.proofs.Lists.{count_map_length, count_map_at}
 use Rattle.score.specs.declared.quantities.Column.{Column}
-use Rattle.score.specs.Score.{column_at, heard, heard_from}
+use Rattle.score.specs.Score.{heard, heard_from}
 use Rattle.score.specs.Sets.{sets, interval_set, next_heard}
 use Rattle.score.proofs.IntervalSets.{sets_length, sets_at, set_empty}
 use Rattle.updating.specs.Updating.{heard_before, rests_on, updated_sets, OneChanged}

@@ -19,7 +19,13 @@ loop-k-preserved-then-not-is_empty c =
 
 pub loop-k-preserved : goal.loop-k-preserved
 loop-k-preserved c =
-    taking_skip _ _ c.loop-k.invariant (omega (arith, c.loop-k-test.true, c.requires.0)) c.is_empty.ensures (ap not c.if-not-is_empty.false)
+    taking_skip
+    _
+    _
+    c.loop-k.invariant
+    (omega (arith, c.loop-k-test.true, c.requires.0))
+    c.is_empty.ensures
+    (ap not c.if-not-is_empty.false)
 
 pub returns : goal.returns
 returns c = taking_end _ _ c.loop-k.invariant c.requires.1 (omega (arith, c.loop-k-test.false, c.requires.0))
