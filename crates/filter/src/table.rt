@@ -56,6 +56,7 @@ fn lowest_interval(set: usize) -> usize
 //
 // 3450 is even, as half of the sets are. An even set has the interval 0, and without it is the odd set after it. So each turn
 // fills two entries: an odd one, and from it the even one before it.
+#[tactic(auto, using(crate::proofs::Words::after_none, crate::proofs::Words::after_other))]
 pub fn fill_table(theme: &[u8], table: &mut [u32])
     ensures { table.new ≡ table_after word_bits theme.now table.old }
 {

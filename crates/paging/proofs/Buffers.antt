@@ -5,9 +5,8 @@ use mathlib.Core.List.{List, [], ◌∷◌, ◌++◌, map}
 use Prim.Native.Nat.{ℕ, ◌≤◌}
 use native.Mathlib.Omega.{arith}
 use lib.IntN.{ℤ}
-use lib.ListN.{length, drop, length-map}
+use lib.ListN.{length, length-map}
 use Rattle.theory.proofs.Lists.{over_length, over_behind}
-use Rattle.score.specs.Score.{column_at}
 use Rattle.ways.specs.declared.bookmark.Pair.{Pair}
 use Rattle.paging.specs.Lent.{Lent, Room, written, behind, read_pairs}
 

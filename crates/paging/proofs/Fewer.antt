@@ -3,7 +3,7 @@
 use mathlib.Core.Path.{◌≡◌, refl, sym, ap, ◌∙◌, subst}
 use mathlib.Core.Bool.{Bool, true, false, cond, not, true≢false}
 use mathlib.Core.List.{List, map, Memᴰ as In}
-use Prim.Native.Nat.{ℕ, ◌≤◌}
+use Prim.Native.Nat.{◌≤◌}
 use lib.Dec.{leb}
 use lib.ListN.{length}
 use Rattle.theory.specs.Pages.{hits}
@@ -20,7 +20,7 @@ use Rattle.ways.specs.Bookmarks.{after_pair, finished_bookmark}
 use Rattle.paging.specs.Lent.{Lent, written}
 use Rattle.paging.specs.Order.{at_or_after}
 use Rattle.paging.specs.Search.{Search, Right, only, listed, all_looks, left, found}
-use Rattle.paging.specs.Page.{Leaf, last_pair, leaf, away, paged}
+use Rattle.paging.specs.Page.{last_pair, leaf, away, paged}
 use Rattle.paging.specs.Listing.{turned, refused, SamePage}
 use Rattle.paging.proofs.Orders.{ordered_hits}
 

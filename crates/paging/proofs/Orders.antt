@@ -1,6 +1,6 @@
 -- Pairs in order: each stands before all those after it, so none is there twice (`ordered_once`), and what passes a test is in order too
 -- (`ordered_hits`). Assumes nothing.
-use mathlib.Core.Path.{◌≡◌, refl, sym, ◌∙◌, subst}
+use mathlib.Core.Path.{refl, sym, ◌∙◌, subst}
 use mathlib.Core.Bool.{Bool, true, false, cond}
 use mathlib.Core.Logic.{inl, inr}
 use mathlib.Core.List.Memᴰ

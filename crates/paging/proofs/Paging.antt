@@ -2,7 +2,7 @@
 -- which is in range and stands for what is left. The idea: one number orders the pairs, and what stands at or after a bookmark is what
 -- stands from that number on. Assumes nothing.
 use mathlib.Core.Path.{◌≡◌, refl, sym, ap, ◌∙◌, subst}
-use mathlib.Core.Bool.{Bool, true, false, cond, not}
+use mathlib.Core.Bool.{Bool, true, cond, not}
 use mathlib.Core.List.Memᴰ.{head as here}
 use mathlib.Core.List.Memᴰ.{tail as later}
 use mathlib.Core.List.{List, [], ◌∷◌, map, Memᴰ as In}
@@ -12,7 +12,7 @@ use native.Mathlib.Omega.{arith}
 use lib.Dec.{leb}
 use lib.ListN.{length, length-map}
 use Rattle.theory.specs.Lists.{last}
-use Rattle.theory.specs.Pages.{hits, page_hits, page_looks, rest, full, Rising, from}
+use Rattle.theory.specs.Pages.{page_hits, rest, full, Rising, from}
 use Rattle.theory.proofs.Either.{either}
 use Rattle.theory.proofs.Pages.{page_full}
 use Rattle.theory.proofs.Bookmarks.{from_next}
@@ -33,7 +33,7 @@ use Rattle.paging.specs.Search.{Search, Right, left, found, spent}
 use Rattle.paging.specs.Page.{Leaf, last_pair, turn, leaf}
 use Rattle.paging.specs.Reading.{Turns}
 use Rattle.paging.proofs.Keys.{Near, pair_key, pair_order, before_key}
-use Rattle.paging.proofs.Bookmarks.{within_near, mark_below, mark_above, after_key, after_range, first_range, finished_range, after_first}
+use Rattle.paging.proofs.Bookmarks.{within_near, mark_below, mark_above, after_key, after_range, finished_range, after_first}
 use Rattle.paging.proofs.Buffers.{read_back}
 
 -- ---- a page that was turned tells its turn

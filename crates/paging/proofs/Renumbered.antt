@@ -1,35 +1,32 @@
 -- A search whose pairs' columns have other numbers. Where the numbers rise it stays right (`renumbered_right`); where a bookmark
 -- among the one numbers and one among the others leave the same starts, its page is that of the search with the columns renamed
 -- (`renumbered_pages`); and under its own numbers it turns the same pages (`own_leaf`). Assumes nothing.
-use mathlib.Core.Path.{◌≡◌, refl, sym, ap, ◌∙◌, subst}
-use mathlib.Core.Bool.{Bool}
+use mathlib.Core.Path.{◌≡◌, refl, sym, ap, ◌∙◌}
 use mathlib.Core.Logic.{inl, inr}
 use mathlib.Core.List.Memᴰ.{head as here}
 use mathlib.Core.List.Memᴰ.{tail as later}
 use mathlib.Core.List.{List, [], ◌∷◌, map, Memᴰ as In}
 use Prim.Native.Nat.{ℕ, ◌≤◌, ◌<◌}
-use native.Mathlib.Omega.{arith}
 use lib.IntN.{ℤ}
 use lib.ListN.{length, take, drop, length-map}
 use lib.Seq.{take-append_seam, drop-append_seam}
 use Rattle.theory.specs.Lists.{over}
-use Rattle.theory.specs.Pages.{hits, page_hits, page_looks}
+use Rattle.theory.specs.Pages.{page_hits, page_looks}
 use Rattle.theory.proofs.Hits.{hits_same}
 use Rattle.theory.proofs.Lists.{map_twice}
 use Rattle.theory.proofs.Members.{in_hits, in_page}
 use Rattle.score.specs.Score.{column_at}
-use Rattle.score.specs.Refusals.{Row, judge}
+use Rattle.score.specs.Refusals.{Row}
 use Rattle.score.proofs.Judged.{Clear}
 use Rattle.ways.specs.declared.bookmark.Pair.{Pair}
 use Rattle.ways.specs.declared.bookmark.Bookmark.{Bookmark}
 use Rattle.ways.specs.Bookmarks.{finished_bookmark}
 use Rattle.paging.specs.declared.page.Turn.{Turn}
-use Rattle.paging.specs.declared.page.Page.{Page}
 use Rattle.paging.specs.declared.page.Page.TheVariants.{Turned}
-use Rattle.paging.specs.Lent.{Lent, lent, written}
+use Rattle.paging.specs.Lent.{Lent, lent}
 use Rattle.paging.specs.Order.{Before, Ordered, none, one, more, at_or_after, Within}
 use Rattle.paging.specs.Search.{Search, Right, left, found, spent, renamed, renumbered}
-use Rattle.paging.specs.Page.{Leaf, turn, leaf, away, paged, Pages}
+use Rattle.paging.specs.Page.{turn, leaf, paged, Pages}
 use Rattle.paging.specs.Turning.{read_turn}
 use Rattle.paging.proofs.Buffers.{same_columns, same_shifts}
 use Rattle.paging.proofs.Paging.{turned_same}

@@ -2,13 +2,13 @@
 -- the page's (`turned_page`), and so the call meets its contract (`went_pages`); one that was turned away meets it too
 -- (`away_pages`). This is what a new search proves of its code. Assumes nothing.
 use mathlib.Core.Path.{◌≡◌, refl, sym, ap, ◌∙◌}
-use mathlib.Core.Bool.{Bool, true, false, ◌||◌}
+use mathlib.Core.Bool.{false, ◌||◌}
 use mathlib.Core.List.{List, [], ◌∷◌, map}
 use Prim.Native.Nat.{ℕ, suc, ◌-◌, ◌≤◌, ◌<◌}
 use native.Mathlib.Decide.{dec_lt}
 use native.Mathlib.Omega.{arith}
-use lib.Dec.{leb, ltb, eqb}
-use lib.IntN.{ℤ, pos}
+use lib.Dec.{ltb, eqb}
+use lib.IntN.{pos}
 use lib.ListN.{length, get_or, drop, length-map, get_or-append}
 use borrow.Author.Tests.{lt-ltb, le-ltb, le-leb, lt-leb, ne_eqb}
 use Rattle.theory.specs.Lists.{over, last}
@@ -27,7 +27,7 @@ use Rattle.paging.specs.declared.page.Page.TheVariants.{Turned, Refused}
 use Rattle.paging.specs.Lent.{Lent, Room, written}
 use Rattle.paging.specs.Search.{Search, left, found, spent}
 use Rattle.paging.specs.Page.{Leaf, turn, paged, away, Pages}
-use Rattle.paging.specs.Turning.{read_turn, room_left, unfilled}
+use Rattle.paging.specs.Turning.{read_turn, unfilled}
 use Rattle.paging.proofs.Buffers.{written_room}
 use Rattle.paging.proofs.Answers.{paged_clear}
 

@@ -1,7 +1,7 @@
 -- A loop that reads page after page, under way: the pairs so far, and what is left at the bookmark, make the list, and so do the looks. Laws:
 -- start, one page more (`page_turned`), end, and a number that falls. The idea: a page has the first hits that are left, and the
 -- bookmark returned stands for the others. Assumes nothing.
-use mathlib.Core.Path.{◌≡◌, refl, sym, ap, ◌∙◌, subst}
+use mathlib.Core.Path.{◌≡◌, sym, ap, ◌∙◌, subst}
 use mathlib.Core.Bool.{Bool, true, false, cond, not}
 use mathlib.Core.List.{List, [], ◌++◌, map, map-append, append_assoc, append-nil}
 use Prim.Native.Nat.{ℕ, suc, ◌+◌, ◌≤◌, ◌<◌}
@@ -23,7 +23,7 @@ use Rattle.paging.specs.declared.page.Turn.{Turn}
 use Rattle.paging.specs.declared.page.Page.{Page}
 use Rattle.paging.specs.declared.page.Page.TheVariants.{Turned, Refused}
 use Rattle.paging.specs.Lent.{Lent, Room, read_pairs}
-use Rattle.paging.specs.Search.{Search, Right, listed, all_looks, left, found, spent}
+use Rattle.paging.specs.Search.{Search, Right, listed, all_looks, left, found}
 use Rattle.paging.specs.Page.{Leaf, Pages}
 use Rattle.paging.proofs.Answers.{turned_refused}
 use Rattle.paging.proofs.Bookmarks.{first_range}

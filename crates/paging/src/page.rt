@@ -23,6 +23,7 @@ pub enum Page {
 }
 
 // Whether the buffers have room left after so many pairs. Buffers without a place, or with fewer shifts than columns, always have.
+#[tactic(auto, unfolding(crate::specs::Turning::unfilled))]
 fn room_left(found: usize, columns: usize, shifts: usize) -> bool
     ensures { result ≡ unfilled found columns shifts }
 {

@@ -2,16 +2,10 @@
 use Rattle.std.proofs.Common.{sym, ◌∙◌, arith}
 use Rattle.filter.specs.Limits.{word_bits}
 use Rattle.filter.specs.Table.{theme_table}
-use Rattle.filter.proofs.Words.{after_none, after_other, after_filled}
+use Rattle.filter.proofs.Words.{after_filled}
 use Rattle.filter.proofs.LowestInterval.{lowest_lt}
 use Rattle.filter.proofs.table.Downward.{even_first, odd_source, even_more, right_all}
 use Rattle.filter.proofs.table.fill_table.Goals as goal
-
-pub returns-then-theme-eq0 : goal.returns-then-theme-eq0
-returns-then-theme-eq0 c = sym (after_none word_bits c.args.theme.now _ c.if-theme-eq0.true)
-
-pub returns-then-table-ne-TABLE_WORDS : goal.returns-then-table-ne-TABLE_WORDS
-returns-then-table-ne-TABLE_WORDS c = sym (after_other word_bits c.args.theme.now _ (λ e. omega arith))
 
 pub loop-even-init : goal.loop-even-init
 loop-even-init c = even_first word_bits _ c.interval_words-words.ensures c.args.table.now (omega arith)
@@ -35,4 +29,4 @@ pub returns : goal.returns
 unfolding theme_table
 returns c =
     right_all c.loop-even.invariant.right (omega arith)
-    ∙ sym (after_filled word_bits _ _ c.if-theme-eq0.false c.if-table-ne-TABLE_WORDS.false)
+    ∙ sym (after_filled word_bits _ _ (λ e. omega arith) (omega arith))
