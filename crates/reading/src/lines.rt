@@ -4,7 +4,7 @@ ghost use Rattle.std.specs.Prelude.{◌+◌, ◌≤◌, length, drop};
 ghost use Rattle.score.specs.Limits.{most_tracks, most_columns, most_cells};
 ghost use Rattle.asking.specs.Limits.{most_notes};
 ghost use Rattle.reading.specs.Reading.{fields as fields_of, chord_line, notes_of, theme_line};
-ghost use Rattle.reading.specs.Request.{chords as chordsOf};
+ghost use Rattle.reading.specs.Request.{chords as chords_of};
 ghost use Rattle.reading.specs.Steps.{Filled, Themed, Scored};
 
 use asking::MOST_NOTES;
@@ -93,7 +93,7 @@ fn chord_line(text: &[u8], from: usize, h: usize, cells: &mut [u8], base: usize)
 #[tactic(auto, using(crate::proofs::Scoring::scoring_many))]
 pub fn chord_lines(text: &[u8], from: usize, cells: &mut [u8]) -> ChordLines
     requires { (from ≤ length text.now) × (most_cells ≤ length cells.old) }
-    ensures { Scored result cells.new (chordsOf most_columns 0 (drop from text.now)) }
+    ensures { Scored result cells.new (chords_of most_columns 0 (drop from text.now)) }
 {
     let mut at = from;
     let mut tracks = 0;
