@@ -12,6 +12,7 @@ use reporting::lines::{THEMES, answered, tail};
 use second::asks::Call;
 use second::totals::{add, size};
 use turning::turns::turn_prepare;
+use std::io;
 
 // One call, compared with the second finder.
 fn called(
@@ -50,61 +51,54 @@ fn due_judged(j: Job, s: Seen) -> Seen {
 }
 
 // A call by itself.
-fn once(
-    cells: &[u8],
+fn once(rt: &impl Print, cells: &[u8],
     theme: &[u8],
     sets: &mut Sets,
     table: &mut Table,
     columns: &mut Columns,
     shifts: &mut Shifts,
     tally: &mut Tally,
-    j: Job,
-) {
+    j: Job) -> io::Result<()> {
     let a = j.a;
     let s = called(cells, theme, sets, table, columns, shifts, j);
-    noted(cells, theme, sets, tally, a, due_judged(j, s));
+    noted(rt, cells, theme, sets, tally, a, due_judged(j, s))?;
     let call = j.call;
     let got = s.got;
-    answered(call, got, j.loud);
+    answered(rt, call, got, j.loud)
 }
 
 // A whole list, or a call by itself.
-fn act(
-    cells: &[u8],
+fn act(rt: &impl Print, cells: &[u8],
     theme: &[u8],
     sets: &mut Sets,
     table: &mut Table,
     columns: &mut Columns,
     shifts: &mut Shifts,
     tally: &mut Tally,
-    j: Job,
-) {
+    j: Job) -> io::Result<()> {
     if j.whole {
         add(tally, THEMES, 1);
-        list(cells, theme, sets, table, columns, shifts, tally, j);
-        return;
+        return list(rt, cells, theme, sets, table, columns, shifts, tally, j);
     }
-    once(cells, theme, sets, table, columns, shifts, tally, j);
+    once(rt, cells, theme, sets, table, columns, shifts, tally, j)
 }
 
-pub fn attempt(
-    cells: &mut Cells,
+pub fn attempt(rt: &impl Print, cells: &mut Cells,
     theme: &mut Theme,
     sets: &mut Sets,
     table: &mut Table,
     columns: &mut Columns,
     shifts: &mut Shifts,
     tally: &mut Tally,
-    j: Job,
-) {
+    j: Job) -> io::Result<()> {
     if !j.tried {
-        return;
+        return Ok(());
     }
     arrange(cells, sets, j);
     arrange_theme(cells, theme, j);
     let made: &[u8] = cells;
     let notes: &[u8] = theme;
-    head(made, notes, sets, j);
-    act(made, notes, sets, table, columns, shifts, tally, j);
-    tail(j);
+    head(rt, made, notes, sets, j)?;
+    act(rt, made, notes, sets, table, columns, shifts, tally, j)?;
+    tail(rt, j)
 }
