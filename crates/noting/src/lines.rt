@@ -13,20 +13,20 @@ use second::ways::Way;
 use std::io;
 
 // A number after what it is.
-fn named(rt: &impl Print, text: &[u8], x: usize) -> io::Result<()> {
+fn named(rt: &impl Print, text: &str, x: usize) -> io::Result<()> {
     say(rt, text)?;
     number(rt, x)
 }
 
 // Sets after what they are.
-fn named_sets(rt: &impl Print, text: &[u8], s: &[u16], many: usize) -> io::Result<()> {
+fn named_sets(rt: &impl Print, text: &str, s: &[u16], many: usize) -> io::Result<()> {
     say(rt, text)?;
     sets(rt, s, many)
 }
 
 // An answer, whole: the refusal and its place, or whether the theme occurs, and the summary.
 fn whole_answer(rt: &impl Print, said: Said) -> io::Result<()> {
-    named(rt, b" answered", size(said.number))?;
+    named(rt, " answered", size(said.number))?;
     number(rt, said.place)?;
     answer_name(rt, said.yes)?;
     number(rt, size16(said.summary))?;
@@ -35,9 +35,9 @@ fn whole_answer(rt: &impl Print, said: Said) -> io::Result<()> {
 
 fn answer_name(rt: &impl Print, yes: bool) -> io::Result<()> {
     if yes {
-        say(rt, b" somewhere")
+        say(rt, " somewhere")
     } else {
-        say(rt, b" nowhere")
+        say(rt, " nowhere")
     }
 }
 
@@ -45,52 +45,52 @@ fn answer_name(rt: &impl Print, yes: bool) -> io::Result<()> {
 pub fn differing_question(rt: &impl Print, cells: &[u8], theme: &[u8], s: &[u16], a: Ask, lent: u16, j: Judged) -> io::Result<()> {
     let fault = j.fault;
     let said = j.said;
-    say(rt, b"\nDIFFERS in")?;
+    say(rt, "\nDIFFERS in")?;
     fault_name(rt, fault)?;
-    say(rt, b":")?;
+    say(rt, ":")?;
     case(rt, cells, theme, a)?;
-    named_sets(rt, b" sets", s, a.sets)?;
-    named(rt, b" summary", size16(lent))?;
-    named(rt, b" table", a.table)?;
+    named_sets(rt, " sets", s, a.sets)?;
+    named(rt, " summary", size16(lent))?;
+    named(rt, " table", a.table)?;
     whole_answer(rt, said)
 }
 
 // An update: the changed score, and the sets before and after.
 fn edit_name(rt: &impl Print, cells: &[u8], old: &[u16], s: &[u16], a: Ask, column: u16) -> io::Result<()> {
-    say(rt, b" cells")?;
+    say(rt, " cells")?;
     bytes(rt, cells, a.cells)?;
-    named(rt, b" changed column", size16(column))?;
-    named_sets(rt, b" sets", old, a.sets)?;
-    named_sets(rt, b" become", s, a.sets)
+    named(rt, " changed column", size16(column))?;
+    named_sets(rt, " sets", old, a.sets)?;
+    named_sets(rt, " become", s, a.sets)
 }
 
 // An update that differs, with the sets before and after it.
 pub fn differing_update(rt: &impl Print, cells: &[u8], old: &[u16], s: &[u16], a: Ask, column: u16, j: Judged) -> io::Result<()> {
     let fault = j.fault;
     let said = j.said;
-    say(rt, b"\nDIFFERS in")?;
+    say(rt, "\nDIFFERS in")?;
     fault_name(rt, fault)?;
-    named(rt, b": tracks", a.h)?;
+    named(rt, ": tracks", a.h)?;
     edit_name(rt, cells, old, s, a, column)?;
     whole_answer(rt, said)
 }
 
 // A worked case and the answer of its question.
 pub fn case_answered(rt: &impl Print, cells: &[u8], theme: &[u8], s: &[u16], a: Ask, lent: u16, said: Said) -> io::Result<()> {
-    say(rt, b"case:")?;
+    say(rt, "case:")?;
     case(rt, cells, theme, a)?;
-    named_sets(rt, b" sets", s, a.sets)?;
-    named(rt, b" summary", size16(lent))?;
-    say(rt, b":")?;
+    named_sets(rt, " sets", s, a.sets)?;
+    named(rt, " summary", size16(lent))?;
+    say(rt, ":")?;
     answer_name(rt, said.yes)?;
     line(rt)
 }
 
 // A worked edit: the changed score, the sets before and after, and their summary.
 pub fn edit_answered(rt: &impl Print, cells: &[u8], old: &[u16], s: &[u16], a: Ask, column: u16, said: Said) -> io::Result<()> {
-    say(rt, b"edit:")?;
+    say(rt, "edit:")?;
     edit_name(rt, cells, old, s, a, column)?;
-    named(rt, b" summary", size16(said.summary))?;
+    named(rt, " summary", size16(said.summary))?;
     line(rt)
 }
 
@@ -99,8 +99,8 @@ pub fn edit_answered(rt: &impl Print, cells: &[u8], old: &[u16], s: &[u16], a: A
 fn twist_name(rt: &impl Print, lent: u16, t: Twist) -> io::Result<()> {
     let what = t.what;
     match what {
-        SUMMARY => named(rt, b" summary", size16(lent)),
-        COLUMN => named(rt, b" changed-column", size16(t.value)),
+        SUMMARY => named(rt, " summary", size16(lent)),
+        COLUMN => named(rt, " changed-column", size16(t.value)),
         _ => change_name(rt, t),
     }
 }
@@ -110,7 +110,7 @@ fn change_name(rt: &impl Print, t: Twist) -> io::Result<()> {
     what_name(rt, what)?;
     number(rt, size16(t.value))?;
     if placed(what, 1) {
-        say(rt, b" at")?;
+        say(rt, " at")?;
         number(rt, t.place)?;
     }
     Ok(())
@@ -120,23 +120,23 @@ fn change_name(rt: &impl Print, t: Twist) -> io::Result<()> {
 fn refusals_name(rt: &impl Print, low: usize, high: usize) -> io::Result<()> {
     if 0 < low {
         number(rt, number_at(low))?;
-        say(rt, b" and")?;
+        say(rt, " and")?;
     }
     number(rt, number_at(high))
 }
 
 fn end_head(rt: &impl Print, way: Way, lent: u16, t: Twist) -> io::Result<()> {
-    say(rt, b"end:")?;
+    say(rt, "end:")?;
     way_name(rt, way)?;
     twist_name(rt, lent, t)?;
-    say(rt, b":")
+    say(rt, ":")
 }
 
 fn due_head(rt: &impl Print, way: Way, low: usize, high: usize) -> io::Result<()> {
-    say(rt, b"due:")?;
+    say(rt, "due:")?;
     way_name(rt, way)?;
     refusals_name(rt, low, high)?;
-    say(rt, b":")
+    say(rt, ":")
 }
 
 // What stands before a call on twists, with the summary that is lent.
@@ -154,8 +154,8 @@ pub fn head(rt: &impl Print, lent: u16, t: Twisted) -> io::Result<()> {
 
 fn call_name(rt: &impl Print, asked: Asked) -> io::Result<()> {
     match asked {
-        Asked::Question => say(rt, b" question"),
-        Asked::Update => say(rt, b" update"),
+        Asked::Question => say(rt, " question"),
+        Asked::Update => say(rt, " update"),
     }
 }
 
@@ -179,10 +179,10 @@ pub fn answered(rt: &impl Print, said: Said, t: Twisted) -> io::Result<()> {
 // A refusal and its place, or that the call was accepted.
 fn verdict_name(rt: &impl Print, said: Said) -> io::Result<()> {
     if said.number == 0 {
-        return say(rt, b" accepted");
+        return say(rt, " accepted");
     }
     number(rt, size(said.number))?;
-    named(rt, b" at", said.place)
+    named(rt, " at", said.place)
 }
 
 fn last_in(way: Way, asked: Asked) -> bool {

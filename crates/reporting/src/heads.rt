@@ -9,11 +9,11 @@ use std::io;
 
 // A case, whole: the score, the theme and the way.
 pub fn case(rt: &impl Print, cells: &[u8], theme: &[u8], a: Ask) -> io::Result<()> {
-    say(rt, b" tracks")?;
+    say(rt, " tracks")?;
     number(rt, a.h)?;
-    say(rt, b" cells")?;
+    say(rt, " cells")?;
     bytes(rt, cells, a.cells)?;
-    say(rt, b" theme")?;
+    say(rt, " theme")?;
     bytes(rt, theme, a.notes)?;
     let way = a.way;
     way_name(rt, way)
@@ -21,10 +21,10 @@ pub fn case(rt: &impl Print, cells: &[u8], theme: &[u8], a: Ask) -> io::Result<(
 
 // A worked case and its sets, a line each.
 fn worked_case(rt: &impl Print, cells: &[u8], theme: &[u8], s: &[u16], a: Ask) -> io::Result<()> {
-    say(rt, b"case:")?;
+    say(rt, "case:")?;
     case(rt, cells, theme, a)?;
     line(rt)?;
-    say(rt, b"  sets")?;
+    say(rt, "  sets")?;
     sets(rt, s, a.sets)?;
     line(rt)
 }
@@ -32,27 +32,27 @@ fn worked_case(rt: &impl Print, cells: &[u8], theme: &[u8], s: &[u16], a: Ask) -
 // A change to an accepted call.
 fn change_name(rt: &impl Print, way: Way, c: Change) -> io::Result<()> {
     let what = c.what;
-    say(rt, b"end:")?;
+    say(rt, "end:")?;
     way_name(rt, way)?;
     what_name(rt, what)?;
     value_name(rt, what, c.value)?;
     if placed(what, 1) {
-        say(rt, b" at")?;
+        say(rt, " at")?;
         number(rt, c.place)?;
     }
-    say(rt, b":")
+    say(rt, ":")
 }
 
 // Two refusals that are due, the lower one 0 where there is one alone.
 fn faults_name(rt: &impl Print, way: Way, low: usize, high: usize) -> io::Result<()> {
-    say(rt, b"due:")?;
+    say(rt, "due:")?;
     way_name(rt, way)?;
     if 0 < low {
         number(rt, low)?;
-        say(rt, b" and")?;
+        say(rt, " and")?;
     }
     number(rt, high)?;
-    say(rt, b":")
+    say(rt, ":")
 }
 
 // What stands before a job's answers.

@@ -30,9 +30,9 @@ pub const WRITTEN_PAIRS: usize = 7;
 // Where a page begins, and its room.
 fn opening(rt: &impl Print, a: Ask, call: Call) -> io::Result<()> {
     call_name(rt, call)?;
-    say(rt, b" from")?;
+    say(rt, " from")?;
     pair(rt, size16(a.column), a.shift)?;
-    say(rt, b" room")?;
+    say(rt, " room")?;
     number(rt, a.columns)
 }
 
@@ -45,18 +45,18 @@ pub fn page(
     call: Call,
     got: Got,
 ) -> io::Result<()> {
-    say(rt, b" ")?;
+    say(rt, " ")?;
     opening(rt, a, call)?;
-    say(rt, b":")?;
+    say(rt, ":")?;
     pairs(rt, columns, shifts, got.written)?;
     if got.finished {
-        say(rt, b" finished,")?;
+        say(rt, " finished,")?;
     } else {
-        say(rt, b" more,")?;
+        say(rt, " more,")?;
     }
-    say(rt, b" next")?;
+    say(rt, " next")?;
     pair(rt, size16(got.column), got.shift)?;
-    say(rt, b" looks")?;
+    say(rt, " looks")?;
     tried(rt, got.looks as u64)?;
     line(rt)
 }
@@ -73,19 +73,19 @@ pub fn differing(
     let fault = seen.fault;
     let call = seen.call;
     let got = seen.got;
-    say(rt, b"\nDIFFERS in")?;
+    say(rt, "\nDIFFERS in")?;
     fault_name(rt, fault)?;
-    say(rt, b":")?;
+    say(rt, ":")?;
     case(rt, cells, theme, a)?;
-    say(rt, b" sets")?;
+    say(rt, " sets")?;
     sets(rt, s, a.sets)?;
-    say(rt, b" lent")?;
+    say(rt, " lent")?;
     number(rt, a.sets)?;
     number(rt, a.table)?;
     number(rt, a.columns)?;
     number(rt, a.shifts)?;
     opening(rt, a, call)?;
-    say(rt, b": answered")?;
+    say(rt, ": answered")?;
     number(rt, size(got.number))?;
     number(rt, got.place)?;
     number(rt, got.written)?;
@@ -100,10 +100,10 @@ pub fn answered(rt: &impl Print, call: Call, got: Got, loud: bool) -> io::Result
     }
     call_name(rt, call)?;
     if got.number == 0 {
-        return say(rt, b" accepted");
+        return say(rt, " accepted");
     }
     number(rt, size(got.number))?;
-    say(rt, b" at")?;
+    say(rt, " at")?;
     number(rt, got.place)
 }
 
@@ -126,23 +126,23 @@ pub fn tail(rt: &impl Print, j: Job) -> io::Result<()> {
 
 // How much was tried, and how many differed.
 pub fn totals(rt: &impl Print, tally: &[u64]) -> io::Result<()> {
-    say(rt, b"tried: scores")?;
+    say(rt, "tried: scores")?;
     tried(rt, count(tally, SCORES))?;
-    say(rt, b" themes")?;
+    say(rt, " themes")?;
     tried(rt, count(tally, THEMES))?;
-    say(rt, b" pages")?;
+    say(rt, " pages")?;
     tried(rt, count(tally, PAGES))?;
-    say(rt, b" pairs")?;
+    say(rt, " pairs")?;
     tried(rt, count(tally, PAIRS))?;
-    say(rt, b" refusals")?;
+    say(rt, " refusals")?;
     tried(rt, count(tally, REFUSALS))?;
     line(rt)?;
-    say(rt, b"of these in written: pages")?;
+    say(rt, "of these in written: pages")?;
     tried(rt, count(tally, WRITTEN_PAGES))?;
-    say(rt, b" pairs")?;
+    say(rt, " pairs")?;
     tried(rt, count(tally, WRITTEN_PAIRS))?;
     line(rt)?;
-    say(rt, b"differed")?;
+    say(rt, "differed")?;
     tried(rt, count(tally, DIFFERED))?;
     line(rt)
 }
