@@ -42,7 +42,15 @@ fn answer_name(rt: &impl Print, yes: bool) -> io::Result<()> {
 }
 
 // A question or a preparation that differs, with what is lent and the library's answer.
-pub fn differing_question(rt: &impl Print, cells: &[u8], theme: &[u8], s: &[u16], a: Ask, lent: u16, j: Judged) -> io::Result<()> {
+pub fn differing_question(
+    rt: &impl Print,
+    cells: &[u8],
+    theme: &[u8],
+    s: &[u16],
+    a: Ask,
+    lent: u16,
+    j: Judged,
+) -> io::Result<()> {
     let fault = j.fault;
     let said = j.said;
     say(rt, "\nDIFFERS in")?;
@@ -56,7 +64,14 @@ pub fn differing_question(rt: &impl Print, cells: &[u8], theme: &[u8], s: &[u16]
 }
 
 // An update: the changed score, and the sets before and after.
-fn edit_name(rt: &impl Print, cells: &[u8], old: &[u16], s: &[u16], a: Ask, column: u16) -> io::Result<()> {
+fn edit_name(
+    rt: &impl Print,
+    cells: &[u8],
+    old: &[u16],
+    s: &[u16],
+    a: Ask,
+    column: u16,
+) -> io::Result<()> {
     say(rt, " cells")?;
     bytes(rt, cells, a.cells)?;
     named(rt, " changed column", size16(column))?;
@@ -65,7 +80,15 @@ fn edit_name(rt: &impl Print, cells: &[u8], old: &[u16], s: &[u16], a: Ask, colu
 }
 
 // An update that differs, with the sets before and after it.
-pub fn differing_update(rt: &impl Print, cells: &[u8], old: &[u16], s: &[u16], a: Ask, column: u16, j: Judged) -> io::Result<()> {
+pub fn differing_update(
+    rt: &impl Print,
+    cells: &[u8],
+    old: &[u16],
+    s: &[u16],
+    a: Ask,
+    column: u16,
+    j: Judged,
+) -> io::Result<()> {
     let fault = j.fault;
     let said = j.said;
     say(rt, "\nDIFFERS in")?;
@@ -76,7 +99,15 @@ pub fn differing_update(rt: &impl Print, cells: &[u8], old: &[u16], s: &[u16], a
 }
 
 // A worked case and the answer of its question.
-pub fn case_answered(rt: &impl Print, cells: &[u8], theme: &[u8], s: &[u16], a: Ask, lent: u16, said: Said) -> io::Result<()> {
+pub fn case_answered(
+    rt: &impl Print,
+    cells: &[u8],
+    theme: &[u8],
+    s: &[u16],
+    a: Ask,
+    lent: u16,
+    said: Said,
+) -> io::Result<()> {
     say(rt, "case:")?;
     case(rt, cells, theme, a)?;
     named_sets(rt, " sets", s, a.sets)?;
@@ -87,7 +118,15 @@ pub fn case_answered(rt: &impl Print, cells: &[u8], theme: &[u8], s: &[u16], a: 
 }
 
 // A worked edit: the changed score, the sets before and after, and their summary.
-pub fn edit_answered(rt: &impl Print, cells: &[u8], old: &[u16], s: &[u16], a: Ask, column: u16, said: Said) -> io::Result<()> {
+pub fn edit_answered(
+    rt: &impl Print,
+    cells: &[u8],
+    old: &[u16],
+    s: &[u16],
+    a: Ask,
+    column: u16,
+    said: Said,
+) -> io::Result<()> {
     say(rt, "edit:")?;
     edit_name(rt, cells, old, s, a, column)?;
     named(rt, " summary", size16(said.summary))?;

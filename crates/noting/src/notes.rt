@@ -50,14 +50,17 @@ fn answer_place(yes: bool) -> usize {
 }
 
 // A question or a preparation, with the summary that was lent or given: counts it at a place, or writes out what differs.
-fn noted_at(rt: &impl Print, cells: &[u8],
+fn noted_at(
+    rt: &impl Print,
+    cells: &[u8],
     theme: &[u8],
     sets: &[u16],
     tally: &mut Tally,
     a: Ask,
     summary: u16,
     s: Judged,
-    place: usize) -> io::Result<()> {
+    place: usize,
+) -> io::Result<()> {
     let fault = s.fault;
     if differs(fault) {
         if shown(tally) {
@@ -69,31 +72,50 @@ fn noted_at(rt: &impl Print, cells: &[u8],
     Ok(())
 }
 
-pub fn noted_preparation(rt: &impl Print, cells: &[u8],
+pub fn noted_preparation(
+    rt: &impl Print,
+    cells: &[u8],
     theme: &[u8],
     sets: &[u16],
     tally: &mut Tally,
     a: Ask,
-    s: Judged) -> io::Result<()> {
-    noted_at(rt, cells, theme, sets, tally, a, s.said.summary, s, PREPARED)
+    s: Judged,
+) -> io::Result<()> {
+    noted_at(
+        rt,
+        cells,
+        theme,
+        sets,
+        tally,
+        a,
+        s.said.summary,
+        s,
+        PREPARED,
+    )
 }
 
 // Of questions those that are accepted and that the summary alone settles are counted by themselves too.
-pub fn noted_question(rt: &impl Print, cells: &[u8],
+pub fn noted_question(
+    rt: &impl Print,
+    cells: &[u8],
     theme: &[u8],
     sets: &[u16],
     tally: &mut Tally,
     a: Ask,
     lent: u16,
-    s: Judged) -> io::Result<()> {
-    noted_at(rt, cells,
+    s: Judged,
+) -> io::Result<()> {
+    noted_at(
+        rt,
+        cells,
         theme,
         sets,
         tally,
         a,
         lent,
         s,
-        answer_place(s.said.yes),)?;
+        answer_place(s.said.yes),
+    )?;
     if s.said.number == 0 {
         if lacks(theme, a.notes, lent) {
             add(tally, LACKING, 1);
@@ -103,13 +125,16 @@ pub fn noted_question(rt: &impl Print, cells: &[u8],
 }
 
 // An update of the old sets.
-pub fn noted_update(rt: &impl Print, cells: &[u8],
+pub fn noted_update(
+    rt: &impl Print,
+    cells: &[u8],
     old: &[u16],
     sets: &[u16],
     tally: &mut Tally,
     a: Ask,
     column: u16,
-    s: Judged) -> io::Result<()> {
+    s: Judged,
+) -> io::Result<()> {
     let fault = s.fault;
     if differs(fault) {
         if shown(tally) {

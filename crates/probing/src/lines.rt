@@ -61,7 +61,12 @@ fn verdict_told(rt: &impl Print, answer: Answer) -> io::Result<()> {
 }
 
 // An explanation, with so many tracks.
-pub fn answer_told(rt: &impl Print, tracks: &Tracks, many: usize, answer: Answer) -> io::Result<()> {
+pub fn answer_told(
+    rt: &impl Print,
+    tracks: &Tracks,
+    many: usize,
+    answer: Answer,
+) -> io::Result<()> {
     why_told(rt, answer)?;
     bytes(rt, tracks, many)?;
     verdict_told(rt, answer)
@@ -90,13 +95,16 @@ pub fn due_head(rt: &impl Print, low: usize, high: usize) -> io::Result<()> {
 }
 
 // An explanation that differs: its case, the library's answer with all of its tracks, and the answer that is due.
-pub fn differing(rt: &impl Print, cells: &[u8],
+pub fn differing(
+    rt: &impl Print,
+    cells: &[u8],
     theme: &[u8],
     s: &[u16],
     tracks: &Tracks,
     a: Ask,
     answer: Answer,
-    due: Answer) -> io::Result<()> {
+    due: Answer,
+) -> io::Result<()> {
     say(rt, "\nDIFFERS, ")?;
     case_head(rt, cells, theme, s, a)?;
     answer_told(rt, tracks, 64, answer)?;

@@ -47,13 +47,16 @@ fn counted(counts: &mut Counts, tracks: &Tracks, answer: Answer) {
 }
 
 // Counts an explanation, or writes out one that differs.
-fn noted(rt: &impl Print, cells: &[u8],
+fn noted(
+    rt: &impl Print,
+    cells: &[u8],
     theme: &[u8],
     sets: &[u16],
     tracks: &Tracks,
     counts: &mut Counts,
     a: Ask,
-    answer: Answer) -> io::Result<()> {
+    answer: Answer,
+) -> io::Result<()> {
     add(counts, COMPARED, 1);
     let due = second_explanation(cells, theme, sets, a);
     if same_answer(answer, due) {
@@ -75,7 +78,15 @@ fn places_of(a: Ask, answer: Answer) -> usize {
 }
 
 // Asks for an explanation and notes how it compares; a loud one is written.
-pub fn turn(rt: &impl Print, cells: &[u8], theme: &[u8], sets: &[u16], counts: &mut Counts, a: Ask, loud: bool) -> io::Result<()> {
+pub fn turn(
+    rt: &impl Print,
+    cells: &[u8],
+    theme: &[u8],
+    sets: &[u16],
+    counts: &mut Counts,
+    a: Ask,
+    loud: bool,
+) -> io::Result<()> {
     let told = ask_explanation(cells, theme, sets, a);
     let answer = told.answer;
     let tracks = told.tracks;

@@ -31,7 +31,16 @@ fn updated(
 }
 
 // A worked edit is written out.
-fn worked(rt: &impl Print, cells: &[u8], old: &[u16], sets: &[u16], kind: Kind, a: Ask, column: u16, s: Judged) -> io::Result<()> {
+fn worked(
+    rt: &impl Print,
+    cells: &[u8],
+    old: &[u16],
+    sets: &[u16],
+    kind: Kind,
+    a: Ask,
+    column: u16,
+    s: Judged,
+) -> io::Result<()> {
     if let Kind::Worked = kind {
         let said = s.said;
         edit_answered(rt, cells, old, sets, a, column, said)?;
@@ -44,12 +53,15 @@ fn column_of(e: Edit) -> u16 {
 }
 
 // An edit on the lent buffers.
-fn act(rt: &impl Print, cells: &[u8],
+fn act(
+    rt: &impl Print,
+    cells: &[u8],
     sets: &mut Sets,
     old: &mut Sets,
     fresh: &mut Sets,
     tally: &mut Tally,
-    e: Edit) -> io::Result<()> {
+    e: Edit,
+) -> io::Result<()> {
     let a = ask_of_edit(e);
     let lent = e.lent;
     let kind = e.kind;
@@ -59,21 +71,27 @@ fn act(rt: &impl Print, cells: &[u8],
     worked(rt, cells, old, sets, kind, a, column, s)
 }
 
-fn attempt(rt: &impl Print, cells: &mut Cells,
+fn attempt(
+    rt: &impl Print,
+    cells: &mut Cells,
     sets: &mut Sets,
     old: &mut Sets,
     fresh: &mut Sets,
     tally: &mut Tally,
-    e: Edit) -> io::Result<()> {
+    e: Edit,
+) -> io::Result<()> {
     arrange_edit(cells, sets, e);
     act(rt, cells, sets, old, fresh, tally, e)
 }
 
-pub fn edit_all(rt: &impl Print, cells: &mut Cells,
+pub fn edit_all(
+    rt: &impl Print,
+    cells: &mut Cells,
     sets: &mut Sets,
     old: &mut Sets,
     fresh: &mut Sets,
-    tally: &mut Tally) -> io::Result<()> {
+    tally: &mut Tally,
+) -> io::Result<()> {
     for k in 0..number_of_edits() {
         attempt(rt, cells, sets, old, fresh, tally, edit(k))?;
     }

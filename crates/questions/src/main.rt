@@ -21,16 +21,21 @@ fn main(rt: HostRuntime) -> io::Result<()> {
     let mut fresh = [0u16; 2100];
     let mut table = [0u32; 4100];
     let mut tally = [0u64; 8];
-    run(&rt, &mut cells, &mut theme, &mut sets, &mut old, &mut fresh, &mut table, &mut tally,)
+    run(
+        &rt, &mut cells, &mut theme, &mut sets, &mut old, &mut fresh, &mut table, &mut tally,
+    )
 }
 
-fn run(rt: &impl Print, cells: &mut Cells,
+fn run(
+    rt: &impl Print,
+    cells: &mut Cells,
     theme: &mut Theme,
     sets: &mut Sets,
     old: &mut Sets,
     fresh: &mut Sets,
     table: &mut Table,
-    tally: &mut Tally) -> io::Result<()> {
+    tally: &mut Tally,
+) -> io::Result<()> {
     refuse_all(rt, cells, theme, sets, old, table, tally)?;
     ask_all(rt, cells, theme, sets, fresh, table, tally)?;
     edit_all(rt, cells, sets, old, fresh, tally)?;

@@ -39,14 +39,17 @@ fn asks(call: Call, way: Way, whole: bool) -> bool {
 }
 
 // The question of a job, by the sets that are lent and their summary; a worked case is written out.
-fn question(rt: &impl Print, cells: &[u8],
+fn question(
+    rt: &impl Print,
+    cells: &[u8],
     theme: &[u8],
     sets: &[u16],
     table: &mut Table,
     tally: &mut Tally,
     a: Ask,
     deep: bool,
-    worked: bool) -> io::Result<()> {
+    worked: bool,
+) -> io::Result<()> {
     let lent = summary(sets, a.sets);
     let s = turn_question(cells, theme, sets, table, a, deep, lent);
     noted_question(rt, cells, theme, sets, tally, a, lent, s)?;
@@ -58,7 +61,14 @@ fn question(rt: &impl Print, cells: &[u8],
 }
 
 // A score prepared anew.
-fn preparation(rt: &impl Print, cells: &[u8], theme: &[u8], fresh: &mut Sets, tally: &mut Tally, a: Ask) -> io::Result<()> {
+fn preparation(
+    rt: &impl Print,
+    cells: &[u8],
+    theme: &[u8],
+    fresh: &mut Sets,
+    tally: &mut Tally,
+    a: Ask,
+) -> io::Result<()> {
     let s = turn_prepare(cells, theme, fresh, a);
     noted_preparation(rt, cells, theme, fresh, tally, a, s)
 }
@@ -72,18 +82,31 @@ fn worked_out(j: Job) -> bool {
 }
 
 // A job on the lent buffers: the preparation of its score, and its question where it is one.
-fn act(rt: &impl Print, cells: &[u8],
+fn act(
+    rt: &impl Print,
+    cells: &[u8],
     theme: &[u8],
     sets: &[u16],
     fresh: &mut Sets,
     table: &mut Table,
     tally: &mut Tally,
     j: Job,
-    asked: bool) -> io::Result<()> {
+    asked: bool,
+) -> io::Result<()> {
     let a = j.a;
     preparation(rt, cells, theme, fresh, tally, a)?;
     if asked {
-        question(rt, cells, theme, sets, table, tally, a, j.deep, worked_out(j))?;
+        question(
+            rt,
+            cells,
+            theme,
+            sets,
+            table,
+            tally,
+            a,
+            j.deep,
+            worked_out(j),
+        )?;
     }
     Ok(())
 }
@@ -96,26 +119,32 @@ fn tried(call: Call, asked: bool) -> bool {
     prepares(call)
 }
 
-fn attempt(rt: &impl Print, cells: &mut Cells,
+fn attempt(
+    rt: &impl Print,
+    cells: &mut Cells,
     theme: &mut Theme,
     sets: &mut Sets,
     fresh: &mut Sets,
     table: &mut Table,
     tally: &mut Tally,
     j: Job,
-    asked: bool) -> io::Result<()> {
+    asked: bool,
+) -> io::Result<()> {
     arrange(cells, sets, j);
     arrange_theme(cells, theme, j);
     act(rt, cells, theme, sets, fresh, table, tally, j, asked)
 }
 
-fn ask(rt: &impl Print, cells: &mut Cells,
+fn ask(
+    rt: &impl Print,
+    cells: &mut Cells,
     theme: &mut Theme,
     sets: &mut Sets,
     fresh: &mut Sets,
     table: &mut Table,
     tally: &mut Tally,
-    j: Job) -> io::Result<()> {
+    j: Job,
+) -> io::Result<()> {
     if !j.tried {
         return Ok(());
     }
@@ -129,12 +158,15 @@ fn ask(rt: &impl Print, cells: &mut Cells,
     Ok(())
 }
 
-pub fn ask_all(rt: &impl Print, cells: &mut Cells,
+pub fn ask_all(
+    rt: &impl Print,
+    cells: &mut Cells,
     theme: &mut Theme,
     sets: &mut Sets,
     fresh: &mut Sets,
     table: &mut Table,
-    tally: &mut Tally) -> io::Result<()> {
+    tally: &mut Tally,
+) -> io::Result<()> {
     for k in 0..number_of_jobs() {
         ask(rt, cells, theme, sets, fresh, table, tally, job(k))?;
     }

@@ -27,12 +27,15 @@ fn due_judged(t: Twisted, s: Judged) -> Judged {
     }
 }
 
-fn question(rt: &impl Print, cells: &[u8],
+fn question(
+    rt: &impl Print,
+    cells: &[u8],
     theme: &[u8],
     sets: &[u16],
     table: &mut Table,
     tally: &mut Tally,
-    t: Twisted) -> io::Result<Said> {
+    t: Twisted,
+) -> io::Result<Said> {
     let a = t.a;
     let lent = summary_in(sets, t);
     let s = due_judged(t, turn_question(cells, theme, sets, table, a, true, lent));
@@ -40,7 +43,14 @@ fn question(rt: &impl Print, cells: &[u8],
     Ok(s.said)
 }
 
-fn update(rt: &impl Print, cells: &[u8], old: &mut Sets, sets: &mut Sets, tally: &mut Tally, t: Twisted) -> io::Result<Said> {
+fn update(
+    rt: &impl Print,
+    cells: &[u8],
+    old: &mut Sets,
+    sets: &mut Sets,
+    tally: &mut Tally,
+    t: Twisted,
+) -> io::Result<Said> {
     let a = t.a;
     let column = column_in(t);
     let s = due_judged(t, turn_update(cells, old, sets, a, column));
@@ -49,13 +59,16 @@ fn update(rt: &impl Print, cells: &[u8], old: &mut Sets, sets: &mut Sets, tally:
 }
 
 // A call on the lent buffers, between what is written before it and its answer.
-fn act(rt: &impl Print, cells: &[u8],
+fn act(
+    rt: &impl Print,
+    cells: &[u8],
     theme: &[u8],
     sets: &mut Sets,
     old: &mut Sets,
     table: &mut Table,
     tally: &mut Tally,
-    t: Twisted) -> io::Result<()> {
+    t: Twisted,
+) -> io::Result<()> {
     head(rt, summary_in(sets, t), t)?;
     let asked = t.asked;
     let said = match asked {
@@ -65,13 +78,16 @@ fn act(rt: &impl Print, cells: &[u8],
     answered(rt, said, t)
 }
 
-fn attempt(rt: &impl Print, cells: &mut Cells,
+fn attempt(
+    rt: &impl Print,
+    cells: &mut Cells,
     theme: &mut Theme,
     sets: &mut Sets,
     old: &mut Sets,
     table: &mut Table,
     tally: &mut Tally,
-    t: Twisted) -> io::Result<()> {
+    t: Twisted,
+) -> io::Result<()> {
     if !t.tried {
         return Ok(());
     }
@@ -79,12 +95,15 @@ fn attempt(rt: &impl Print, cells: &mut Cells,
     act(rt, cells, theme, sets, old, table, tally, t)
 }
 
-pub fn refuse_all(rt: &impl Print, cells: &mut Cells,
+pub fn refuse_all(
+    rt: &impl Print,
+    cells: &mut Cells,
     theme: &mut Theme,
     sets: &mut Sets,
     old: &mut Sets,
     table: &mut Table,
-    tally: &mut Tally) -> io::Result<()> {
+    tally: &mut Tally,
+) -> io::Result<()> {
     for k in 0..number_of_refused() {
         attempt(rt, cells, theme, sets, old, table, tally, refused_call(k))?;
     }

@@ -9,8 +9,8 @@ use jobs::buffers::{Cells, Sets, Theme};
 use probing::totals::totals;
 use probing::turns::Counts;
 use refusing::refuse_all;
-use trying::{try_crowded, try_jobs, try_worked};
 use std::io;
+use trying::{try_crowded, try_jobs, try_worked};
 
 fn main(rt: HostRuntime) -> io::Result<()> {
     let mut cells = [0u8; 34000];
@@ -20,7 +20,13 @@ fn main(rt: HostRuntime) -> io::Result<()> {
     run(&rt, &mut cells, &mut theme, &mut sets, &mut counts)
 }
 
-fn run(rt: &impl Print, cells: &mut Cells, theme: &mut Theme, sets: &mut Sets, counts: &mut Counts) -> io::Result<()> {
+fn run(
+    rt: &impl Print,
+    cells: &mut Cells,
+    theme: &mut Theme,
+    sets: &mut Sets,
+    counts: &mut Counts,
+) -> io::Result<()> {
     refuse_all(rt, cells, theme, sets, counts)?;
     try_worked(rt, cells, theme, sets, counts)?;
     try_crowded(rt, cells, theme, sets, counts)?;

@@ -33,7 +33,14 @@ fn written_out(t: Twisted, way: Way) -> bool {
 }
 
 // A call on the lent buffers, at the first column with shift 0.
-fn act(rt: &impl Print, cells: &[u8], theme: &[u8], sets: &[u16], counts: &mut Counts, t: Twisted) -> io::Result<()> {
+fn act(
+    rt: &impl Print,
+    cells: &[u8],
+    theme: &[u8],
+    sets: &[u16],
+    counts: &mut Counts,
+    t: Twisted,
+) -> io::Result<()> {
     let a = t.a;
     let way = a.way;
     let loud = written_out(t, way);
@@ -43,7 +50,14 @@ fn act(rt: &impl Print, cells: &[u8], theme: &[u8], sets: &[u16], counts: &mut C
     turn(rt, cells, theme, sets, counts, at(a, 1, 0), loud)
 }
 
-fn attempt(rt: &impl Print, cells: &mut Cells, theme: &mut Theme, sets: &mut Sets, counts: &mut Counts, t: Twisted) -> io::Result<()> {
+fn attempt(
+    rt: &impl Print,
+    cells: &mut Cells,
+    theme: &mut Theme,
+    sets: &mut Sets,
+    counts: &mut Counts,
+    t: Twisted,
+) -> io::Result<()> {
     let asked = t.asked;
     if !tried_here(t, asked) {
         return Ok(());
@@ -52,7 +66,13 @@ fn attempt(rt: &impl Print, cells: &mut Cells, theme: &mut Theme, sets: &mut Set
     act(rt, cells, theme, sets, counts, t)
 }
 
-pub fn refuse_all(rt: &impl Print, cells: &mut Cells, theme: &mut Theme, sets: &mut Sets, counts: &mut Counts) -> io::Result<()> {
+pub fn refuse_all(
+    rt: &impl Print,
+    cells: &mut Cells,
+    theme: &mut Theme,
+    sets: &mut Sets,
+    counts: &mut Counts,
+) -> io::Result<()> {
     for k in 0..number_of_refused() {
         attempt(rt, cells, theme, sets, counts, refused_call(k))?;
     }

@@ -28,7 +28,13 @@ const SMALL: usize = 6;
 
 const LARGE: usize = 10000;
 
-pub fn try_worked(rt: &impl Print, cells: &mut Cells, theme: &mut Theme, sets: &mut Sets, counts: &mut Counts) -> io::Result<()> {
+pub fn try_worked(
+    rt: &impl Print,
+    cells: &mut Cells,
+    theme: &mut Theme,
+    sets: &mut Sets,
+    counts: &mut Counts,
+) -> io::Result<()> {
     for k in 0..number_of_cases() {
         let a = worked_ask(k);
         arrange_worked(cells, theme, sets, a, k);
@@ -39,7 +45,14 @@ pub fn try_worked(rt: &impl Print, cells: &mut Cells, theme: &mut Theme, sets: &
 }
 
 // At every column and shift.
-fn try_each(rt: &impl Print, cells: &[u8], theme: &[u8], sets: &[u16], counts: &mut Counts, a: Ask) -> io::Result<()> {
+fn try_each(
+    rt: &impl Print,
+    cells: &[u8],
+    theme: &[u8],
+    sets: &[u16],
+    counts: &mut Counts,
+    a: Ask,
+) -> io::Result<()> {
     let n = columns_of(a.cells, a.h);
     for i in 0..all_pairs(n) {
         let tried = at(a, each_column(n, i / SHIFTS), each_shift(i % SHIFTS));
@@ -49,7 +62,14 @@ fn try_each(rt: &impl Print, cells: &[u8], theme: &[u8], sets: &[u16], counts: &
 }
 
 // About the first pair of the list.
-fn try_few(rt: &impl Print, cells: &[u8], theme: &[u8], sets: &[u16], counts: &mut Counts, a: Ask) -> io::Result<()> {
+fn try_few(
+    rt: &impl Print,
+    cells: &[u8],
+    theme: &[u8],
+    sets: &[u16],
+    counts: &mut Counts,
+    a: Ask,
+) -> io::Result<()> {
     let way = a.way;
     let n = columns_of(a.cells, a.h);
     let f = next_pair(cells, theme, sets, a, Call::Plain, 1, lowest(way));
@@ -61,7 +81,13 @@ fn try_few(rt: &impl Print, cells: &[u8], theme: &[u8], sets: &[u16], counts: &m
     Ok(())
 }
 
-pub fn try_crowded(rt: &impl Print, cells: &mut Cells, theme: &mut Theme, sets: &mut Sets, counts: &mut Counts) -> io::Result<()> {
+pub fn try_crowded(
+    rt: &impl Print,
+    cells: &mut Cells,
+    theme: &mut Theme,
+    sets: &mut Sets,
+    counts: &mut Counts,
+) -> io::Result<()> {
     for round in 0..number_of_rounds() {
         let a = crowded_ask(round);
         arrange_crowded(cells, theme, sets, a, round);
@@ -86,12 +112,15 @@ fn taken(k: usize, j: Job, a: Ask) -> bool {
 }
 
 // The job of number k, by its sets or others in their place.
-fn try_job(rt: &impl Print, cells: &mut Cells,
+fn try_job(
+    rt: &impl Print,
+    cells: &mut Cells,
     theme: &mut Theme,
     sets: &mut Sets,
     counts: &mut Counts,
     k: usize,
-    j: Job) -> io::Result<()> {
+    j: Job,
+) -> io::Result<()> {
     let a = j.a;
     if !taken(k, j, a) {
         return Ok(());
@@ -106,7 +135,13 @@ fn try_job(rt: &impl Print, cells: &mut Cells,
     }
 }
 
-pub fn try_jobs(rt: &impl Print, cells: &mut Cells, theme: &mut Theme, sets: &mut Sets, counts: &mut Counts) -> io::Result<()> {
+pub fn try_jobs(
+    rt: &impl Print,
+    cells: &mut Cells,
+    theme: &mut Theme,
+    sets: &mut Sets,
+    counts: &mut Counts,
+) -> io::Result<()> {
     for k in 0..number_of_jobs() {
         try_job(rt, cells, theme, sets, counts, k, job(k))?;
     }

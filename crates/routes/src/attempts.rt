@@ -14,6 +14,7 @@ use second::asks::{Ask, Call, columns_of};
 use second::finder::{Found, next_pair};
 use second::totals::{more, raised, size16};
 use second::ways::lowest;
+use std::io;
 use straying::strays::{Counts, stray};
 use straying::told::stray_head;
 use wandering::broad::{arrange_broad, broad_ask, broad_rounds};
@@ -21,7 +22,6 @@ use wandering::patterns::{SHAPES, arrange_pattern, pattern_ask, patterns_of};
 use wandering::rooms::{lending, places_for};
 use wandering::shown::{SHOWN, arrange_shown, shown_ask};
 use wandering::thick::{arrange_thick, thick_ask, thick_rounds};
-use std::io;
 
 // So many pairs of a list are routed; one of so many thick scores at every column and shift; and one of so many jobs.
 const LISTED: usize = 12;
@@ -30,7 +30,12 @@ const WHOLE: usize = 23;
 
 const STEP: usize = 11;
 
-pub fn stray_shown(rt: &impl Print, cells: &mut Cells, theme: &mut Theme, counts: &mut Counts) -> io::Result<()> {
+pub fn stray_shown(
+    rt: &impl Print,
+    cells: &mut Cells,
+    theme: &mut Theme,
+    counts: &mut Counts,
+) -> io::Result<()> {
     for k in 0..SHOWN {
         let a = shown_ask(k);
         arrange_shown(cells, theme, k);
@@ -40,7 +45,13 @@ pub fn stray_shown(rt: &impl Print, cells: &mut Cells, theme: &mut Theme, counts
     Ok(())
 }
 
-fn stray_shape(rt: &impl Print, cells: &mut Cells, theme: &mut Theme, counts: &mut Counts, shape: usize) -> io::Result<()> {
+fn stray_shape(
+    rt: &impl Print,
+    cells: &mut Cells,
+    theme: &mut Theme,
+    counts: &mut Counts,
+    shape: usize,
+) -> io::Result<()> {
     for bits in 0..patterns_of(shape) {
         let a = pattern_ask(shape, bits);
         arrange_pattern(cells, theme, a, bits);
@@ -49,7 +60,12 @@ fn stray_shape(rt: &impl Print, cells: &mut Cells, theme: &mut Theme, counts: &m
     Ok(())
 }
 
-pub fn stray_patterns(rt: &impl Print, cells: &mut Cells, theme: &mut Theme, counts: &mut Counts) -> io::Result<()> {
+pub fn stray_patterns(
+    rt: &impl Print,
+    cells: &mut Cells,
+    theme: &mut Theme,
+    counts: &mut Counts,
+) -> io::Result<()> {
     for shape in 0..SHAPES {
         stray_shape(rt, cells, theme, counts, shape)?;
     }
@@ -57,36 +73,61 @@ pub fn stray_patterns(rt: &impl Print, cells: &mut Cells, theme: &mut Theme, cou
 }
 
 // At every column and shift, with places by turns from a number on.
-fn stray_each(rt: &impl Print, cells: &[u8], theme: &[u8], counts: &mut Counts, a: Ask, first: usize) -> io::Result<()> {
+fn stray_each(
+    rt: &impl Print,
+    cells: &[u8],
+    theme: &[u8],
+    counts: &mut Counts,
+    a: Ask,
+    first: usize,
+) -> io::Result<()> {
     let n = columns_of(a.cells, a.h);
     for i in 0..all_pairs(n) {
         let b = at(a, each_column(n, i / SHIFTS), each_shift(i % SHIFTS));
-        stray(rt, cells,
+        stray(
+            rt,
+            cells,
             theme,
             counts,
             lending(b, places_for(a.notes, more(first, i))),
-            false,)?;
+            false,
+        )?;
     }
     Ok(())
 }
 
 // About a pair, with places by turns from a number on.
-fn stray_few(rt: &impl Print, cells: &[u8], theme: &[u8], counts: &mut Counts, a: Ask, first: usize) -> io::Result<()> {
+fn stray_few(
+    rt: &impl Print,
+    cells: &[u8],
+    theme: &[u8],
+    counts: &mut Counts,
+    a: Ask,
+    first: usize,
+) -> io::Result<()> {
     let way = a.way;
     let n = columns_of(a.cells, a.h);
     for i in 0..few_pairs() {
         let column = few_column(size16(a.column), n, i / FEW_SHIFTS);
         let b = at(a, column, few_shift(way, a.shift, i % FEW_SHIFTS));
-        stray(rt, cells,
+        stray(
+            rt,
+            cells,
             theme,
             counts,
             lending(b, places_for(a.notes, more(first, i))),
-            false,)?;
+            false,
+        )?;
     }
     Ok(())
 }
 
-pub fn stray_broad(rt: &impl Print, cells: &mut Cells, theme: &mut Theme, counts: &mut Counts) -> io::Result<()> {
+pub fn stray_broad(
+    rt: &impl Print,
+    cells: &mut Cells,
+    theme: &mut Theme,
+    counts: &mut Counts,
+) -> io::Result<()> {
     for round in 0..broad_rounds() {
         let a = broad_ask(round);
         arrange_broad(cells, theme, a, round);
@@ -102,7 +143,15 @@ fn found_at(a: Ask, f: Found) -> Ask {
 }
 
 // The first pairs of a list, with places by turns from a number on.
-fn stray_list(rt: &impl Print, cells: &[u8], theme: &[u8], sets: &[u16], counts: &mut Counts, a: Ask, first: usize) -> io::Result<()> {
+fn stray_list(
+    rt: &impl Print,
+    cells: &[u8],
+    theme: &[u8],
+    sets: &[u16],
+    counts: &mut Counts,
+    a: Ask,
+    first: usize,
+) -> io::Result<()> {
     let way = a.way;
     let mut column: usize = 1;
     let mut shift = lowest(way);
@@ -112,11 +161,14 @@ fn stray_list(rt: &impl Print, cells: &[u8], theme: &[u8], sets: &[u16], counts:
             return Ok(());
         }
         let b = found_at(a, f);
-        stray(rt, cells,
+        stray(
+            rt,
+            cells,
             theme,
             counts,
             lending(b, places_for(a.notes, more(first, i))),
-            false,)?;
+            false,
+        )?;
         column = f.column;
         shift = raised(f.shift);
     }
@@ -124,11 +176,14 @@ fn stray_list(rt: &impl Print, cells: &[u8], theme: &[u8], sets: &[u16], counts:
 }
 
 // The pairs of the list, and in one round of so many every column and shift.
-fn stray_round(rt: &impl Print, cells: &mut Cells,
+fn stray_round(
+    rt: &impl Print,
+    cells: &mut Cells,
     theme: &mut Theme,
     sets: &mut Sets,
     counts: &mut Counts,
-    round: usize) -> io::Result<()> {
+    round: usize,
+) -> io::Result<()> {
     let a = thick_ask(round);
     arrange_thick(cells, theme, a, round);
     stray_list(rt, cells, theme, sets, counts, a, round)?;
@@ -138,7 +193,13 @@ fn stray_round(rt: &impl Print, cells: &mut Cells,
     Ok(())
 }
 
-pub fn stray_thick(rt: &impl Print, cells: &mut Cells, theme: &mut Theme, sets: &mut Sets, counts: &mut Counts) -> io::Result<()> {
+pub fn stray_thick(
+    rt: &impl Print,
+    cells: &mut Cells,
+    theme: &mut Theme,
+    sets: &mut Sets,
+    counts: &mut Counts,
+) -> io::Result<()> {
     for round in 0..thick_rounds() {
         stray_round(rt, cells, theme, sets, counts, round)?;
     }
@@ -154,12 +215,15 @@ fn taken(k: usize, j: Job) -> bool {
 }
 
 // The job of number k: the first pairs of its list, and at its bookmark.
-fn stray_job(rt: &impl Print, cells: &mut Cells,
+fn stray_job(
+    rt: &impl Print,
+    cells: &mut Cells,
     theme: &mut Theme,
     sets: &mut Sets,
     counts: &mut Counts,
     k: usize,
-    j: Job) -> io::Result<()> {
+    j: Job,
+) -> io::Result<()> {
     if !taken(k, j) {
         return Ok(());
     }
@@ -167,14 +231,23 @@ fn stray_job(rt: &impl Print, cells: &mut Cells,
     arrange(cells, sets, j);
     arrange_theme(cells, theme, j);
     stray_list(rt, cells, theme, sets, counts, a, k)?;
-    stray(rt, cells,
+    stray(
+        rt,
+        cells,
         theme,
         counts,
         lending(a, places_for(a.notes, k)),
-        false,)
+        false,
+    )
 }
 
-pub fn stray_jobs(rt: &impl Print, cells: &mut Cells, theme: &mut Theme, sets: &mut Sets, counts: &mut Counts) -> io::Result<()> {
+pub fn stray_jobs(
+    rt: &impl Print,
+    cells: &mut Cells,
+    theme: &mut Theme,
+    sets: &mut Sets,
+    counts: &mut Counts,
+) -> io::Result<()> {
     for k in 0..number_of_jobs() {
         stray_job(rt, cells, theme, sets, counts, k, job(k))?;
     }

@@ -8,9 +8,9 @@ mod barring;
 use attempts::{stray_broad, stray_jobs, stray_patterns, stray_shown, stray_thick};
 use barring::bar_all;
 use jobs::buffers::{Cells, Sets, Theme};
+use std::io;
 use straying::strays::Counts;
 use straying::tallies::tallies;
-use std::io;
 
 fn main(rt: HostRuntime) -> io::Result<()> {
     let mut cells = [0u8; 34000];
@@ -20,7 +20,13 @@ fn main(rt: HostRuntime) -> io::Result<()> {
     run(&rt, &mut cells, &mut theme, &mut sets, &mut counts)
 }
 
-fn run(rt: &impl Print, cells: &mut Cells, theme: &mut Theme, sets: &mut Sets, counts: &mut Counts) -> io::Result<()> {
+fn run(
+    rt: &impl Print,
+    cells: &mut Cells,
+    theme: &mut Theme,
+    sets: &mut Sets,
+    counts: &mut Counts,
+) -> io::Result<()> {
     stray_shown(rt, cells, theme, counts)?;
     bar_all(rt, cells, theme, counts)?;
     stray_patterns(rt, cells, theme, counts)?;

@@ -79,13 +79,16 @@ fn tallied(counts: &mut Counts, a: Ask, answer: Stray) {
 }
 
 // Counts one that differs, and writes out the first ones.
-fn amiss(rt: &impl Print, cells: &[u8],
+fn amiss(
+    rt: &impl Print,
+    cells: &[u8],
     theme: &[u8],
     places: &Places,
     counts: &mut Counts,
     a: Ask,
     answer: Stray,
-    due: Detour) -> io::Result<()> {
+    due: Detour,
+) -> io::Result<()> {
     add(counts, DIFFERED, 1);
     if count(counts, DIFFERED) <= WRITTEN_OUT {
         astray(rt, cells, theme, places, a, answer, due)?;
@@ -94,12 +97,15 @@ fn amiss(rt: &impl Print, cells: &[u8],
 }
 
 // Holds a route against every route there is, where they are few.
-fn weigh_every(rt: &impl Print, cells: &[u8],
+fn weigh_every(
+    rt: &impl Print,
+    cells: &[u8],
     theme: &[u8],
     places: &Places,
     counts: &mut Counts,
     a: Ask,
-    answer: Stray) -> io::Result<()> {
+    answer: Stray,
+) -> io::Result<()> {
     let due = second_route(cells, theme, a, Method::Every);
     add(counts, TRIED, 1);
     add_if(counts, ALIKE, 1 < due.alike);
@@ -118,7 +124,15 @@ fn tried_by_every(a: Ask, answer: Stray) -> bool {
 }
 
 // Holds an answer against the second router's.
-fn weigh(rt: &impl Print, cells: &[u8], theme: &[u8], places: &Places, counts: &mut Counts, a: Ask, answer: Stray) -> io::Result<()> {
+fn weigh(
+    rt: &impl Print,
+    cells: &[u8],
+    theme: &[u8],
+    places: &Places,
+    counts: &mut Counts,
+    a: Ask,
+    answer: Stray,
+) -> io::Result<()> {
     add(counts, COMPARED, 1);
     let due = second_route(cells, theme, a, Method::Ahead);
     if !as_due(places, a, answer, due) {
@@ -138,7 +152,14 @@ fn ask_on(cells: &[u8], theme: &[u8], places: &mut Places, a: Ask) -> Stray {
 }
 
 // Asks for a route and notes how it compares; a loud one is written.
-pub fn stray(rt: &impl Print, cells: &[u8], theme: &[u8], counts: &mut Counts, a: Ask, loud: bool) -> io::Result<()> {
+pub fn stray(
+    rt: &impl Print,
+    cells: &[u8],
+    theme: &[u8],
+    counts: &mut Counts,
+    a: Ask,
+    loud: bool,
+) -> io::Result<()> {
     let mut places = [0u8; 80];
     let answer = ask_on(cells, theme, &mut places, a);
     weigh(rt, cells, theme, &places, counts, a, answer)?;

@@ -79,7 +79,15 @@ fn path_told(rt: &impl Print, path: &Path, many: usize) -> io::Result<()> {
 }
 
 // A route that differs: its case, the library's answer, and the one that is due.
-pub fn astray(rt: &impl Print, cells: &[u8], theme: &[u8], places: &Places, a: Ask, answer: Stray, due: Detour) -> io::Result<()> {
+pub fn astray(
+    rt: &impl Print,
+    cells: &[u8],
+    theme: &[u8],
+    places: &Places,
+    a: Ask,
+    answer: Stray,
+    due: Detour,
+) -> io::Result<()> {
     let path = due.path;
     say(rt, "\nDIFFERS, ")?;
     stray_head(rt, cells, theme, a)?;

@@ -11,8 +11,8 @@ use reporting::heads::head;
 use reporting::lines::{THEMES, answered, tail};
 use second::asks::Call;
 use second::totals::{add, size};
-use turning::turns::turn_prepare;
 use std::io;
+use turning::turns::turn_prepare;
 
 // One call, compared with the second finder.
 fn called(
@@ -51,14 +51,17 @@ fn due_judged(j: Job, s: Seen) -> Seen {
 }
 
 // A call by itself.
-fn once(rt: &impl Print, cells: &[u8],
+fn once(
+    rt: &impl Print,
+    cells: &[u8],
     theme: &[u8],
     sets: &mut Sets,
     table: &mut Table,
     columns: &mut Columns,
     shifts: &mut Shifts,
     tally: &mut Tally,
-    j: Job) -> io::Result<()> {
+    j: Job,
+) -> io::Result<()> {
     let a = j.a;
     let s = called(cells, theme, sets, table, columns, shifts, j);
     noted(rt, cells, theme, sets, tally, a, due_judged(j, s))?;
@@ -68,14 +71,17 @@ fn once(rt: &impl Print, cells: &[u8],
 }
 
 // A whole list, or a call by itself.
-fn act(rt: &impl Print, cells: &[u8],
+fn act(
+    rt: &impl Print,
+    cells: &[u8],
     theme: &[u8],
     sets: &mut Sets,
     table: &mut Table,
     columns: &mut Columns,
     shifts: &mut Shifts,
     tally: &mut Tally,
-    j: Job) -> io::Result<()> {
+    j: Job,
+) -> io::Result<()> {
     if j.whole {
         add(tally, THEMES, 1);
         return list(rt, cells, theme, sets, table, columns, shifts, tally, j);
@@ -83,14 +89,17 @@ fn act(rt: &impl Print, cells: &[u8],
     once(rt, cells, theme, sets, table, columns, shifts, tally, j)
 }
 
-pub fn attempt(rt: &impl Print, cells: &mut Cells,
+pub fn attempt(
+    rt: &impl Print,
+    cells: &mut Cells,
     theme: &mut Theme,
     sets: &mut Sets,
     table: &mut Table,
     columns: &mut Columns,
     shifts: &mut Shifts,
     tally: &mut Tally,
-    j: Job) -> io::Result<()> {
+    j: Job,
+) -> io::Result<()> {
     if !j.tried {
         return Ok(());
     }

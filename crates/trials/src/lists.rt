@@ -12,8 +12,8 @@ use second::asks::{Ask, Call};
 use second::finder::most_looks;
 use second::totals::{add, count, more, product, size32};
 use second::ways::{Way, lowest};
-use turning::turns::{turn_both, turn_plain, turn_quick};
 use std::io;
+use turning::turns::{turn_both, turn_plain, turn_quick};
 
 // No list has so many pages.
 const MOST: usize = 70000;
@@ -22,7 +22,15 @@ const MOST: usize = 70000;
 const SHOWN: u64 = 8;
 
 // Counts what was seen, and writes it out where it differs.
-pub fn noted(rt: &impl Print, cells: &[u8], theme: &[u8], sets: &[u16], tally: &mut Tally, a: Ask, s: Seen) -> io::Result<bool> {
+pub fn noted(
+    rt: &impl Print,
+    cells: &[u8],
+    theme: &[u8],
+    sets: &[u16],
+    tally: &mut Tally,
+    a: Ask,
+    s: Seen,
+) -> io::Result<bool> {
     let fault = s.fault;
     if differs(fault) {
         add(tally, DIFFERED, 1);
@@ -156,7 +164,9 @@ fn going_on(j: Job, r: Reading) -> Job {
 }
 
 // One page more. Where it differs the list is over.
-fn read_on(rt: &impl Print, cells: &[u8],
+fn read_on(
+    rt: &impl Print,
+    cells: &[u8],
     theme: &[u8],
     sets: &[u16],
     table: &mut Table,
@@ -164,7 +174,8 @@ fn read_on(rt: &impl Print, cells: &[u8],
     shifts: &mut Shifts,
     tally: &mut Tally,
     j: Job,
-    r: Reading) -> io::Result<Reading> {
+    r: Reading,
+) -> io::Result<Reading> {
     let on = going_on(j, r);
     let s = turned(cells, theme, sets, table, columns, shifts, on);
     let a = on.a;
@@ -195,14 +206,17 @@ fn unread(a: Ask) -> Reading {
 }
 
 // All pages of a job from the first bookmark on; where it is loud, each is written out.
-pub fn list(rt: &impl Print, cells: &[u8],
+pub fn list(
+    rt: &impl Print,
+    cells: &[u8],
     theme: &[u8],
     sets: &[u16],
     table: &mut Table,
     columns: &mut Columns,
     shifts: &mut Shifts,
     tally: &mut Tally,
-    j: Job) -> io::Result<()> {
+    j: Job,
+) -> io::Result<()> {
     let a = j.a;
     let mut r = unread(a);
     for p in 0..MOST {

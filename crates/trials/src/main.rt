@@ -19,24 +19,40 @@ fn main(rt: HostRuntime) -> io::Result<()> {
     let mut columns = [0u16; 4100];
     let mut shifts = [0i16; 4100];
     let mut tally = [0u64; 8];
-    run(&rt, &mut cells,
+    run(
+        &rt,
+        &mut cells,
         &mut theme,
         &mut sets,
         &mut table,
         &mut columns,
         &mut shifts,
-        &mut tally,)
+        &mut tally,
+    )
 }
 
-fn run(rt: &impl Print, cells: &mut Cells,
+fn run(
+    rt: &impl Print,
+    cells: &mut Cells,
     theme: &mut Theme,
     sets: &mut Sets,
     table: &mut Table,
     columns: &mut Columns,
     shifts: &mut Shifts,
-    tally: &mut Tally) -> io::Result<()> {
+    tally: &mut Tally,
+) -> io::Result<()> {
     for k in 0..number_of_jobs() {
-        attempt(rt, cells, theme, sets, table, columns, shifts, tally, job(k))?;
+        attempt(
+            rt,
+            cells,
+            theme,
+            sets,
+            table,
+            columns,
+            shifts,
+            tally,
+            job(k),
+        )?;
     }
     totals(rt, tally)
 }
