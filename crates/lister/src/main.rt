@@ -5,19 +5,39 @@
 
 #![tactic(auto)]
 
-use libc::{STDIN_FILENO, STDOUT_FILENO};
-use listing::{INPUT_ROOM, Listing, ROOM, list};
+ghost use Rattle.std.specs.Prelude.{◌≤◌, IfOk, length};
 
-fn main() {
+use listing::{INPUT_ROOM, Listing, ROOM, list};
+use std::io;
+use std::io::Read;
+
+fn main(rt: HostRuntime) -> io::Result<()> {
     let mut input = [0u8; INPUT_ROOM];
     let mut out = [0u8; ROOM];
-    run(&mut input, &mut out);
+    run(&rt, &mut input, &mut out)
 }
 
 // Reads as much as the input buffer holds, and writes the output of that.
-fn run(input: &mut [u8], out: &mut [u8]) {
-    let got = io::read_full(STDIN_FILENO, input);
+fn run(rt: &(impl Input + Print), input: &mut [u8], out: &mut [u8]) -> io::Result<()> {
+    let mut reader = rt.reader();
+    let got = read_full(&mut reader, input)?;
     if let Listing::Written(n) = list(&input[..got], out) {
-        io::write_all(STDOUT_FILENO, &out[..n]);
+        rt.write_all(&out[..n])?;
     }
+    Ok(())
+}
+
+// Reads until the buffer is full or the input ends, and returns how many bytes it put at the start of the buffer.
+fn read_full(reader: &mut impl Read, buffer: &mut [u8]) -> io::Result<usize>
+    ensures { IfOk result (λ n. n ≤ length buffer.new) }
+{
+    let mut done = 0;
+    for _ in 0..u64::MAX {
+        let n = reader.read(&mut buffer[done..])?;
+        if n == 0 {
+            break;
+        }
+        done += n;
+    }
+    Ok(done)
 }

@@ -10,177 +10,218 @@ use reporting::pieces::{bytes, fault_name, line, number, say, sets, way_name, wh
 use second::asks::Ask;
 use second::totals::{size, size16};
 use second::ways::Way;
+use std::io;
 
 // A number after what it is.
-fn named(text: &[u8], x: usize) {
-    say(text);
-    number(x);
+fn named(rt: &impl Print, text: &str, x: usize) -> io::Result<()> {
+    say(rt, text)?;
+    number(rt, x)
 }
 
 // Sets after what they are.
-fn named_sets(text: &[u8], s: &[u16], many: usize) {
-    say(text);
-    sets(s, many);
+fn named_sets(rt: &impl Print, text: &str, s: &[u16], many: usize) -> io::Result<()> {
+    say(rt, text)?;
+    sets(rt, s, many)
 }
 
 // An answer, whole: the refusal and its place, or whether the theme occurs, and the summary.
-fn whole_answer(said: Said) {
-    named(b" answered", size(said.number));
-    number(said.place);
-    answer_name(said.yes);
-    number(size16(said.summary));
-    line();
+fn whole_answer(rt: &impl Print, said: Said) -> io::Result<()> {
+    named(rt, " answered", size(said.number))?;
+    number(rt, said.place)?;
+    answer_name(rt, said.yes)?;
+    number(rt, size16(said.summary))?;
+    line(rt)
 }
 
-fn answer_name(yes: bool) {
+fn answer_name(rt: &impl Print, yes: bool) -> io::Result<()> {
     if yes {
-        say(b" somewhere");
+        say(rt, " somewhere")
     } else {
-        say(b" nowhere");
+        say(rt, " nowhere")
     }
 }
 
 // A question or a preparation that differs, with what is lent and the library's answer.
-pub fn differing_question(cells: &[u8], theme: &[u8], s: &[u16], a: Ask, lent: u16, j: Judged) {
+pub fn differing_question(
+    rt: &impl Print,
+    cells: &[u8],
+    theme: &[u8],
+    s: &[u16],
+    a: Ask,
+    lent: u16,
+    j: Judged,
+) -> io::Result<()> {
     let fault = j.fault;
     let said = j.said;
-    say(b"\nDIFFERS in");
-    fault_name(fault);
-    say(b":");
-    case(cells, theme, a);
-    named_sets(b" sets", s, a.sets);
-    named(b" summary", size16(lent));
-    named(b" table", a.table);
-    whole_answer(said);
+    say(rt, "\nDIFFERS in")?;
+    fault_name(rt, fault)?;
+    say(rt, ":")?;
+    case(rt, cells, theme, a)?;
+    named_sets(rt, " sets", s, a.sets)?;
+    named(rt, " summary", size16(lent))?;
+    named(rt, " table", a.table)?;
+    whole_answer(rt, said)
 }
 
 // An update: the changed score, and the sets before and after.
-fn edit_name(cells: &[u8], old: &[u16], s: &[u16], a: Ask, column: u16) {
-    say(b" cells");
-    bytes(cells, a.cells);
-    named(b" changed column", size16(column));
-    named_sets(b" sets", old, a.sets);
-    named_sets(b" become", s, a.sets);
+fn edit_name(
+    rt: &impl Print,
+    cells: &[u8],
+    old: &[u16],
+    s: &[u16],
+    a: Ask,
+    column: u16,
+) -> io::Result<()> {
+    say(rt, " cells")?;
+    bytes(rt, cells, a.cells)?;
+    named(rt, " changed column", size16(column))?;
+    named_sets(rt, " sets", old, a.sets)?;
+    named_sets(rt, " become", s, a.sets)
 }
 
 // An update that differs, with the sets before and after it.
-pub fn differing_update(cells: &[u8], old: &[u16], s: &[u16], a: Ask, column: u16, j: Judged) {
+pub fn differing_update(
+    rt: &impl Print,
+    cells: &[u8],
+    old: &[u16],
+    s: &[u16],
+    a: Ask,
+    column: u16,
+    j: Judged,
+) -> io::Result<()> {
     let fault = j.fault;
     let said = j.said;
-    say(b"\nDIFFERS in");
-    fault_name(fault);
-    named(b": tracks", a.h);
-    edit_name(cells, old, s, a, column);
-    whole_answer(said);
+    say(rt, "\nDIFFERS in")?;
+    fault_name(rt, fault)?;
+    named(rt, ": tracks", a.h)?;
+    edit_name(rt, cells, old, s, a, column)?;
+    whole_answer(rt, said)
 }
 
 // A worked case and the answer of its question.
-pub fn case_answered(cells: &[u8], theme: &[u8], s: &[u16], a: Ask, lent: u16, said: Said) {
-    say(b"case:");
-    case(cells, theme, a);
-    named_sets(b" sets", s, a.sets);
-    named(b" summary", size16(lent));
-    say(b":");
-    answer_name(said.yes);
-    line();
+pub fn case_answered(
+    rt: &impl Print,
+    cells: &[u8],
+    theme: &[u8],
+    s: &[u16],
+    a: Ask,
+    lent: u16,
+    said: Said,
+) -> io::Result<()> {
+    say(rt, "case:")?;
+    case(rt, cells, theme, a)?;
+    named_sets(rt, " sets", s, a.sets)?;
+    named(rt, " summary", size16(lent))?;
+    say(rt, ":")?;
+    answer_name(rt, said.yes)?;
+    line(rt)
 }
 
 // A worked edit: the changed score, the sets before and after, and their summary.
-pub fn edit_answered(cells: &[u8], old: &[u16], s: &[u16], a: Ask, column: u16, said: Said) {
-    say(b"edit:");
-    edit_name(cells, old, s, a, column);
-    named(b" summary", size16(said.summary));
-    line();
+pub fn edit_answered(
+    rt: &impl Print,
+    cells: &[u8],
+    old: &[u16],
+    s: &[u16],
+    a: Ask,
+    column: u16,
+    said: Said,
+) -> io::Result<()> {
+    say(rt, "edit:")?;
+    edit_name(rt, cells, old, s, a, column)?;
+    named(rt, " summary", size16(said.summary))?;
+    line(rt)
 }
 
 // A twist: what is changed, the number that it gets, and its place where it has one of several. Of a summary it is the number
 // that is lent.
-fn twist_name(lent: u16, t: Twist) {
+fn twist_name(rt: &impl Print, lent: u16, t: Twist) -> io::Result<()> {
     let what = t.what;
     match what {
-        SUMMARY => named(b" summary", size16(lent)),
-        COLUMN => named(b" changed-column", size16(t.value)),
-        _ => change_name(t),
+        SUMMARY => named(rt, " summary", size16(lent)),
+        COLUMN => named(rt, " changed-column", size16(t.value)),
+        _ => change_name(rt, t),
     }
 }
 
-fn change_name(t: Twist) {
+fn change_name(rt: &impl Print, t: Twist) -> io::Result<()> {
     let what = what_of(t.what);
-    what_name(what);
-    number(size16(t.value));
+    what_name(rt, what)?;
+    number(rt, size16(t.value))?;
     if placed(what, 1) {
-        say(b" at");
-        number(t.place);
+        say(rt, " at")?;
+        number(rt, t.place)?;
     }
+    Ok(())
 }
 
 // Two refusals, the first 0 where there is one alone.
-fn refusals_name(low: usize, high: usize) {
+fn refusals_name(rt: &impl Print, low: usize, high: usize) -> io::Result<()> {
     if 0 < low {
-        number(number_at(low));
-        say(b" and");
+        number(rt, number_at(low))?;
+        say(rt, " and")?;
     }
-    number(number_at(high));
+    number(rt, number_at(high))
 }
 
-fn end_head(way: Way, lent: u16, t: Twist) {
-    say(b"end:");
-    way_name(way);
-    twist_name(lent, t);
-    say(b":");
+fn end_head(rt: &impl Print, way: Way, lent: u16, t: Twist) -> io::Result<()> {
+    say(rt, "end:")?;
+    way_name(rt, way)?;
+    twist_name(rt, lent, t)?;
+    say(rt, ":")
 }
 
-fn due_head(way: Way, low: usize, high: usize) {
-    say(b"due:");
-    way_name(way);
-    refusals_name(low, high);
-    say(b":");
+fn due_head(rt: &impl Print, way: Way, low: usize, high: usize) -> io::Result<()> {
+    say(rt, "due:")?;
+    way_name(rt, way)?;
+    refusals_name(rt, low, high)?;
+    say(rt, ":")
 }
 
 // What stands before a call on twists, with the summary that is lent.
-pub fn head(lent: u16, t: Twisted) {
+pub fn head(rt: &impl Print, lent: u16, t: Twisted) -> io::Result<()> {
     let a = t.a;
     let way = a.way;
     let c = t.c;
     let first = t.head;
     match first {
-        Head::End => end_head(way, lent, c),
-        Head::Due => due_head(way, t.low, t.high),
-        _ => {}
+        Head::End => end_head(rt, way, lent, c),
+        Head::Due => due_head(rt, way, t.low, t.high),
+        _ => Ok(()),
     }
 }
 
-fn call_name(asked: Asked) {
+fn call_name(rt: &impl Print, asked: Asked) -> io::Result<()> {
     match asked {
-        Asked::Question => say(b" question"),
-        Asked::Update => say(b" update"),
+        Asked::Question => say(rt, " question"),
+        Asked::Update => say(rt, " update"),
     }
 }
 
 // What a call on twists answered, where it is to be said. In exact a line holds the answers of a question and an update, in
 // octave that of a question.
-pub fn answered(said: Said, t: Twisted) {
+pub fn answered(rt: &impl Print, said: Said, t: Twisted) -> io::Result<()> {
     if !t.loud {
-        return;
+        return Ok(());
     }
     let a = t.a;
     let way = a.way;
     let asked = t.asked;
-    call_name(asked);
-    verdict_name(said);
+    call_name(rt, asked)?;
+    verdict_name(rt, said)?;
     if last_in(way, asked) {
-        line();
+        line(rt)?;
     }
+    Ok(())
 }
 
 // A refusal and its place, or that the call was accepted.
-fn verdict_name(said: Said) {
+fn verdict_name(rt: &impl Print, said: Said) -> io::Result<()> {
     if said.number == 0 {
-        say(b" accepted");
-        return;
+        return say(rt, " accepted");
     }
-    number(size(said.number));
-    named(b" at", said.place);
+    number(rt, size(said.number))?;
+    named(rt, " at", said.place)
 }
 
 fn last_in(way: Way, asked: Asked) -> bool {

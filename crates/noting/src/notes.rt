@@ -7,6 +7,7 @@ use judging::compare::differs;
 use second::asks::Ask;
 use second::questions::lacks;
 use second::totals::{add, count};
+use std::io;
 
 // The counts, by their places.
 pub const PREPARED: usize = 0;
@@ -50,6 +51,7 @@ fn answer_place(yes: bool) -> usize {
 
 // A question or a preparation, with the summary that was lent or given: counts it at a place, or writes out what differs.
 fn noted_at(
+    rt: &impl Print,
     cells: &[u8],
     theme: &[u8],
     sets: &[u16],
@@ -58,30 +60,43 @@ fn noted_at(
     summary: u16,
     s: Judged,
     place: usize,
-) {
+) -> io::Result<()> {
     let fault = s.fault;
     if differs(fault) {
         if shown(tally) {
-            differing_question(cells, theme, sets, a, summary, s);
+            differing_question(rt, cells, theme, sets, a, summary, s)?;
         }
-        return;
+        return Ok(());
     }
     counted_at(tally, s.said.number, place);
+    Ok(())
 }
 
 pub fn noted_preparation(
+    rt: &impl Print,
     cells: &[u8],
     theme: &[u8],
     sets: &[u16],
     tally: &mut Tally,
     a: Ask,
     s: Judged,
-) {
-    noted_at(cells, theme, sets, tally, a, s.said.summary, s, PREPARED);
+) -> io::Result<()> {
+    noted_at(
+        rt,
+        cells,
+        theme,
+        sets,
+        tally,
+        a,
+        s.said.summary,
+        s,
+        PREPARED,
+    )
 }
 
 // Of questions those that are accepted and that the summary alone settles are counted by themselves too.
 pub fn noted_question(
+    rt: &impl Print,
     cells: &[u8],
     theme: &[u8],
     sets: &[u16],
@@ -89,8 +104,9 @@ pub fn noted_question(
     a: Ask,
     lent: u16,
     s: Judged,
-) {
+) -> io::Result<()> {
     noted_at(
+        rt,
         cells,
         theme,
         sets,
@@ -99,16 +115,18 @@ pub fn noted_question(
         lent,
         s,
         answer_place(s.said.yes),
-    );
+    )?;
     if s.said.number == 0 {
         if lacks(theme, a.notes, lent) {
             add(tally, LACKING, 1);
         }
     }
+    Ok(())
 }
 
 // An update of the old sets.
 pub fn noted_update(
+    rt: &impl Print,
     cells: &[u8],
     old: &[u16],
     sets: &[u16],
@@ -116,13 +134,14 @@ pub fn noted_update(
     a: Ask,
     column: u16,
     s: Judged,
-) {
+) -> io::Result<()> {
     let fault = s.fault;
     if differs(fault) {
         if shown(tally) {
-            differing_update(cells, old, sets, a, column, s);
+            differing_update(rt, cells, old, sets, a, column, s)?;
         }
-        return;
+        return Ok(());
     }
     counted_at(tally, s.said.number, UPDATES);
+    Ok(())
 }

@@ -8,88 +8,95 @@ use reporting::heads::case;
 use reporting::pieces::{bytes, line, number, pair, say, sets};
 use second::asks::Ask;
 use second::totals::{size, size16};
+use std::io;
 
 // A number after what it is.
-fn named(text: &[u8], x: usize) {
-    say(text);
-    number(x);
+fn named(rt: &impl Print, text: &str, x: usize) -> io::Result<()> {
+    say(rt, text)?;
+    number(rt, x)
 }
 
-pub fn reason_name(reason: u8) {
+pub fn reason_name(rt: &impl Print, reason: u8) -> io::Result<()> {
     match reason {
-        LISTED => say(b" listed"),
-        NO_SHIFT => say(b" no-shift"),
-        NO_COLUMN => say(b" column-0"),
-        TOO_FEW => say(b" too-few"),
-        EMPTY => say(b" empty"),
-        OUTSIDE => say(b" outside"),
-        ABSENT => say(b" absent"),
-        _ => say(b" refused"),
+        LISTED => say(rt, " listed"),
+        NO_SHIFT => say(rt, " no-shift"),
+        NO_COLUMN => say(rt, " column-0"),
+        TOO_FEW => say(rt, " too-few"),
+        EMPTY => say(rt, " empty"),
+        OUTSIDE => say(rt, " outside"),
+        ABSENT => say(rt, " absent"),
+        _ => say(rt, " refused"),
     }
 }
 
-pub fn verdict_name(verdict: u8) {
+pub fn verdict_name(rt: &impl Print, verdict: u8) -> io::Result<()> {
     match verdict {
-        KEPT => say(b" kept"),
-        DISMISSED => say(b" dismissed"),
-        _ => say(b" unasked"),
+        KEPT => say(rt, " kept"),
+        DISMISSED => say(rt, " dismissed"),
+        _ => say(rt, " unasked"),
     }
 }
 
 // Why: the refusal's number and place, or the note that fails, before the reason.
-fn why_told(answer: Answer) {
+fn why_told(rt: &impl Print, answer: Answer) -> io::Result<()> {
     if 0 < answer.number {
-        named(b" number", size(answer.number));
-        named(b" at", answer.place);
+        named(rt, " number", size(answer.number))?;
+        named(rt, " at", answer.place)?;
     }
     if 0 < answer.note {
-        named(b" note", answer.note);
+        named(rt, " note", answer.note)?;
     }
-    reason_name(answer.reason);
+    reason_name(rt, answer.reason)
 }
 
 // What the sets make of the column, and the interval by which they dismiss it.
-fn verdict_told(answer: Answer) {
-    say(b", sets:");
-    verdict_name(answer.verdict);
+fn verdict_told(rt: &impl Print, answer: Answer) -> io::Result<()> {
+    say(rt, ", sets:")?;
+    verdict_name(rt, answer.verdict)?;
     if 0 < answer.interval {
-        named(b" by interval", answer.interval);
-        named(b" of size", size(answer.size));
+        named(rt, " by interval", answer.interval)?;
+        named(rt, " of size", size(answer.size))?;
     }
-    line();
+    line(rt)
 }
 
 // An explanation, with so many tracks.
-pub fn answer_told(tracks: &Tracks, many: usize, answer: Answer) {
-    why_told(answer);
-    bytes(tracks, many);
-    verdict_told(answer);
+pub fn answer_told(
+    rt: &impl Print,
+    tracks: &Tracks,
+    many: usize,
+    answer: Answer,
+) -> io::Result<()> {
+    why_told(rt, answer)?;
+    bytes(rt, tracks, many)?;
+    verdict_told(rt, answer)
 }
 
 // What stands before the explanation of a case: all that is lent, and the pair.
-pub fn case_head(cells: &[u8], theme: &[u8], s: &[u16], a: Ask) {
-    say(b"case:");
-    case(cells, theme, a);
-    say(b" sets");
-    sets(s, a.sets);
-    say(b" pair");
-    pair(size16(a.column), a.shift);
-    say(b":");
+pub fn case_head(rt: &impl Print, cells: &[u8], theme: &[u8], s: &[u16], a: Ask) -> io::Result<()> {
+    say(rt, "case:")?;
+    case(rt, cells, theme, a)?;
+    say(rt, " sets")?;
+    sets(rt, s, a.sets)?;
+    say(rt, " pair")?;
+    pair(rt, size16(a.column), a.shift)?;
+    say(rt, ":")
 }
 
 // What stands before that of a call with two faults, the lower 0 where there is one alone.
-pub fn due_head(low: usize, high: usize) {
-    say(b"due:");
+pub fn due_head(rt: &impl Print, low: usize, high: usize) -> io::Result<()> {
+    say(rt, "due:")?;
     if 0 < low {
-        number(low);
-        say(b" and");
+        number(rt, low)?;
+        say(rt, " and")?;
     }
-    number(high);
-    say(b":");
+    number(rt, high)?;
+    say(rt, ":")
 }
 
 // An explanation that differs: its case, the library's answer with all of its tracks, and the answer that is due.
 pub fn differing(
+    rt: &impl Print,
     cells: &[u8],
     theme: &[u8],
     s: &[u16],
@@ -97,10 +104,10 @@ pub fn differing(
     a: Ask,
     answer: Answer,
     due: Answer,
-) {
-    say(b"\nDIFFERS, ");
-    case_head(cells, theme, s, a);
-    answer_told(tracks, 64, answer);
-    say(b"due:");
-    answer_told(tracks, 0, due);
+) -> io::Result<()> {
+    say(rt, "\nDIFFERS, ")?;
+    case_head(rt, cells, theme, s, a)?;
+    answer_told(rt, tracks, 64, answer)?;
+    say(rt, "due:")?;
+    answer_told(rt, tracks, 0, due)
 }

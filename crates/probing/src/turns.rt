@@ -7,6 +7,7 @@ use grounds::answers::{Answer, LISTED};
 use grounds::explainer::second_explanation;
 use second::asks::Ask;
 use second::totals::{add, byte, count, more, product, size};
+use std::io;
 
 // The counts: three for each reason, by what the sets make of the column; and behind them some by their places.
 pub type Counts = [u64; 29];
@@ -47,6 +48,7 @@ fn counted(counts: &mut Counts, tracks: &Tracks, answer: Answer) {
 
 // Counts an explanation, or writes out one that differs.
 fn noted(
+    rt: &impl Print,
     cells: &[u8],
     theme: &[u8],
     sets: &[u16],
@@ -54,19 +56,20 @@ fn noted(
     counts: &mut Counts,
     a: Ask,
     answer: Answer,
-) {
+) -> io::Result<()> {
     add(counts, COMPARED, 1);
     let due = second_explanation(cells, theme, sets, a);
     if same_answer(answer, due) {
         if tracks_right(cells, theme, tracks, a, places_of(a, due)) {
             counted(counts, tracks, answer);
-            return;
+            return Ok(());
         }
     }
     add(counts, DIFFERED, 1);
     if count(counts, DIFFERED) <= SHOWN {
-        differing(cells, theme, sets, tracks, a, answer, due);
+        differing(rt, cells, theme, sets, tracks, a, answer, due)?;
     }
+    Ok(())
 }
 
 // How many places have a track: one for each note of a listed pair, and else none.
@@ -75,12 +78,21 @@ fn places_of(a: Ask, answer: Answer) -> usize {
 }
 
 // Asks for an explanation and notes how it compares; a loud one is written.
-pub fn turn(cells: &[u8], theme: &[u8], sets: &[u16], counts: &mut Counts, a: Ask, loud: bool) {
+pub fn turn(
+    rt: &impl Print,
+    cells: &[u8],
+    theme: &[u8],
+    sets: &[u16],
+    counts: &mut Counts,
+    a: Ask,
+    loud: bool,
+) -> io::Result<()> {
     let told = ask_explanation(cells, theme, sets, a);
     let answer = told.answer;
     let tracks = told.tracks;
-    noted(cells, theme, sets, &tracks, counts, a, answer);
+    noted(rt, cells, theme, sets, &tracks, counts, a, answer)?;
     if loud {
-        answer_told(&tracks, places_of(a, answer), answer);
+        answer_told(rt, &tracks, places_of(a, answer), answer)?;
     }
+    Ok(())
 }

@@ -10,6 +10,7 @@ use noting::lines::edit_answered;
 use noting::notes::{FRESH, noted_update};
 use second::asks::Ask;
 use second::totals::add;
+use std::io;
 
 // An update, by the lent sets as they are.
 fn updated(
@@ -30,11 +31,21 @@ fn updated(
 }
 
 // A worked edit is written out.
-fn worked(cells: &[u8], old: &[u16], sets: &[u16], kind: Kind, a: Ask, column: u16, s: Judged) {
+fn worked(
+    rt: &impl Print,
+    cells: &[u8],
+    old: &[u16],
+    sets: &[u16],
+    kind: Kind,
+    a: Ask,
+    column: u16,
+    s: Judged,
+) -> io::Result<()> {
     if let Kind::Worked = kind {
         let said = s.said;
-        edit_answered(cells, old, sets, a, column, said);
+        edit_answered(rt, cells, old, sets, a, column, said)?;
     }
+    Ok(())
 }
 
 fn column_of(e: Edit) -> u16 {
@@ -43,42 +54,46 @@ fn column_of(e: Edit) -> u16 {
 
 // An edit on the lent buffers.
 fn act(
+    rt: &impl Print,
     cells: &[u8],
     sets: &mut Sets,
     old: &mut Sets,
     fresh: &mut Sets,
     tally: &mut Tally,
     e: Edit,
-) {
+) -> io::Result<()> {
     let a = ask_of_edit(e);
     let lent = e.lent;
     let kind = e.kind;
     let column = column_of(e);
     let s = updated(cells, old, sets, fresh, tally, a, column, lent);
-    noted_update(cells, old, sets, tally, a, column, s);
-    worked(cells, old, sets, kind, a, column, s);
+    noted_update(rt, cells, old, sets, tally, a, column, s)?;
+    worked(rt, cells, old, sets, kind, a, column, s)
 }
 
 fn attempt(
+    rt: &impl Print,
     cells: &mut Cells,
     sets: &mut Sets,
     old: &mut Sets,
     fresh: &mut Sets,
     tally: &mut Tally,
     e: Edit,
-) {
+) -> io::Result<()> {
     arrange_edit(cells, sets, e);
-    act(cells, sets, old, fresh, tally, e);
+    act(rt, cells, sets, old, fresh, tally, e)
 }
 
 pub fn edit_all(
+    rt: &impl Print,
     cells: &mut Cells,
     sets: &mut Sets,
     old: &mut Sets,
     fresh: &mut Sets,
     tally: &mut Tally,
-) {
+) -> io::Result<()> {
     for k in 0..number_of_edits() {
-        attempt(cells, sets, old, fresh, tally, edit(k));
+        attempt(rt, cells, sets, old, fresh, tally, edit(k))?;
     }
+    Ok(())
 }

@@ -11,8 +11,9 @@ use jobs::buffers::{Cells, Sets, Table, Tally, Theme};
 use noting::totals::totals;
 use questioning::ask_all;
 use refusing::refuse_all;
+use std::io;
 
-fn main() {
+fn main(rt: HostRuntime) -> io::Result<()> {
     let mut cells = [0u8; 34000];
     let mut theme = [0u8; 64];
     let mut sets = [0u16; 2100];
@@ -21,11 +22,12 @@ fn main() {
     let mut table = [0u32; 4100];
     let mut tally = [0u64; 8];
     run(
-        &mut cells, &mut theme, &mut sets, &mut old, &mut fresh, &mut table, &mut tally,
-    );
+        &rt, &mut cells, &mut theme, &mut sets, &mut old, &mut fresh, &mut table, &mut tally,
+    )
 }
 
 fn run(
+    rt: &impl Print,
     cells: &mut Cells,
     theme: &mut Theme,
     sets: &mut Sets,
@@ -33,9 +35,9 @@ fn run(
     fresh: &mut Sets,
     table: &mut Table,
     tally: &mut Tally,
-) {
-    refuse_all(cells, theme, sets, old, table, tally);
-    ask_all(cells, theme, sets, fresh, table, tally);
-    edit_all(cells, sets, old, fresh, tally);
-    totals(tally);
+) -> io::Result<()> {
+    refuse_all(rt, cells, theme, sets, old, table, tally)?;
+    ask_all(rt, cells, theme, sets, fresh, table, tally)?;
+    edit_all(rt, cells, sets, old, fresh, tally)?;
+    totals(rt, tally)
 }

@@ -11,6 +11,7 @@ use noting::notes::{noted_preparation, noted_question};
 use second::asks::{Ask, Call};
 use second::summaries::summary;
 use second::ways::{Way, counted};
+use std::io;
 
 // Whether a job lists the pairs of a theme, by a quick search too. Of calls by themselves only the quick ones are tried.
 fn lists(call: Call, whole: bool) -> bool {
@@ -39,6 +40,7 @@ fn asks(call: Call, way: Way, whole: bool) -> bool {
 
 // The question of a job, by the sets that are lent and their summary; a worked case is written out.
 fn question(
+    rt: &impl Print,
     cells: &[u8],
     theme: &[u8],
     sets: &[u16],
@@ -47,20 +49,28 @@ fn question(
     a: Ask,
     deep: bool,
     worked: bool,
-) {
+) -> io::Result<()> {
     let lent = summary(sets, a.sets);
     let s = turn_question(cells, theme, sets, table, a, deep, lent);
-    noted_question(cells, theme, sets, tally, a, lent, s);
+    noted_question(rt, cells, theme, sets, tally, a, lent, s)?;
     if worked {
         let said = s.said;
-        case_answered(cells, theme, sets, a, lent, said);
+        case_answered(rt, cells, theme, sets, a, lent, said)?;
     }
+    Ok(())
 }
 
 // A score prepared anew.
-fn preparation(cells: &[u8], theme: &[u8], fresh: &mut Sets, tally: &mut Tally, a: Ask) {
+fn preparation(
+    rt: &impl Print,
+    cells: &[u8],
+    theme: &[u8],
+    fresh: &mut Sets,
+    tally: &mut Tally,
+    a: Ask,
+) -> io::Result<()> {
     let s = turn_prepare(cells, theme, fresh, a);
-    noted_preparation(cells, theme, fresh, tally, a, s);
+    noted_preparation(rt, cells, theme, fresh, tally, a, s)
 }
 
 // Whether a job is a worked case that is written out.
@@ -73,6 +83,7 @@ fn worked_out(j: Job) -> bool {
 
 // A job on the lent buffers: the preparation of its score, and its question where it is one.
 fn act(
+    rt: &impl Print,
     cells: &[u8],
     theme: &[u8],
     sets: &[u16],
@@ -81,12 +92,23 @@ fn act(
     tally: &mut Tally,
     j: Job,
     asked: bool,
-) {
+) -> io::Result<()> {
     let a = j.a;
-    preparation(cells, theme, fresh, tally, a);
+    preparation(rt, cells, theme, fresh, tally, a)?;
     if asked {
-        question(cells, theme, sets, table, tally, a, j.deep, worked_out(j));
+        question(
+            rt,
+            cells,
+            theme,
+            sets,
+            table,
+            tally,
+            a,
+            j.deep,
+            worked_out(j),
+        )?;
     }
+    Ok(())
 }
 
 // Whether there is anything to try in a job: a question, or a preparation.
@@ -98,6 +120,7 @@ fn tried(call: Call, asked: bool) -> bool {
 }
 
 fn attempt(
+    rt: &impl Print,
     cells: &mut Cells,
     theme: &mut Theme,
     sets: &mut Sets,
@@ -106,13 +129,14 @@ fn attempt(
     tally: &mut Tally,
     j: Job,
     asked: bool,
-) {
+) -> io::Result<()> {
     arrange(cells, sets, j);
     arrange_theme(cells, theme, j);
-    act(cells, theme, sets, fresh, table, tally, j, asked);
+    act(rt, cells, theme, sets, fresh, table, tally, j, asked)
 }
 
 fn ask(
+    rt: &impl Print,
     cells: &mut Cells,
     theme: &mut Theme,
     sets: &mut Sets,
@@ -120,28 +144,31 @@ fn ask(
     table: &mut Table,
     tally: &mut Tally,
     j: Job,
-) {
+) -> io::Result<()> {
     if !j.tried {
-        return;
+        return Ok(());
     }
     let a = j.a;
     let way = a.way;
     let call = j.call;
     let asked = asks(call, way, j.whole);
     if tried(call, asked) {
-        attempt(cells, theme, sets, fresh, table, tally, j, asked);
+        attempt(rt, cells, theme, sets, fresh, table, tally, j, asked)?;
     }
+    Ok(())
 }
 
 pub fn ask_all(
+    rt: &impl Print,
     cells: &mut Cells,
     theme: &mut Theme,
     sets: &mut Sets,
     fresh: &mut Sets,
     table: &mut Table,
     tally: &mut Tally,
-) {
+) -> io::Result<()> {
     for k in 0..number_of_jobs() {
-        ask(cells, theme, sets, fresh, table, tally, job(k));
+        ask(rt, cells, theme, sets, fresh, table, tally, job(k))?;
     }
+    Ok(())
 }

@@ -8,6 +8,7 @@ use mending::twisting::arrange_twisted;
 use probing::lines::due_head;
 use probing::turns::{Counts, turn};
 use second::ways::Way;
+use std::io;
 
 // Whether a call is one on which a question is tried.
 fn tried_here(t: Twisted, asked: Asked) -> bool {
@@ -32,27 +33,48 @@ fn written_out(t: Twisted, way: Way) -> bool {
 }
 
 // A call on the lent buffers, at the first column with shift 0.
-fn act(cells: &[u8], theme: &[u8], sets: &[u16], counts: &mut Counts, t: Twisted) {
+fn act(
+    rt: &impl Print,
+    cells: &[u8],
+    theme: &[u8],
+    sets: &[u16],
+    counts: &mut Counts,
+    t: Twisted,
+) -> io::Result<()> {
     let a = t.a;
     let way = a.way;
     let loud = written_out(t, way);
     if loud {
-        due_head(t.low, t.high);
+        due_head(rt, t.low, t.high)?;
     }
-    turn(cells, theme, sets, counts, at(a, 1, 0), loud);
+    turn(rt, cells, theme, sets, counts, at(a, 1, 0), loud)
 }
 
-fn attempt(cells: &mut Cells, theme: &mut Theme, sets: &mut Sets, counts: &mut Counts, t: Twisted) {
+fn attempt(
+    rt: &impl Print,
+    cells: &mut Cells,
+    theme: &mut Theme,
+    sets: &mut Sets,
+    counts: &mut Counts,
+    t: Twisted,
+) -> io::Result<()> {
     let asked = t.asked;
     if !tried_here(t, asked) {
-        return;
+        return Ok(());
     }
     arrange_twisted(cells, theme, sets, t);
-    act(cells, theme, sets, counts, t);
+    act(rt, cells, theme, sets, counts, t)
 }
 
-pub fn refuse_all(cells: &mut Cells, theme: &mut Theme, sets: &mut Sets, counts: &mut Counts) {
+pub fn refuse_all(
+    rt: &impl Print,
+    cells: &mut Cells,
+    theme: &mut Theme,
+    sets: &mut Sets,
+    counts: &mut Counts,
+) -> io::Result<()> {
     for k in 0..number_of_refused() {
-        attempt(cells, theme, sets, counts, refused_call(k));
+        attempt(rt, cells, theme, sets, counts, refused_call(k))?;
     }
+    Ok(())
 }

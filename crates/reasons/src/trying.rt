@@ -18,6 +18,7 @@ use probing::turns::{Counts, turn};
 use second::asks::{Ask, Call, columns_of};
 use second::finder::next_pair;
 use second::ways::{counted, lowest};
+use std::io;
 
 // One of so many jobs is explained.
 const STEP: usize = 211;
@@ -27,42 +28,72 @@ const SMALL: usize = 6;
 
 const LARGE: usize = 10000;
 
-pub fn try_worked(cells: &mut Cells, theme: &mut Theme, sets: &mut Sets, counts: &mut Counts) {
+pub fn try_worked(
+    rt: &impl Print,
+    cells: &mut Cells,
+    theme: &mut Theme,
+    sets: &mut Sets,
+    counts: &mut Counts,
+) -> io::Result<()> {
     for k in 0..number_of_cases() {
         let a = worked_ask(k);
         arrange_worked(cells, theme, sets, a, k);
-        case_head(cells, theme, sets, a);
-        turn(cells, theme, sets, counts, a, true);
+        case_head(rt, cells, theme, sets, a)?;
+        turn(rt, cells, theme, sets, counts, a, true)?;
     }
+    Ok(())
 }
 
 // At every column and shift.
-fn try_each(cells: &[u8], theme: &[u8], sets: &[u16], counts: &mut Counts, a: Ask) {
+fn try_each(
+    rt: &impl Print,
+    cells: &[u8],
+    theme: &[u8],
+    sets: &[u16],
+    counts: &mut Counts,
+    a: Ask,
+) -> io::Result<()> {
     let n = columns_of(a.cells, a.h);
     for i in 0..all_pairs(n) {
         let tried = at(a, each_column(n, i / SHIFTS), each_shift(i % SHIFTS));
-        turn(cells, theme, sets, counts, tried, false);
+        turn(rt, cells, theme, sets, counts, tried, false)?;
     }
+    Ok(())
 }
 
 // About the first pair of the list.
-fn try_few(cells: &[u8], theme: &[u8], sets: &[u16], counts: &mut Counts, a: Ask) {
+fn try_few(
+    rt: &impl Print,
+    cells: &[u8],
+    theme: &[u8],
+    sets: &[u16],
+    counts: &mut Counts,
+    a: Ask,
+) -> io::Result<()> {
     let way = a.way;
     let n = columns_of(a.cells, a.h);
     let f = next_pair(cells, theme, sets, a, Call::Plain, 1, lowest(way));
     for i in 0..few_pairs() {
         let column = few_column(f.column, n, i / FEW_SHIFTS);
         let tried = at(a, column, few_shift(way, f.shift, i % FEW_SHIFTS));
-        turn(cells, theme, sets, counts, tried, false);
+        turn(rt, cells, theme, sets, counts, tried, false)?;
     }
+    Ok(())
 }
 
-pub fn try_crowded(cells: &mut Cells, theme: &mut Theme, sets: &mut Sets, counts: &mut Counts) {
+pub fn try_crowded(
+    rt: &impl Print,
+    cells: &mut Cells,
+    theme: &mut Theme,
+    sets: &mut Sets,
+    counts: &mut Counts,
+) -> io::Result<()> {
     for round in 0..number_of_rounds() {
         let a = crowded_ask(round);
         arrange_crowded(cells, theme, sets, a, round);
-        try_each(cells, theme, sets, counts, a);
+        try_each(rt, cells, theme, sets, counts, a)?;
     }
+    Ok(())
 }
 
 // Whether the job of number k is explained.
@@ -82,29 +113,37 @@ fn taken(k: usize, j: Job, a: Ask) -> bool {
 
 // The job of number k, by its sets or others in their place.
 fn try_job(
+    rt: &impl Print,
     cells: &mut Cells,
     theme: &mut Theme,
     sets: &mut Sets,
     counts: &mut Counts,
     k: usize,
     j: Job,
-) {
+) -> io::Result<()> {
     let a = j.a;
     if !taken(k, j, a) {
-        return;
+        return Ok(());
     }
     arrange(cells, sets, j);
     arrange_theme(cells, theme, j);
     lend_sets(sets, a.sets, lent_of(k % 4));
     if columns_of(a.cells, a.h) <= SMALL {
-        try_each(cells, theme, sets, counts, a);
+        try_each(rt, cells, theme, sets, counts, a)
     } else {
-        try_few(cells, theme, sets, counts, a);
+        try_few(rt, cells, theme, sets, counts, a)
     }
 }
 
-pub fn try_jobs(cells: &mut Cells, theme: &mut Theme, sets: &mut Sets, counts: &mut Counts) {
+pub fn try_jobs(
+    rt: &impl Print,
+    cells: &mut Cells,
+    theme: &mut Theme,
+    sets: &mut Sets,
+    counts: &mut Counts,
+) -> io::Result<()> {
     for k in 0..number_of_jobs() {
-        try_job(cells, theme, sets, counts, k, job(k));
+        try_job(rt, cells, theme, sets, counts, k, job(k))?;
     }
+    Ok(())
 }

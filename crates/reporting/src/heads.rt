@@ -5,65 +5,66 @@ use jobs::changes::{Change, placed};
 use jobs::job::{Head, Job};
 use second::asks::Ask;
 use second::ways::Way;
+use std::io;
 
 // A case, whole: the score, the theme and the way.
-pub fn case(cells: &[u8], theme: &[u8], a: Ask) {
-    say(b" tracks");
-    number(a.h);
-    say(b" cells");
-    bytes(cells, a.cells);
-    say(b" theme");
-    bytes(theme, a.notes);
+pub fn case(rt: &impl Print, cells: &[u8], theme: &[u8], a: Ask) -> io::Result<()> {
+    say(rt, " tracks")?;
+    number(rt, a.h)?;
+    say(rt, " cells")?;
+    bytes(rt, cells, a.cells)?;
+    say(rt, " theme")?;
+    bytes(rt, theme, a.notes)?;
     let way = a.way;
-    way_name(way);
+    way_name(rt, way)
 }
 
 // A worked case and its sets, a line each.
-fn worked_case(cells: &[u8], theme: &[u8], s: &[u16], a: Ask) {
-    say(b"case:");
-    case(cells, theme, a);
-    line();
-    say(b"  sets");
-    sets(s, a.sets);
-    line();
+fn worked_case(rt: &impl Print, cells: &[u8], theme: &[u8], s: &[u16], a: Ask) -> io::Result<()> {
+    say(rt, "case:")?;
+    case(rt, cells, theme, a)?;
+    line(rt)?;
+    say(rt, "  sets")?;
+    sets(rt, s, a.sets)?;
+    line(rt)
 }
 
 // A change to an accepted call.
-fn change_name(way: Way, c: Change) {
+fn change_name(rt: &impl Print, way: Way, c: Change) -> io::Result<()> {
     let what = c.what;
-    say(b"end:");
-    way_name(way);
-    what_name(what);
-    value_name(what, c.value);
+    say(rt, "end:")?;
+    way_name(rt, way)?;
+    what_name(rt, what)?;
+    value_name(rt, what, c.value)?;
     if placed(what, 1) {
-        say(b" at");
-        number(c.place);
+        say(rt, " at")?;
+        number(rt, c.place)?;
     }
-    say(b":");
+    say(rt, ":")
 }
 
 // Two refusals that are due, the lower one 0 where there is one alone.
-fn faults_name(way: Way, low: usize, high: usize) {
-    say(b"due:");
-    way_name(way);
+fn faults_name(rt: &impl Print, way: Way, low: usize, high: usize) -> io::Result<()> {
+    say(rt, "due:")?;
+    way_name(rt, way)?;
     if 0 < low {
-        number(low);
-        say(b" and");
+        number(rt, low)?;
+        say(rt, " and")?;
     }
-    number(high);
-    say(b":");
+    number(rt, high)?;
+    say(rt, ":")
 }
 
 // What stands before a job's answers.
-pub fn head(cells: &[u8], theme: &[u8], s: &[u16], j: Job) {
+pub fn head(rt: &impl Print, cells: &[u8], theme: &[u8], s: &[u16], j: Job) -> io::Result<()> {
     let a = j.a;
     let c = j.c;
     let way = a.way;
     let first = j.head;
     match first {
-        Head::Quiet => {}
-        Head::Case => worked_case(cells, theme, s, a),
-        Head::End => change_name(way, c),
-        Head::Due => faults_name(way, j.low, j.high),
+        Head::Quiet => Ok(()),
+        Head::Case => worked_case(rt, cells, theme, s, a),
+        Head::End => change_name(rt, way, c),
+        Head::Due => faults_name(rt, way, j.low, j.high),
     }
 }

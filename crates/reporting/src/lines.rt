@@ -8,6 +8,7 @@ use judging::answers::Got;
 use judging::compare::Seen;
 use second::asks::{Ask, Call};
 use second::totals::{count, size, size16};
+use std::io;
 
 // The counts, by their places.
 pub const SCORES: usize = 0;
@@ -27,107 +28,121 @@ pub const WRITTEN_PAGES: usize = 6;
 pub const WRITTEN_PAIRS: usize = 7;
 
 // Where a page begins, and its room.
-fn opening(a: Ask, call: Call) {
-    call_name(call);
-    say(b" from");
-    pair(size16(a.column), a.shift);
-    say(b" room");
-    number(a.columns);
+fn opening(rt: &impl Print, a: Ask, call: Call) -> io::Result<()> {
+    call_name(rt, call)?;
+    say(rt, " from")?;
+    pair(rt, size16(a.column), a.shift)?;
+    say(rt, " room")?;
+    number(rt, a.columns)
 }
 
 // A page's answer.
-pub fn page(columns: &[u16], shifts: &[i16], a: Ask, call: Call, got: Got) {
-    say(b" ");
-    opening(a, call);
-    say(b":");
-    pairs(columns, shifts, got.written);
+pub fn page(
+    rt: &impl Print,
+    columns: &[u16],
+    shifts: &[i16],
+    a: Ask,
+    call: Call,
+    got: Got,
+) -> io::Result<()> {
+    say(rt, " ")?;
+    opening(rt, a, call)?;
+    say(rt, ":")?;
+    pairs(rt, columns, shifts, got.written)?;
     if got.finished {
-        say(b" finished,");
+        say(rt, " finished,")?;
     } else {
-        say(b" more,");
+        say(rt, " more,")?;
     }
-    say(b" next");
-    pair(size16(got.column), got.shift);
-    say(b" looks");
-    tried(got.looks as u64);
-    line();
+    say(rt, " next")?;
+    pair(rt, size16(got.column), got.shift)?;
+    say(rt, " looks")?;
+    tried(rt, got.looks as u64)?;
+    line(rt)
 }
 
 // A case that differs, with the sizes of what is lent and the library's answer.
-pub fn differing(cells: &[u8], theme: &[u8], s: &[u16], a: Ask, seen: Seen) {
+pub fn differing(
+    rt: &impl Print,
+    cells: &[u8],
+    theme: &[u8],
+    s: &[u16],
+    a: Ask,
+    seen: Seen,
+) -> io::Result<()> {
     let fault = seen.fault;
     let call = seen.call;
     let got = seen.got;
-    say(b"\nDIFFERS in");
-    fault_name(fault);
-    say(b":");
-    case(cells, theme, a);
-    say(b" sets");
-    sets(s, a.sets);
-    say(b" lent");
-    number(a.sets);
-    number(a.table);
-    number(a.columns);
-    number(a.shifts);
-    opening(a, call);
-    say(b": answered");
-    number(size(got.number));
-    number(got.place);
-    number(got.written);
-    pair(size16(got.column), got.shift);
-    line();
+    say(rt, "\nDIFFERS in")?;
+    fault_name(rt, fault)?;
+    say(rt, ":")?;
+    case(rt, cells, theme, a)?;
+    say(rt, " sets")?;
+    sets(rt, s, a.sets)?;
+    say(rt, " lent")?;
+    number(rt, a.sets)?;
+    number(rt, a.table)?;
+    number(rt, a.columns)?;
+    number(rt, a.shifts)?;
+    opening(rt, a, call)?;
+    say(rt, ": answered")?;
+    number(rt, size(got.number))?;
+    number(rt, got.place)?;
+    number(rt, got.written)?;
+    pair(rt, size16(got.column), got.shift)?;
+    line(rt)
 }
 
 // What a call answered, where it is to be said: its refusal and the place, or that it was accepted.
-pub fn answered(call: Call, got: Got, loud: bool) {
+pub fn answered(rt: &impl Print, call: Call, got: Got, loud: bool) -> io::Result<()> {
     if !loud {
-        return;
+        return Ok(());
     }
-    call_name(call);
+    call_name(rt, call)?;
     if got.number == 0 {
-        say(b" accepted");
-        return;
+        return say(rt, " accepted");
     }
-    number(size(got.number));
-    say(b" at");
-    number(got.place);
+    number(rt, size(got.number))?;
+    say(rt, " at")?;
+    number(rt, got.place)
 }
 
 // The end of the line that holds the answers of the calls of a way.
-pub fn tail(j: Job) {
+pub fn tail(rt: &impl Print, j: Job) -> io::Result<()> {
     if j.whole {
-        return;
+        return Ok(());
     }
     if !j.loud {
-        return;
+        return Ok(());
     }
     let a = j.a;
     let way = a.way;
     let call = j.call;
     if last_call(way, call) {
-        line();
+        line(rt)?;
     }
+    Ok(())
 }
 
 // How much was tried, and how many differed.
-pub fn totals(tally: &[u64]) {
-    say(b"tried: scores");
-    tried(count(tally, SCORES));
-    say(b" themes");
-    tried(count(tally, THEMES));
-    say(b" pages");
-    tried(count(tally, PAGES));
-    say(b" pairs");
-    tried(count(tally, PAIRS));
-    say(b" refusals");
-    tried(count(tally, REFUSALS));
-    line();
-    say(b"of these in written: pages");
-    tried(count(tally, WRITTEN_PAGES));
-    say(b" pairs");
-    tried(count(tally, WRITTEN_PAIRS));
-    line();
-    say(b"differed");
-    tried(count(tally, DIFFERED));
-    line();
+pub fn totals(rt: &impl Print, tally: &[u64]) -> io::Result<()> {
+    say(rt, "tried: scores")?;
+    tried(rt, count(tally, SCORES))?;
+    say(rt, " themes")?;
+    tried(rt, count(tally, THEMES))?;
+    say(rt, " pages")?;
+    tried(rt, count(tally, PAGES))?;
+    say(rt, " pairs")?;
+    tried(rt, count(tally, PAIRS))?;
+    say(rt, " refusals")?;
+    tried(rt, count(tally, REFUSALS))?;
+    line(rt)?;
+    say(rt, "of these in written: pages")?;
+    tried(rt, count(tally, WRITTEN_PAGES))?;
+    say(rt, " pairs")?;
+    tried(rt, count(tally, WRITTEN_PAIRS))?;
+    line(rt)?;
+    say(rt, "differed")?;
+    tried(rt, count(tally, DIFFERED))?;
+    line(rt)
 }

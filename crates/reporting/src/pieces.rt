@@ -2,130 +2,124 @@
 
 use jobs::changes::{What, end_shift};
 use judging::compare::Fault;
-use libc::STDOUT_FILENO;
 use second::asks::Call;
-use second::totals::{byte, distance, set, shift, size, size16};
+use second::totals::{byte, set, shift, size, size16};
 use second::ways::Way;
+use std::io;
 
-pub fn say(text: &[u8]) {
-    io::write_all(STDOUT_FILENO, text);
+pub fn say(rt: &impl Print, text: &str) -> io::Result<()> {
+    rt.print(text)
 }
 
-pub fn line() {
-    say(b"\n");
+pub fn line(rt: &impl Print) -> io::Result<()> {
+    say(rt, "\n")
 }
 
 // A number with a space before it.
-pub fn number(x: usize) {
-    say(b" ");
-    io::print_decimal(STDOUT_FILENO, x as u64);
+pub fn number(rt: &impl Print, x: usize) -> io::Result<()> {
+    print!(rt; " {x}")
 }
 
 // A count by its name.
-pub fn tried(x: u64) {
-    say(b" ");
-    io::print_decimal(STDOUT_FILENO, x);
+pub fn tried(rt: &impl Print, x: u64) -> io::Result<()> {
+    print!(rt; " {x}")
 }
 
 // A shift with its sign.
-fn signed(c: i16) {
-    if c < 0 {
-        say(b"-");
-    }
-    io::print_decimal(STDOUT_FILENO, distance(c));
+fn signed(rt: &impl Print, c: i16) -> io::Result<()> {
+    print!(rt; "{c}")
 }
 
 // A place, as (column, shift).
-pub fn pair(column: usize, c: i16) {
-    say(b" (");
-    io::print_decimal(STDOUT_FILENO, column as u64);
-    say(b", ");
-    signed(c);
-    say(b")");
+pub fn pair(rt: &impl Print, column: usize, c: i16) -> io::Result<()> {
+    print!(rt; " ({column}, {c})")
 }
 
-pub fn bytes(s: &[u8], many: usize) {
+pub fn bytes(rt: &impl Print, s: &[u8], many: usize) -> io::Result<()> {
     for i in 0..many {
-        number(size(byte(s, i)));
+        number(rt, size(byte(s, i)))?;
     }
+    Ok(())
 }
 
-pub fn sets(s: &[u16], many: usize) {
+pub fn sets(rt: &impl Print, s: &[u16], many: usize) -> io::Result<()> {
     for i in 0..many {
-        number(set(s, i));
+        number(rt, set(s, i))?;
     }
+    Ok(())
 }
 
-pub fn pairs(columns: &[u16], shifts: &[i16], many: usize) {
+pub fn pairs(rt: &impl Print, columns: &[u16], shifts: &[i16], many: usize) -> io::Result<()> {
     for i in 0..many {
-        pair(set(columns, i), shift(shifts, i));
+        pair(rt, set(columns, i), shift(shifts, i))?;
     }
+    Ok(())
 }
 
-pub fn way_name(way: Way) {
+pub fn way_name(rt: &impl Print, way: Way) -> io::Result<()> {
     match way {
-        Way::Exact => say(b" exact"),
-        Way::Octave => say(b" octave"),
-        Way::Written => say(b" written"),
+        Way::Exact => say(rt, " exact"),
+        Way::Octave => say(rt, " octave"),
+        Way::Written => say(rt, " written"),
     }
 }
 
-pub fn call_name(call: Call) {
+pub fn call_name(rt: &impl Print, call: Call) -> io::Result<()> {
     match call {
-        Call::Prepare => say(b" prepare"),
-        Call::Plain => say(b" plain"),
-        Call::Quick => say(b" quick"),
-        Call::Both => say(b" both"),
+        Call::Prepare => say(rt, " prepare"),
+        Call::Plain => say(rt, " plain"),
+        Call::Quick => say(rt, " quick"),
+        Call::Both => say(rt, " both"),
     }
 }
 
-pub fn fault_name(fault: Fault) {
+pub fn fault_name(rt: &impl Print, fault: Fault) -> io::Result<()> {
     match fault {
-        Fault::Nothing => say(b" -"),
-        Fault::Refusal => say(b" refusal"),
-        Fault::Pair => say(b" pair"),
-        Fault::Written => say(b" written"),
-        Fault::Next => say(b" next"),
-        Fault::Finished => say(b" finished"),
-        Fault::Looks => say(b" looks"),
-        Fault::Untouched => say(b" untouched"),
-        Fault::Sets => say(b" sets"),
-        Fault::Table => say(b" table"),
-        Fault::Pages => say(b" pages"),
-        Fault::Beside => say(b" quick-beside-plain"),
-        Fault::Answer => say(b" answer"),
-        Fault::Summary => say(b" summary"),
-        Fault::Fresh => say(b" beside-a-fresh-preparation"),
+        Fault::Nothing => say(rt, " -"),
+        Fault::Refusal => say(rt, " refusal"),
+        Fault::Pair => say(rt, " pair"),
+        Fault::Written => say(rt, " written"),
+        Fault::Next => say(rt, " next"),
+        Fault::Finished => say(rt, " finished"),
+        Fault::Looks => say(rt, " looks"),
+        Fault::Untouched => say(rt, " untouched"),
+        Fault::Sets => say(rt, " sets"),
+        Fault::Table => say(rt, " table"),
+        Fault::Pages => say(rt, " pages"),
+        Fault::Beside => say(rt, " quick-beside-plain"),
+        Fault::Answer => say(rt, " answer"),
+        Fault::Summary => say(rt, " summary"),
+        Fault::Fresh => say(rt, " beside-a-fresh-preparation"),
     }
 }
 
-pub fn what_name(what: What) {
+pub fn what_name(rt: &impl Print, what: What) -> io::Result<()> {
     match what {
-        What::Nothing => say(b" -"),
-        What::Tracks => say(b" tracks"),
-        What::Columns => say(b" columns"),
-        What::Cells => say(b" cells"),
-        What::Cell => say(b" cell"),
-        What::Notes => say(b" notes"),
-        What::Note => say(b" note"),
-        What::Sets => say(b" sets"),
-        What::Set => say(b" set"),
-        What::EachSet => say(b" each-set"),
-        What::Table => say(b" table"),
-        What::Room => say(b" room"),
-        What::ColumnRoom => say(b" room-of-columns"),
-        What::ShiftRoom => say(b" room-of-shifts"),
-        What::Column => say(b" bookmark-column"),
-        What::Shift => say(b" bookmark-shift"),
+        What::Nothing => say(rt, " -"),
+        What::Tracks => say(rt, " tracks"),
+        What::Columns => say(rt, " columns"),
+        What::Cells => say(rt, " cells"),
+        What::Cell => say(rt, " cell"),
+        What::Notes => say(rt, " notes"),
+        What::Note => say(rt, " note"),
+        What::Sets => say(rt, " sets"),
+        What::Set => say(rt, " set"),
+        What::EachSet => say(rt, " each-set"),
+        What::Table => say(rt, " table"),
+        What::Room => say(rt, " room"),
+        What::ColumnRoom => say(rt, " room-of-columns"),
+        What::ShiftRoom => say(rt, " room-of-shifts"),
+        What::Column => say(rt, " bookmark-column"),
+        What::Shift => say(rt, " bookmark-shift"),
     }
 }
 
 // The number that something gets; a shift goes by its own number.
-pub fn value_name(what: What, value: u16) {
+pub fn value_name(rt: &impl Print, what: What, value: u16) -> io::Result<()> {
     if let What::Shift = what {
-        say(b" ");
-        signed(end_shift(value));
+        say(rt, " ")?;
+        signed(rt, end_shift(value))
     } else {
-        number(size16(value));
+        number(rt, size16(value))
     }
 }

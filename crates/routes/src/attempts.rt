@@ -14,6 +14,7 @@ use second::asks::{Ask, Call, columns_of};
 use second::finder::{Found, next_pair};
 use second::totals::{more, raised, size16};
 use second::ways::lowest;
+use std::io;
 use straying::strays::{Counts, stray};
 use straying::told::stray_head;
 use wandering::broad::{arrange_broad, broad_ask, broad_rounds};
@@ -29,68 +30,111 @@ const WHOLE: usize = 23;
 
 const STEP: usize = 11;
 
-pub fn stray_shown(cells: &mut Cells, theme: &mut Theme, counts: &mut Counts) {
+pub fn stray_shown(
+    rt: &impl Print,
+    cells: &mut Cells,
+    theme: &mut Theme,
+    counts: &mut Counts,
+) -> io::Result<()> {
     for k in 0..SHOWN {
         let a = shown_ask(k);
         arrange_shown(cells, theme, k);
-        stray_head(cells, theme, a);
-        stray(cells, theme, counts, a, true);
+        stray_head(rt, cells, theme, a)?;
+        stray(rt, cells, theme, counts, a, true)?;
     }
+    Ok(())
 }
 
-fn stray_shape(cells: &mut Cells, theme: &mut Theme, counts: &mut Counts, shape: usize) {
+fn stray_shape(
+    rt: &impl Print,
+    cells: &mut Cells,
+    theme: &mut Theme,
+    counts: &mut Counts,
+    shape: usize,
+) -> io::Result<()> {
     for bits in 0..patterns_of(shape) {
         let a = pattern_ask(shape, bits);
         arrange_pattern(cells, theme, a, bits);
-        stray(cells, theme, counts, a, false);
+        stray(rt, cells, theme, counts, a, false)?;
     }
+    Ok(())
 }
 
-pub fn stray_patterns(cells: &mut Cells, theme: &mut Theme, counts: &mut Counts) {
+pub fn stray_patterns(
+    rt: &impl Print,
+    cells: &mut Cells,
+    theme: &mut Theme,
+    counts: &mut Counts,
+) -> io::Result<()> {
     for shape in 0..SHAPES {
-        stray_shape(cells, theme, counts, shape);
+        stray_shape(rt, cells, theme, counts, shape)?;
     }
+    Ok(())
 }
 
 // At every column and shift, with places by turns from a number on.
-fn stray_each(cells: &[u8], theme: &[u8], counts: &mut Counts, a: Ask, first: usize) {
+fn stray_each(
+    rt: &impl Print,
+    cells: &[u8],
+    theme: &[u8],
+    counts: &mut Counts,
+    a: Ask,
+    first: usize,
+) -> io::Result<()> {
     let n = columns_of(a.cells, a.h);
     for i in 0..all_pairs(n) {
         let b = at(a, each_column(n, i / SHIFTS), each_shift(i % SHIFTS));
         stray(
+            rt,
             cells,
             theme,
             counts,
             lending(b, places_for(a.notes, more(first, i))),
             false,
-        );
+        )?;
     }
+    Ok(())
 }
 
 // About a pair, with places by turns from a number on.
-fn stray_few(cells: &[u8], theme: &[u8], counts: &mut Counts, a: Ask, first: usize) {
+fn stray_few(
+    rt: &impl Print,
+    cells: &[u8],
+    theme: &[u8],
+    counts: &mut Counts,
+    a: Ask,
+    first: usize,
+) -> io::Result<()> {
     let way = a.way;
     let n = columns_of(a.cells, a.h);
     for i in 0..few_pairs() {
         let column = few_column(size16(a.column), n, i / FEW_SHIFTS);
         let b = at(a, column, few_shift(way, a.shift, i % FEW_SHIFTS));
         stray(
+            rt,
             cells,
             theme,
             counts,
             lending(b, places_for(a.notes, more(first, i))),
             false,
-        );
+        )?;
     }
+    Ok(())
 }
 
-pub fn stray_broad(cells: &mut Cells, theme: &mut Theme, counts: &mut Counts) {
+pub fn stray_broad(
+    rt: &impl Print,
+    cells: &mut Cells,
+    theme: &mut Theme,
+    counts: &mut Counts,
+) -> io::Result<()> {
     for round in 0..broad_rounds() {
         let a = broad_ask(round);
         arrange_broad(cells, theme, a, round);
-        stray(cells, theme, counts, a, false);
-        stray_few(cells, theme, counts, a, round);
+        stray(rt, cells, theme, counts, a, false)?;
+        stray_few(rt, cells, theme, counts, a, round)?;
     }
+    Ok(())
 }
 
 // The pair that was found, as it is asked for.
@@ -99,48 +143,67 @@ fn found_at(a: Ask, f: Found) -> Ask {
 }
 
 // The first pairs of a list, with places by turns from a number on.
-fn stray_list(cells: &[u8], theme: &[u8], sets: &[u16], counts: &mut Counts, a: Ask, first: usize) {
+fn stray_list(
+    rt: &impl Print,
+    cells: &[u8],
+    theme: &[u8],
+    sets: &[u16],
+    counts: &mut Counts,
+    a: Ask,
+    first: usize,
+) -> io::Result<()> {
     let way = a.way;
     let mut column: usize = 1;
     let mut shift = lowest(way);
     for i in 0..LISTED {
         let f = next_pair(cells, theme, sets, a, Call::Plain, column, shift);
         if !f.hit {
-            return;
+            return Ok(());
         }
         let b = found_at(a, f);
         stray(
+            rt,
             cells,
             theme,
             counts,
             lending(b, places_for(a.notes, more(first, i))),
             false,
-        );
+        )?;
         column = f.column;
         shift = raised(f.shift);
     }
+    Ok(())
 }
 
 // The pairs of the list, and in one round of so many every column and shift.
 fn stray_round(
+    rt: &impl Print,
     cells: &mut Cells,
     theme: &mut Theme,
     sets: &mut Sets,
     counts: &mut Counts,
     round: usize,
-) {
+) -> io::Result<()> {
     let a = thick_ask(round);
     arrange_thick(cells, theme, a, round);
-    stray_list(cells, theme, sets, counts, a, round);
+    stray_list(rt, cells, theme, sets, counts, a, round)?;
     if round % WHOLE == 0 {
-        stray_each(cells, theme, counts, a, round);
+        stray_each(rt, cells, theme, counts, a, round)?;
     }
+    Ok(())
 }
 
-pub fn stray_thick(cells: &mut Cells, theme: &mut Theme, sets: &mut Sets, counts: &mut Counts) {
+pub fn stray_thick(
+    rt: &impl Print,
+    cells: &mut Cells,
+    theme: &mut Theme,
+    sets: &mut Sets,
+    counts: &mut Counts,
+) -> io::Result<()> {
     for round in 0..thick_rounds() {
-        stray_round(cells, theme, sets, counts, round);
+        stray_round(rt, cells, theme, sets, counts, round)?;
     }
+    Ok(())
 }
 
 // Whether the job of number k is routed.
@@ -153,31 +216,40 @@ fn taken(k: usize, j: Job) -> bool {
 
 // The job of number k: the first pairs of its list, and at its bookmark.
 fn stray_job(
+    rt: &impl Print,
     cells: &mut Cells,
     theme: &mut Theme,
     sets: &mut Sets,
     counts: &mut Counts,
     k: usize,
     j: Job,
-) {
+) -> io::Result<()> {
     if !taken(k, j) {
-        return;
+        return Ok(());
     }
     let a = j.a;
     arrange(cells, sets, j);
     arrange_theme(cells, theme, j);
-    stray_list(cells, theme, sets, counts, a, k);
+    stray_list(rt, cells, theme, sets, counts, a, k)?;
     stray(
+        rt,
         cells,
         theme,
         counts,
         lending(a, places_for(a.notes, k)),
         false,
-    );
+    )
 }
 
-pub fn stray_jobs(cells: &mut Cells, theme: &mut Theme, sets: &mut Sets, counts: &mut Counts) {
+pub fn stray_jobs(
+    rt: &impl Print,
+    cells: &mut Cells,
+    theme: &mut Theme,
+    sets: &mut Sets,
+    counts: &mut Counts,
+) -> io::Result<()> {
     for k in 0..number_of_jobs() {
-        stray_job(cells, theme, sets, counts, k, job(k));
+        stray_job(rt, cells, theme, sets, counts, k, job(k))?;
     }
+    Ok(())
 }

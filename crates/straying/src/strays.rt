@@ -8,6 +8,7 @@ use detours::detour::{Detour, Method, few_routes, second_route};
 use second::asks::Ask;
 use second::totals::{add, count, more, size};
 use second::ways::Way;
+use std::io;
 
 // The counts, by their places: how many were compared, how many had a route and how many of these a change; how many were
 // compared with every route there is, and how many of these had more than one best; how many differed; and how many had places to
@@ -79,6 +80,7 @@ fn tallied(counts: &mut Counts, a: Ask, answer: Stray) {
 
 // Counts one that differs, and writes out the first ones.
 fn amiss(
+    rt: &impl Print,
     cells: &[u8],
     theme: &[u8],
     places: &Places,
@@ -86,28 +88,31 @@ fn amiss(
     a: Ask,
     answer: Stray,
     due: Detour,
-) {
+) -> io::Result<()> {
     add(counts, DIFFERED, 1);
     if count(counts, DIFFERED) <= WRITTEN_OUT {
-        astray(cells, theme, places, a, answer, due);
+        astray(rt, cells, theme, places, a, answer, due)?;
     }
+    Ok(())
 }
 
 // Holds a route against every route there is, where they are few.
 fn weigh_every(
+    rt: &impl Print,
     cells: &[u8],
     theme: &[u8],
     places: &Places,
     counts: &mut Counts,
     a: Ask,
     answer: Stray,
-) {
+) -> io::Result<()> {
     let due = second_route(cells, theme, a, Method::Every);
     add(counts, TRIED, 1);
     add_if(counts, ALIKE, 1 < due.alike);
     if !as_due(places, a, answer, due) {
-        amiss(cells, theme, places, counts, a, answer, due);
+        amiss(rt, cells, theme, places, counts, a, answer, due)?;
     }
+    Ok(())
 }
 
 // Whether an answer is a route, and every route can be tried beside it.
@@ -119,17 +124,25 @@ fn tried_by_every(a: Ask, answer: Stray) -> bool {
 }
 
 // Holds an answer against the second router's.
-fn weigh(cells: &[u8], theme: &[u8], places: &Places, counts: &mut Counts, a: Ask, answer: Stray) {
+fn weigh(
+    rt: &impl Print,
+    cells: &[u8],
+    theme: &[u8],
+    places: &Places,
+    counts: &mut Counts,
+    a: Ask,
+    answer: Stray,
+) -> io::Result<()> {
     add(counts, COMPARED, 1);
     let due = second_route(cells, theme, a, Method::Ahead);
     if !as_due(places, a, answer, due) {
-        amiss(cells, theme, places, counts, a, answer, due);
-        return;
+        return amiss(rt, cells, theme, places, counts, a, answer, due);
     }
     tallied(counts, a, answer);
     if tried_by_every(a, answer) {
-        weigh_every(cells, theme, places, counts, a, answer);
+        weigh_every(rt, cells, theme, places, counts, a, answer)?;
     }
+    Ok(())
 }
 
 // Asks for a route on marked places.
@@ -139,11 +152,19 @@ fn ask_on(cells: &[u8], theme: &[u8], places: &mut Places, a: Ask) -> Stray {
 }
 
 // Asks for a route and notes how it compares; a loud one is written.
-pub fn stray(cells: &[u8], theme: &[u8], counts: &mut Counts, a: Ask, loud: bool) {
+pub fn stray(
+    rt: &impl Print,
+    cells: &[u8],
+    theme: &[u8],
+    counts: &mut Counts,
+    a: Ask,
+    loud: bool,
+) -> io::Result<()> {
     let mut places = [0u8; 80];
     let answer = ask_on(cells, theme, &mut places, a);
-    weigh(cells, theme, &places, counts, a, answer);
+    weigh(rt, cells, theme, &places, counts, a, answer)?;
     if loud {
-        stray_told(&places, a, answer);
+        stray_told(rt, &places, a, answer)?;
     }
+    Ok(())
 }

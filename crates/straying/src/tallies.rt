@@ -6,52 +6,53 @@ use crate::strays::{
 };
 use reporting::pieces::{line, number, say, tried};
 use second::totals::{count, more};
+use std::io;
 
 // A count after what it is.
-fn tally(text: &[u8], counts: &[u64], place: usize) {
-    say(text);
-    tried(count(counts, place));
+fn tally(rt: &impl Print, text: &str, counts: &[u64], place: usize) -> io::Result<()> {
+    say(rt, text)?;
+    tried(rt, count(counts, place))
 }
 
 // The routes by their changes, of which the last are all with as many or more.
-fn change_tallies(counts: &[u64]) {
-    say(b" by changes:");
+fn change_tallies(rt: &impl Print, counts: &[u64]) -> io::Result<()> {
+    say(rt, " by changes:")?;
     for changes in 0..MORE_CHANGES {
-        number(changes);
-        tally(b":", counts, more(BY_CHANGES, changes));
-        say(b",");
+        number(rt, changes)?;
+        tally(rt, ":", counts, more(BY_CHANGES, changes))?;
+        say(rt, ",")?;
     }
-    tally(b" more:", counts, more(BY_CHANGES, MORE_CHANGES));
-    line();
+    tally(rt, " more:", counts, more(BY_CHANGES, MORE_CHANGES))?;
+    line(rt)
 }
 
 // The refusals by their numbers; those that no route has are passed over.
-fn refusal_tallies(counts: &[u64]) {
-    say(b" refused");
+fn refusal_tallies(rt: &impl Print, counts: &[u64]) -> io::Result<()> {
+    say(rt, " refused")?;
     for refusal in 1..20 {
         if 0 < count(counts, more(BY_NUMBER, refusal)) {
-            say(b",");
-            number(refusal);
-            tally(b":", counts, more(BY_NUMBER, refusal));
+            say(rt, ",")?;
+            number(rt, refusal)?;
+            tally(rt, ":", counts, more(BY_NUMBER, refusal))?;
         }
     }
-    line();
+    line(rt)
 }
 
-pub fn tallies(counts: &[u64]) {
-    tally(b"compared:", counts, COMPARED);
-    tally(b"\n routes", counts, ROUTED);
-    tally(b": exact", counts, BY_WAY);
-    tally(b", octave", counts, more(BY_WAY, 1));
-    tally(b", written", counts, more(BY_WAY, 2));
-    tally(b"; with a change", counts, CHANGED);
-    tally(b", with places to spare", counts, SPARE);
-    line();
-    change_tallies(counts);
-    tally(b" beside every route there is", counts, TRIED);
-    tally(b", with more than one best", counts, ALIKE);
-    line();
-    refusal_tallies(counts);
-    tally(b"differed", counts, DIFFERED);
-    line();
+pub fn tallies(rt: &impl Print, counts: &[u64]) -> io::Result<()> {
+    tally(rt, "compared:", counts, COMPARED)?;
+    tally(rt, "\n routes", counts, ROUTED)?;
+    tally(rt, ": exact", counts, BY_WAY)?;
+    tally(rt, ", octave", counts, more(BY_WAY, 1))?;
+    tally(rt, ", written", counts, more(BY_WAY, 2))?;
+    tally(rt, "; with a change", counts, CHANGED)?;
+    tally(rt, ", with places to spare", counts, SPARE)?;
+    line(rt)?;
+    change_tallies(rt, counts)?;
+    tally(rt, " beside every route there is", counts, TRIED)?;
+    tally(rt, ", with more than one best", counts, ALIKE)?;
+    line(rt)?;
+    refusal_tallies(rt, counts)?;
+    tally(rt, "differed", counts, DIFFERED)?;
+    line(rt)
 }

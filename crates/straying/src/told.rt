@@ -9,79 +9,90 @@ use reporting::heads::case;
 use reporting::pieces::{bytes, line, number, pair, say};
 use second::asks::Ask;
 use second::totals::{byte, size, size16};
+use std::io;
 
 // A number after what it is.
-fn named(text: &[u8], x: usize) {
-    say(text);
-    number(x);
+fn named(rt: &impl Print, text: &str, x: usize) -> io::Result<()> {
+    say(rt, text)?;
+    number(rt, x)
 }
 
 // The changes, or the refusal's number and place.
-fn outcome(refusal: u8, place: usize, changes: usize) {
+fn outcome(rt: &impl Print, refusal: u8, place: usize, changes: usize) -> io::Result<()> {
     if 0 < refusal {
-        named(b" refused", size(refusal));
-        named(b" at", place);
+        named(rt, " refused", size(refusal))?;
+        named(rt, " at", place)?;
     } else {
-        named(b" changes", changes);
+        named(rt, " changes", changes)?;
     }
+    Ok(())
 }
 
 // The places from one to another.
-fn kept(places: &Places, from: usize, to: usize) {
+fn kept(rt: &impl Print, places: &Places, from: usize, to: usize) -> io::Result<()> {
     if from < to {
-        say(b", kept");
+        say(rt, ", kept")?;
     }
     for i in from..to {
-        number(size(byte(places, i)));
+        number(rt, size(byte(places, i)))?;
     }
+    Ok(())
 }
 
 // An answer with all places that were lent: the route, and behind it what they kept.
-pub fn stray_told(places: &Places, a: Ask, answer: Stray) {
-    outcome(answer.number, answer.place, answer.changes);
+pub fn stray_told(rt: &impl Print, places: &Places, a: Ask, answer: Stray) -> io::Result<()> {
+    outcome(rt, answer.number, answer.place, answer.changes)?;
     let many = written_by(a, answer.number);
     if 0 < many {
-        say(b", route");
+        say(rt, ", route")?;
     }
-    bytes(places, many);
-    kept(places, many, a.columns);
-    line();
+    bytes(rt, places, many)?;
+    kept(rt, places, many, a.columns)?;
+    line(rt)
 }
 
 // What stands before the route of a case: all that is lent, and the pair.
-pub fn stray_head(cells: &[u8], theme: &[u8], a: Ask) {
-    say(b"case:");
-    case(cells, theme, a);
-    say(b" pair");
-    pair(size16(a.column), a.shift);
-    named(b" places", a.columns);
-    say(b":");
+pub fn stray_head(rt: &impl Print, cells: &[u8], theme: &[u8], a: Ask) -> io::Result<()> {
+    say(rt, "case:")?;
+    case(rt, cells, theme, a)?;
+    say(rt, " pair")?;
+    pair(rt, size16(a.column), a.shift)?;
+    named(rt, " places", a.columns)?;
+    say(rt, ":")
 }
 
 // What stands before that of a call with two faults, the first 0 where there is one alone.
-pub fn barred_head(low: usize, high: usize) {
-    say(b"due:");
+pub fn barred_head(rt: &impl Print, low: usize, high: usize) -> io::Result<()> {
+    say(rt, "due:")?;
     if 0 < low {
-        number(low);
-        say(b" and");
+        number(rt, low)?;
+        say(rt, " and")?;
     }
-    number(high);
-    say(b":");
+    number(rt, high)?;
+    say(rt, ":")
 }
 
 // So many tracks of the route that is due.
-fn path_told(path: &Path, many: usize) {
-    bytes(path, many);
-    line();
+fn path_told(rt: &impl Print, path: &Path, many: usize) -> io::Result<()> {
+    bytes(rt, path, many)?;
+    line(rt)
 }
 
 // A route that differs: its case, the library's answer, and the one that is due.
-pub fn astray(cells: &[u8], theme: &[u8], places: &Places, a: Ask, answer: Stray, due: Detour) {
+pub fn astray(
+    rt: &impl Print,
+    cells: &[u8],
+    theme: &[u8],
+    places: &Places,
+    a: Ask,
+    answer: Stray,
+    due: Detour,
+) -> io::Result<()> {
     let path = due.path;
-    say(b"\nDIFFERS, ");
-    stray_head(cells, theme, a);
-    stray_told(places, a, answer);
-    say(b"due:");
-    outcome(due.number, due.place, due.changes);
-    path_told(&path, written_by(a, due.number));
+    say(rt, "\nDIFFERS, ")?;
+    stray_head(rt, cells, theme, a)?;
+    stray_told(rt, places, a, answer)?;
+    say(rt, "due:")?;
+    outcome(rt, due.number, due.place, due.changes)?;
+    path_told(rt, &path, written_by(a, due.number))
 }

@@ -11,6 +11,7 @@ use reporting::heads::head;
 use reporting::lines::{THEMES, answered, tail};
 use second::asks::Call;
 use second::totals::{add, size};
+use std::io;
 use turning::turns::turn_prepare;
 
 // One call, compared with the second finder.
@@ -51,6 +52,7 @@ fn due_judged(j: Job, s: Seen) -> Seen {
 
 // A call by itself.
 fn once(
+    rt: &impl Print,
     cells: &[u8],
     theme: &[u8],
     sets: &mut Sets,
@@ -59,17 +61,18 @@ fn once(
     shifts: &mut Shifts,
     tally: &mut Tally,
     j: Job,
-) {
+) -> io::Result<()> {
     let a = j.a;
     let s = called(cells, theme, sets, table, columns, shifts, j);
-    noted(cells, theme, sets, tally, a, due_judged(j, s));
+    noted(rt, cells, theme, sets, tally, a, due_judged(j, s))?;
     let call = j.call;
     let got = s.got;
-    answered(call, got, j.loud);
+    answered(rt, call, got, j.loud)
 }
 
 // A whole list, or a call by itself.
 fn act(
+    rt: &impl Print,
     cells: &[u8],
     theme: &[u8],
     sets: &mut Sets,
@@ -78,16 +81,16 @@ fn act(
     shifts: &mut Shifts,
     tally: &mut Tally,
     j: Job,
-) {
+) -> io::Result<()> {
     if j.whole {
         add(tally, THEMES, 1);
-        list(cells, theme, sets, table, columns, shifts, tally, j);
-        return;
+        return list(rt, cells, theme, sets, table, columns, shifts, tally, j);
     }
-    once(cells, theme, sets, table, columns, shifts, tally, j);
+    once(rt, cells, theme, sets, table, columns, shifts, tally, j)
 }
 
 pub fn attempt(
+    rt: &impl Print,
     cells: &mut Cells,
     theme: &mut Theme,
     sets: &mut Sets,
@@ -96,15 +99,15 @@ pub fn attempt(
     shifts: &mut Shifts,
     tally: &mut Tally,
     j: Job,
-) {
+) -> io::Result<()> {
     if !j.tried {
-        return;
+        return Ok(());
     }
     arrange(cells, sets, j);
     arrange_theme(cells, theme, j);
     let made: &[u8] = cells;
     let notes: &[u8] = theme;
-    head(made, notes, sets, j);
-    act(made, notes, sets, table, columns, shifts, tally, j);
-    tail(j);
+    head(rt, made, notes, sets, j)?;
+    act(rt, made, notes, sets, table, columns, shifts, tally, j)?;
+    tail(rt, j)
 }

@@ -12,6 +12,7 @@ use second::asks::{Ask, Call};
 use second::finder::most_looks;
 use second::totals::{add, count, more, product, size32};
 use second::ways::{Way, lowest};
+use std::io;
 use turning::turns::{turn_both, turn_plain, turn_quick};
 
 // No list has so many pages.
@@ -21,23 +22,31 @@ const MOST: usize = 70000;
 const SHOWN: u64 = 8;
 
 // Counts what was seen, and writes it out where it differs.
-pub fn noted(cells: &[u8], theme: &[u8], sets: &[u16], tally: &mut Tally, a: Ask, s: Seen) -> bool {
+pub fn noted(
+    rt: &impl Print,
+    cells: &[u8],
+    theme: &[u8],
+    sets: &[u16],
+    tally: &mut Tally,
+    a: Ask,
+    s: Seen,
+) -> io::Result<bool> {
     let fault = s.fault;
     if differs(fault) {
         add(tally, DIFFERED, 1);
         if count(tally, DIFFERED) <= SHOWN {
-            differing(cells, theme, sets, a, s);
+            differing(rt, cells, theme, sets, a, s)?;
         }
-        return false;
+        return Ok(false);
     }
     if s.got.number != 0 {
         add(tally, REFUSALS, 1);
-        return true;
+        return Ok(true);
     }
     let call = s.call;
     let way = a.way;
     accepted(tally, call, way, s.got.written);
-    true
+    Ok(true)
 }
 
 // Counts what an accepted call made: the sets of a score, or a page, for each call that turned it.
@@ -156,6 +165,7 @@ fn going_on(j: Job, r: Reading) -> Job {
 
 // One page more. Where it differs the list is over.
 fn read_on(
+    rt: &impl Print,
     cells: &[u8],
     theme: &[u8],
     sets: &[u16],
@@ -165,20 +175,21 @@ fn read_on(
     tally: &mut Tally,
     j: Job,
     r: Reading,
-) -> Reading {
+) -> io::Result<Reading> {
     let on = going_on(j, r);
     let s = turned(cells, theme, sets, table, columns, shifts, on);
     let a = on.a;
     let call = j.call;
     let got = s.got;
     if j.loud {
-        page(columns, shifts, a, call, got);
+        page(rt, columns, shifts, a, call, got)?;
     }
     let mut next = turned_on(r, got);
-    if !noted(cells, theme, sets, tally, a, judged(cells, a, next, s)) {
+    let same = noted(rt, cells, theme, sets, tally, a, judged(cells, a, next, s))?;
+    if !same {
         next.over = true;
     }
-    next
+    Ok(next)
 }
 
 // A list of which nothing was read.
@@ -196,6 +207,7 @@ fn unread(a: Ask) -> Reading {
 
 // All pages of a job from the first bookmark on; where it is loud, each is written out.
 pub fn list(
+    rt: &impl Print,
     cells: &[u8],
     theme: &[u8],
     sets: &[u16],
@@ -204,17 +216,18 @@ pub fn list(
     shifts: &mut Shifts,
     tally: &mut Tally,
     j: Job,
-) {
+) -> io::Result<()> {
     let a = j.a;
     let mut r = unread(a);
     for p in 0..MOST {
         if r.over {
-            return;
+            return Ok(());
         }
-        r = read_on(cells, theme, sets, table, columns, shifts, tally, j, r);
+        r = read_on(rt, cells, theme, sets, table, columns, shifts, tally, j, r)?;
     }
     let call = j.call;
-    noted(cells, theme, sets, tally, a, endless(call));
+    noted(rt, cells, theme, sets, tally, a, endless(call))?;
+    Ok(())
 }
 
 // A list without an end.

@@ -9,8 +9,9 @@ use attempts::attempt;
 use cases::families::{job, number_of_jobs};
 use jobs::buffers::{Cells, Columns, Sets, Shifts, Table, Tally, Theme};
 use reporting::lines::totals;
+use std::io;
 
-fn main() {
+fn main(rt: HostRuntime) -> io::Result<()> {
     let mut cells = [0u8; 34000];
     let mut theme = [0u8; 64];
     let mut sets = [0u16; 2100];
@@ -19,6 +20,7 @@ fn main() {
     let mut shifts = [0i16; 4100];
     let mut tally = [0u64; 8];
     run(
+        &rt,
         &mut cells,
         &mut theme,
         &mut sets,
@@ -26,10 +28,11 @@ fn main() {
         &mut columns,
         &mut shifts,
         &mut tally,
-    );
+    )
 }
 
 fn run(
+    rt: &impl Print,
     cells: &mut Cells,
     theme: &mut Theme,
     sets: &mut Sets,
@@ -37,9 +40,19 @@ fn run(
     columns: &mut Columns,
     shifts: &mut Shifts,
     tally: &mut Tally,
-) {
+) -> io::Result<()> {
     for k in 0..number_of_jobs() {
-        attempt(cells, theme, sets, table, columns, shifts, tally, job(k));
+        attempt(
+            rt,
+            cells,
+            theme,
+            sets,
+            table,
+            columns,
+            shifts,
+            tally,
+            job(k),
+        )?;
     }
-    totals(tally);
+    totals(rt, tally)
 }
