@@ -1,4 +1,4 @@
--- Each turn passes one column at least and lists one candidate at most; at the end no column is left, or as many are listed as are wanted.
+-- Each turn passes a column at least and lists a candidate at most, until no column is left or as many are listed as are wanted.
 use mathlib.Core.Path.{◌≡◌}
 use mathlib.Core.Bool.{Bool, true, false, cond}
 use Prim.Native.Nat.{ℕ, ◌+◌, ◌≤◌, ◌<◌}

@@ -3,7 +3,7 @@ use mathlib.Core.Path.{◌≡◌}
 use Prim.Native.Nat.{ℕ, ◌+◌, ◌-◌, ◌*◌}
 use native.Mathlib.Nat.{mod-lt, zero-lt-suc}
 use native.Mathlib.Omega.{arith}
-use Rattle.walking.proofs.ring.Laws.{cached_kept, cached_put}
+use Rattle.walking.proofs.ring.Laws.{cached_put}
 use Rattle.walking.proofs.ring.word_at.Goals as goal
 
 pub returns : goal.returns
