@@ -2,7 +2,7 @@
 use native.Mathlib.Omega.{arith}
 use borrow.Author.Tests.{ltb-true}
 use Rattle.theory.proofs.Either.{both_left}
-use Rattle.walking.proofs.walk.Trying.{along_over, along_bound, along_turn, along_stands}
+use Rattle.walking.proofs.walk.Trying.{along_over, along_bound, along_turn}
 use Rattle.walking.proofs.walk.walk_along.Goals as goal
 
 pub overflow_add-looks : goal.overflow_add-looks

@@ -5,7 +5,7 @@ use native.Mathlib.Omega.{arith}
 use borrow.Author.Tests.{ltb-true}
 use Rattle.theory.proofs.Either.{both_left}
 use Rattle.walking.specs.declared.walked.Spot.{Spot}
-use Rattle.walking.proofs.Answers.{accepted_ready, asked_lent, asked_sets, asked_small}
+use Rattle.walking.proofs.Answers.{accepted_ready, asked_lent, asked_small}
 use Rattle.walking.proofs.ring.Laws.{cached_none}
 use Rattle.walking.proofs.register.Laws.{warmed_filters}
 use Rattle.walking.proofs.walk.Walking.{begun_key, begun_first, quick_start, turn_bound, turn_on, walk_over}
