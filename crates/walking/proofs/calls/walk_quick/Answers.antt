@@ -1,57 +1,57 @@
-use mathlib.Core.Path.{sym, ap, ◌∙◌}
+-- `walking::calls::walk_quick` meets its contract: the checks turn away, or what is asked is accepted, the table is filled, and the walk along
+-- candidates is made.
+use mathlib.Core.Path.{◌≡◌, sym, ap, ◌∙◌}
+use mathlib.Core.List.{List}
+use Prim.Native.Nat.{ℕ}
+use native.Mathlib.Omega.{arith}
+use lib.IntN.{ℤ}
 use lib.ListN.{length}
+use Rattle.ways.specs.declared.way.Way.{Way}
+use Rattle.ways.specs.declared.bookmark.Bookmark.{Bookmark}
+use Rattle.asking.specs.Asking.{QuickAsks}
 use Rattle.asking.proofs.Rows.{quick_clear}
 use Rattle.filter.specs.Limits.{word_bits}
-use Rattle.filter.proofs.Words.{table_length}
-use Rattle.walking.proofs.Answers.{finds_away, finds_done, table_kept, table_filled}
+use Rattle.filter.specs.Table.{theme_table, table_after}
+use Rattle.filter.proofs.Words.{table_length, after_filled}
+use Rattle.walking.proofs.Answers.{finds_away, finds_done, quick_asks, table_kept, table_filled}
 use Rattle.walking.proofs.calls.walk_quick.Goals as goal
 
--- OLDHELPER -- what is asked is accepted
--- OLDHELPER asked : (c : tie.After-enum-told) → let a = c.before.before.before.before.before.before.before.before.args in QuickAsks a.cells.now
--- OLDHELPER     a.tracks a.theme.now a.way a.bookmark a.sets.now a.table.now a.columns.now a.shifts.now
--- OLDHELPER asked c =
--- OLDHELPER     let a = c.before.before.before.before.before.before.before.before.args in
--- OLDHELPER     quick_asks a.cells.now a.tracks a.theme.now a.way a.bookmark a.sets.now a.table.now a.columns.now a.shifts.now
--- OLDHELPER     c.before.before.check-quick.ensures c.enum_told.given.1
-
--- OLDHELPER -- the table that is filled is the theme's
--- OLDHELPER filled : (c : tie.After-enum-told) → let a = c.before.before.before.before.before.before.before.before.args in table_after word_bits
--- OLDHELPER     a.theme.now a.table.now ≡ theme_table word_bits a.theme.now
--- OLDHELPER filled c =
--- OLDHELPER     let a = c.before.before.before.before.before.before.before.before.args in
--- OLDHELPER     after_filled word_bits a.theme.now a.table.now (λ z. omega (arith, (asked c).plain.accepted.notes_some)) (asked c).table_long
+-- the table that is filled is the theme's
+filled : {cells : List ℕ} {h : ℕ} {theme : List ℕ} {way : Way} {b : Bookmark} {sets table columns : List ℕ} {shifts : List ℤ}
+    → QuickAsks cells h theme way b sets table columns shifts → table_after word_bits theme table ≡ theme_table word_bits theme
+filled {theme = theme} {table = table} a = after_filled word_bits theme table (λ z. omega (arith, a.plain.accepted.notes_some)) a.table_long
 
 pub returns-in-Refused : goal.returns-in-Refused
 returns-in-Refused c =
     let a = c.args in
-    let v = c.check_quick.ensures in
     record {
-      finds = finds_away _ _ _ _ _ _ _ _ v c.e.given.1;
+      finds = finds_away _ _ _ _ _ _ _ _ c.check_quick.ensures c.in-Refused.is;
       fills_table =
           table_kept a.cells.now a.tracks a.theme.now a.way a.bookmark a.sets.now a.table.now a.columns.now
-          a.shifts.now v c.e.given.1;
+          a.shifts.now c.check_quick.ensures c.in-Refused.is;
     }
 
 pub walk_candidates-requires : goal.walk_candidates-requires
 walk_candidates-requires c =
-    let q = asked c in
+    let a = c.args in
+    let q =
+    quick_asks a.cells.now a.tracks a.theme.now a.way a.bookmark a.sets.now a.table.now a.columns.now a.shifts.now
+    c.check_quick.ensures c.in_default.is in
     record {
       plain = q.plain;
       with_sets = q.with_sets;
-      table_long = ap length
-          (c.fill_table.ensures ∙ filled c)
-          ∙ table_length word_bits _;
+      table_long = ap length (c.fill_table.ensures ∙ filled q) ∙ table_length word_bits _;
     }
 
 pub returns : goal.returns
 returns c =
-    let e = c in
-    let a = e.args in
-    let f =
-    c.fill_table.ensures ∙ filled e in
+    let a = c.args in
+    let q =
+    quick_asks a.cells.now a.tracks a.theme.now a.way a.bookmark a.sets.now a.table.now a.columns.now a.shifts.now
+    c.check_quick.ensures c.in_default.is in
     let z =
-    (quick_clear a.cells.now a.tracks a.theme.now a.way a.bookmark a.sets.now a.table.now a.columns.now
-    a.shifts.now).0 (asked e) in
+    (quick_clear a.cells.now a.tracks a.theme.now a.way a.bookmark a.sets.now a.table.now a.columns.now a.shifts.now).0 q in
+    let f = c.fill_table.ensures ∙ filled q in
     record {
       finds = finds_done _ _ _ _ _ _ _ _ z (rw f at c.walk_candidates.ensures);
       fills_table =

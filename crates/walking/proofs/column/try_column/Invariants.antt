@@ -1,4 +1,4 @@
--- The invariant and the measure.
+-- The invariant is `Filling`: what the column gave so far is written. The measure is the codes left.
 use Prim.Native.Nat.{◌-◌}
 use Rattle.ways.specs.Way.{span}
 use Rattle.walking.proofs.column.Filling.{Filling}

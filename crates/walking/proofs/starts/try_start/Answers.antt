@@ -1,24 +1,25 @@
-use borrow.Author.Tests.{not-true, not-false}
-use Rattle.walking.proofs.starts.Trying.{try_miss, try_turn, try_end}
+-- `walking::starts::try_start` meets its contract: a note that is missing ends the trial, and one that is there leaves a theme shorter by it.
+use native.Mathlib.Omega.{arith}
+use Rattle.walking.proofs.starts.Trying.{first_within, try_first, try_within, try_miss, try_turn, try_end}
 use Rattle.walking.proofs.starts.try_start.Goals as goal
 
--- OLDHELPER -- what is known at entry, from the loop
--- OLDHELPER abbrev start : tie.At-loop invariant-loop decreases-loop → tie.Start invariant-loop decreases-loop
--- OLDHELPER start c = c.before.before.before.before
+pub overflow_mul-base : goal.overflow_mul-base
+overflow_mul-base c = omega (arith, first_within c.args.way _ _ _ _ c.args.code c.requires.ready c.requires.fits)
+
+pub loop-k-init : goal.loop-k-init
+loop-k-init c = try_first _ _ _ _ _ _ c.requires.ready c.requires.fits
+
+pub overflow_add-end : goal.overflow_add-end
+overflow_add-end c =
+    omega (arith, try_within _ _ _ _ _ _ c.requires.ready c.requires.fits _ _ _ c.loop-k.invariant c.loop-k-test.true)
 
 pub returns-then-not-holds_at : goal.returns-then-not-holds_at
 returns-then-not-holds_at c =
-    let l = c in
-    let s = start l in
-    try_miss _ _ _ _ _ _ s.pre.0 s.pre.1.0 _ _ _ l.loop-k.invariant l.loop-k-test.true _ c.holds_at.ensures (not-true _ c.if1.true)
+    try_miss _ _ _ _ _ _ c.requires.ready c.requires.fits _ _ _ c.loop-k.invariant c.loop-k-test.true _ c.holds_at.ensures c.if-not-holds_at.true
 
 pub loop-k-preserved : goal.loop-k-preserved
 loop-k-preserved c =
-    let l = c in
-    let s = start l in
-    try_turn _ _ _ _ _ _ s.pre.0 s.pre.1.0 _ _ _ l.loop-k.invariant l.loop-k-test.true _ c.holds_at.ensures (not-false _ c.if1.false)
+    try_turn _ _ _ _ _ _ c.requires.ready c.requires.fits _ _ _ c.loop-k.invariant c.loop-k-test.true _ c.holds_at.ensures c.if-not-holds_at.false
 
 pub returns : goal.returns
-returns c =
-    let s = start c in
-    try_end _ _ _ _ _ _ s.pre.0 s.pre.1.0 _ _ _ c.loop-k.invariant c.loop-k-test.false
+returns c = try_end _ _ _ _ _ _ c.requires.ready c.requires.fits _ _ _ c.loop-k.invariant c.loop-k-test.false

@@ -1,4 +1,4 @@
--- The invariant and the measure.
+-- The invariant is `Trying`: the notes passed were there. The measure is the notes left.
 use Prim.Native.Nat.{◌-◌}
 use lib.ListN.{length}
 use Rattle.walking.proofs.starts.Trying.{Trying}
