@@ -1,9 +1,8 @@
 /* finder.h: where does a tune stand in a score?
  *
- * Link with libfinder_c.a: bindings/native-lib builds it for the processor at hand; on x86-64 so does
- * `rt staticlib finder_c`, which writes target/staticlib/libfinder_c.a. The library calls nothing but `memset` and `memcpy`:
- * it allocates nothing, keeps nothing between calls and may be called from several threads at once, each with buffers of its
- * own.
+ * Link with libfinder_c.a, which bindings/native-lib builds for an x86-64 processor. The library calls nothing but `memset` and
+ * `memcpy`: it allocates nothing, keeps nothing between calls and may be called from several threads at once, each with buffers
+ * of its own.
  *
  * A score is `cells`, column after column, `tracks` cells a column, one per track. A cell 0 to 127 is a MIDI pitch and
  * 255 is a rest. There are 1 to 16 tracks and n = 1 to 2,048 columns, numbered from 1. A theme is 2 to 32 pitches.
