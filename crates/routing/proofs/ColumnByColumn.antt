@@ -10,7 +10,7 @@ use lib.Dec.{ltb, eqb}
 use lib.ListN.{length, get_or, take, drop, set, length-set, length-append, drop_of_length-le}
 use lib.Seq.{drop-cons}
 use borrow.Author.Tests.{ltb-true, ltb-false, not-true, not-false, eq-eqb, ne_eqb}
-use Rattle.theory.specs.Lists.{over, some}
+use Rattle.theory.specs.Lists.{over}
 use Rattle.theory.proofs.Either.{both_left, both_right}
 use Rattle.theory.proofs.Lists.{over_more}
 use Rattle.score.specs.Score.{pitch, columns_in, score_of, heard, heard_of}

@@ -4,12 +4,8 @@ use mathlib.Core.Path.{◌≡◌, refl, sym, ap, ◌∙◌, subst}
 use mathlib.Core.List.{List, [], ◌∷◌, ◌++◌, append-nil, append_assoc}
 use Prim.Native.Nat.{ℕ, ◌+◌, ◌≤◌, ◌<◌, zero-le}
 use native.Mathlib.Omega.{arith}
-use lib.Bits.{bit_and, bit_or}
-use lib.Count.{count_trailing_zeros}
-use lib.Dec.{eqb}
 use lib.ListN.{length, get_or, take, drop, set, length-set, length-append, length-drop, drop_of_length-le}
 use lib.Seq.{get_or-drop}
-use Rattle.theory.specs.Bits.{bit}
 use Rattle.theory.specs.Lists.{over}
 use Rattle.theory.proofs.Lists.{over_more}
 use Rattle.score.specs.Limits.{most_tracks}

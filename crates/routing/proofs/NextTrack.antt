@@ -3,15 +3,17 @@
 -- fewest changes, and no lower track does both. Assumes nothing.
 use mathlib.Core.Path.{◌≡◌, refl, sym, ap, ◌∙◌}
 use mathlib.Core.Bool.{Bool, true, false, cond}
-use Prim.Native.Nat.{ℕ, ◌+◌, ◌-◌, ◌^◌, ◌≤◌, ◌<◌, zero-le, min, max}
+use Prim.Native.Nat.{ℕ, ◌+◌, ◌-◌, ◌*◌, ◌/◌, ◌%◌, ◌^◌, ◌≤◌, ◌<◌, zero-le, min, max}
 use native.Mathlib.Nat.{zero-lt-suc}
 use native.Mathlib.Decide.{ℕ_discrete}
 use native.Mathlib.Omega.{arith}
 use lib.Bits.{bit_and, bit_or, and_le_l, and_le_r, or_lt, or_add_and}
+use lib.Count.{count_trailing_zeros}
 use lib.Dec.{eqb}
 use borrow.Author.Tests.{eqb-true, eqb-false, eq-eqb, ne_eqb}
 use Rattle.theory.specs.Bits.{bit}
 use Rattle.theory.proofs.Bits.{bit_lt, bit_and_lem, bit_or_lem, bit_high, bit_pow_same, bit_pow_other}
+use Rattle.theory.proofs.Masks.{shr_and_one, one_shl}
 use Rattle.score.specs.Limits.{most_tracks}
 use Rattle.routing.specs.TrackSets.{best_before, due, lowest_of, next_track, Tracks}
 use Rattle.routing.proofs.LowestTrack.{LowestBit, lowest_bit, track_few}
@@ -172,3 +174,14 @@ module _ (t s b : ℕ) (tracks : Tracks s) where
       step false q =
           let n = eqb-false (bit (best_before s b) t) 1 q in
           go (omega (arith, bit_lt (best_before s b) t, n))
+
+-- ---- as the code tests and chooses
+
+-- t is among the best
+pub next_stays : (t s best : ℕ) → bit_and (best / 2 ^ t) 1 ≡ 1 → t ≡ next_track t s best
+next_stays t s best e = rw (eq-eqb _ _ (sym (shr_and_one best t) ∙ e))
+
+-- it is not
+pub next_goes : (t s best : ℕ) → t < 32 → (bit_and (best / 2 ^ t) 1 ≡ 1 → ⊥)
+    → count_trailing_zeros 32 (bit_or best (bit_and s (1 * 2 ^ t % 2 ^ 32))) ≡ next_track t s best
+next_goes t s best h n = rw (ne_eqb _ _ (λ e. n (shr_and_one best t ∙ e)), one_shl t 32 h)

@@ -2,12 +2,11 @@
 -- `answer_unlisted`, `answer_short`, `answer_routed`). There is an answer, whatever is given (`routes_there`), and only one
 -- (`routes_unique`). Assumes nothing.
 use mathlib.Core.Path.{◌≡◌, refl, sym, ap, ◌∙◌, subst}
-use mathlib.Core.Bool.{Bool, true, false, cond, not, false≢true}
-use mathlib.Core.List.{List, [], ◌∷◌, ◌++◌}
+use mathlib.Core.Bool.{Bool, true, false, not, false≢true}
+use mathlib.Core.List.{List}
 use Prim.Native.Nat.{ℕ, ◌≤◌, ◌<◌}
 use native.Mathlib.Omega.{arith}
-use lib.Dec.{ltb}
-use lib.ListN.{length, take, drop, replicate, length-append, length-drop}
+use lib.ListN.{length, take, drop, replicate}
 use lib.Seq.{take-append_seam}
 use borrow.Author.Tests.{lt-ltb, le-ltb, ltb-false, not-false}
 use Rattle.theory.specs.Lists.{over}
@@ -15,7 +14,6 @@ use Rattle.theory.proofs.Lists.{over_length}
 use Rattle.score.specs.declared.refusals.Refusal.{Refusal}
 use Rattle.score.specs.declared.refusals.Verdict.{Verdict}
 use Rattle.score.specs.declared.refusals.Verdict.TheVariants.{Accepted as Passed, Refused as Away}
-use Rattle.score.specs.Limits.{most_tracks}
 use Rattle.score.specs.Score.{score_of}
 use Rattle.score.specs.Refusals.{Row, verdict}
 use Rattle.score.proofs.Judging.{turned_away, gone_on}
@@ -28,7 +26,7 @@ use Rattle.asking.specs.Asking.{Accepted}
 use Rattle.asking.proofs.Rows.{accepted_clear}
 use Rattle.routing.specs.declared.answer.Routed.{Routed}
 use Rattle.routing.specs.declared.answer.Routed.TheVariants.{Changes, Refused}
-use Rattle.routing.specs.Route.{changes, way_as, TheRoute}
+use Rattle.routing.specs.Route.{changes, way_as}
 use Rattle.routing.specs.Routing.{is_listed, pair_rows, route_rows, Writes, Routes}
 use Rattle.routing.specs.TrackSets.{holders_at, least_of, chosen, FoundTracks, Playable, TracksThere}
 use Rattle.routing.proofs.TrackBits.{listed_length, listed_playable}

@@ -1,10 +1,9 @@
 -- What the call promises: `Routes`. Refusals 1 to 5, then 13 for a pair that is not listed, then 14 for a buffer that is too short; a
 -- refused call writes nothing. Otherwise the route stands in the first places of the lent buffer, and its changes are answered.
 -- `listed` computes whether a pair stands; that it is `StandsAs` of `search` is proved (`proofs/ListedPairs`). Assumes nothing.
-use Rattle.std.specs.Prelude.{◌≡◌, Bool, true, false, not, ◌&&◌, List, [], ◌∷◌, ◌++◌, ℕ, ◌+◌, ltb, ℤ, pos, length}
+use Rattle.std.specs.Prelude.{◌≡◌, Bool, true, false, not, ◌&&◌, List, [], ◌∷◌, ◌++◌, ℕ, ltb, pos, length}
 use Rattle.theory.specs.Lists.{over}
 use Rattle.score.specs.declared.refusals.Refusal.{Refusal}
-use Rattle.score.specs.declared.refusals.Verdict.{Verdict}
 use Rattle.score.specs.declared.refusals.Verdict.TheVariants.{Accepted as Passed, Refused as Away}
 use Rattle.score.specs.Score.{pitch, column, score_of, heard, onward}
 use Rattle.score.specs.Refusals.{Row, row, verdict}

@@ -9,6 +9,7 @@ use asking::MOST_NOTES;
 
 // The track after track t, for a note that the tracks of the set hold, with the best of them. If t is best it stays. Otherwise the
 // track has to change, here or later: the lowest that is best is taken, or t itself if it is lower and holds the note.
+#[tactic(auto, using(crate::proofs::NextTrack::next_stays, crate::proofs::NextTrack::next_goes))]
 fn next_track(t: u32, set: u32, best: u32) -> u32
     requires { (t < 32) × (0 < best) }
     ensures { result ≡ next_track t set best }
