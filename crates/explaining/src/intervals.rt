@@ -9,6 +9,7 @@ use score::{Pitch, interval_of};
 
 // How many intervals come before the first that is not in the set of its column; all of them where there is none. It goes from the
 // last to the first, as with notes.
+#[tactic(auto, using(crate::proofs::Sifting::interval_lacks, crate::proofs::Sifting::interval_there))]
 fn first_lacking(theme: &[u8], sets: &[u16], numbers: &[usize]) -> usize
     requires { SetsThere theme.now sets.now numbers.now }
     ensures { result ≡ had theme.now sets.now numbers.now }

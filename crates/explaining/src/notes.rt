@@ -23,6 +23,7 @@ fn column_at(cells: &[u8], tracks: usize, number: usize) -> &[u8]
 
 // How many notes come before the first that its column does not hold; all of them where there is none. It goes from the last note
 // to the first, so the first that fails is the one that stays.
+#[tactic(auto, using(crate::proofs::NoteByNote::note_fails, crate::proofs::NoteByNote::note_held))]
 pub fn first_failing(
     cells: &[u8],
     tracks: usize,

@@ -1,4 +1,4 @@
--- `crate::passed::among` meets its contract: the place of the bookmark's column among the numbers fits a number of a column.
+-- `search::passed::among` meets its contract: the place of the bookmark's column among the numbers fits a number of a column.
 use native.Mathlib.Omega.{arith}
 use Rattle.search.proofs.passed.Laws.{place_few}
 use Rattle.search.proofs.passed.among.Goals as goal

@@ -1,4 +1,4 @@
--- `crate::passed::passed_page` meets its contract: what was taken out (`Took`) is asked for along its columns.
+-- `search::passed::passed_page` meets its contract: what was taken out (`Took`) is asked for along its columns.
 use mathlib.Core.Path.{refl, sym}
 use lib.Seq.{length-take-le}
 use Rattle.search.proofs.passed.Laws.{taken, passed_turns}

@@ -1,5 +1,5 @@
--- `crate::passed::passed_quick_page` meets its contract: what was taken out (`Took`), with the entries of its columns, is asked for
--- along its columns.
+-- `search::passed::passed_quick_page` meets its contract: what was taken out (`Took`), with the entries of its columns, is
+-- asked for along its columns.
 use mathlib.Core.Path.{refl, sym}
 use lib.Seq.{length-take-le}
 use Rattle.search.proofs.passed.Laws.{taken, passed_quick_turns}
