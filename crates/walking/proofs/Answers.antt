@@ -22,7 +22,7 @@ use Rattle.ways.specs.declared.way.AnyWay.TheVariants.{Moved}
 use Rattle.ways.specs.declared.bookmark.Bookmark.{Bookmark}
 use Rattle.ways.specs.Bookmarks.{key_of}
 use Rattle.asking.specs.Limits.{most_notes}
-use Rattle.asking.specs.Asking.{Accepted, AcceptedSets, PlainAsks, QuickAsks}
+use Rattle.asking.specs.Asking.{Accepted, PlainAsks, QuickAsks}
 use Rattle.asking.specs.Refusals.{plain_rows, quick_rows}
 use Rattle.asking.proofs.Rows.{plain_clear, quick_clear}
 use Rattle.filter.specs.Limits.{word_bits}

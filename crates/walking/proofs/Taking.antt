@@ -2,25 +2,23 @@
 -- starts `rest` are left. Laws: start; few (the looks of a part are among those of the whole); part (a part of the rest is tried); over.
 -- What is tried from the first place on is a walk. Assumes nothing.
 use mathlib.Core.Path.{◌≡◌, refl, sym, ap, ◌∙◌}
-use mathlib.Core.Bool.{Bool, true, false, cond, ◌&&◌}
-use mathlib.Core.List.{List, [], ◌∷◌, ◌++◌, map-append}
-use Prim.Native.Nat.{ℕ, zero, suc, ◌+◌, ◌-◌, ◌≤◌, ◌<◌, zero-le}
+use mathlib.Core.Bool.{Bool, true, false, ◌&&◌}
+use mathlib.Core.List.{List, [], ◌++◌, map-append}
+use Prim.Native.Nat.{ℕ, ◌+◌, ◌-◌, ◌≤◌}
 use native.Mathlib.Omega.{arith}
-use lib.Dec.{ltb, eqb}
+use lib.Dec.{ltb}
 use lib.IntN.{ℤ, pos}
-use lib.ListN.{length, get_or, drop, length-append, length-map}
-use lib.Seq.{sets, length-sets, drop-cons, drop-nil}
+use lib.ListN.{length, length-append, length-map}
+use lib.Seq.{sets, length-sets}
 use borrow.Author.Tests.{ltb-false}
-use Rattle.theory.specs.Lists.{over}
 use Rattle.theory.specs.Pages.{page_hits, page_looks}
 use Rattle.theory.proofs.Lists.{sets_append, over_sets}
 use Rattle.theory.proofs.Going.{Going, Made, page_le, looks_append, going_start, going_part, going_full, going_end}
 use Rattle.ways.specs.declared.way.Way.{Way}
-use Rattle.ways.specs.Way.{span, shift_of}
-use Rattle.walking.specs.declared.walked.Spot.{Spot}
+use Rattle.ways.specs.Way.{shift_of}
 use Rattle.walking.specs.Starts.{Place, hit, looks}
 use Rattle.walking.specs.Found.{columns_of, shifts_of}
-use Rattle.walking.specs.Walk.{Fits, column_starts, at_column, list_starts, Stands, Tries, Walks}
+use Rattle.walking.specs.Walk.{Tries, Walks}
 
 pub record Taking (way : Way) (score : List (List ℕ)) (theme : List ℕ) (whole : List Place) (found : ℕ) (columns₀ : List ℕ) (shifts₀ : List ℤ)
     (columns : List ℕ) (shifts : List ℤ) (rest : List Place) (at spent : ℕ) : Type 0 where

@@ -1,17 +1,15 @@
 -- The walk along the starts, for the contracts of inner functions: what is asked of them, the next code of a column, what
 -- trying a column writes, what a whole walk writes. No public call promises any of this by itself. Assumes nothing.
-use Rattle.std.specs.Prelude.{◌≡◌, Bool, cond, List, [], ◌∷◌, ◌++◌, map, ℕ, ◌+◌, ◌-◌, ◌*◌, ◌%◌, ◌^◌, ◌≤◌, ◌<◌, leb, eqb, ℤ, length, get_or}
+use Rattle.std.specs.Prelude.{◌≡◌, Bool, cond, List, [], ◌∷◌, ◌++◌, map, ℕ, ◌+◌, ◌-◌, ◌*◌, ◌^◌, ◌≤◌, ◌<◌, eqb, ℤ, length, get_or}
 use Rattle.std.proofs.lemmas.List.Edits.{sets as stored}
-use Rattle.theory.specs.Lists.{over, count, count as numbers, first, lower}
+use Rattle.theory.specs.Lists.{over, count as numbers}
 use Rattle.theory.specs.Pages.{page_hits, page_looks, from}
-use Rattle.score.specs.declared.quantities.Pitch.{Pitch}
 use Rattle.score.specs.declared.quantities.Column.{Column}
-use Rattle.score.specs.Score.{pitch, column_at, column, columns_in, score_of}
+use Rattle.score.specs.Score.{column_at, column, columns_in, score_of}
 use Rattle.score.specs.Limits.{most_tracks, most_columns, highest_pitch}
 use Rattle.ways.specs.declared.way.Way.{Way}
-use Rattle.ways.specs.declared.way.Way.TheVariants.{Exact, Octave}
 use Rattle.ways.specs.declared.bookmark.Bookmark.{Bookmark}
-use Rattle.ways.specs.Way.{span, holds}
+use Rattle.ways.specs.Way.{span}
 use Rattle.ways.specs.Codes.{code_given}
 use Rattle.ways.specs.Bookmarks.{key_of}
 use Rattle.asking.specs.Limits.{most_notes}

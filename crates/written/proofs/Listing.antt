@@ -2,8 +2,8 @@
 -- of which the last note stands before k, and listed those at which the theme stands (`Along`). One column more decides one
 -- start more, or none yet (`along_hit`, `along_miss`); and where the columns end, or the room, the page is listed
 -- (`along_end`). Assumes nothing.
-use mathlib.Core.Path.{◌≡◌, refl, sym, ap, ◌∙◌, subst}
-use mathlib.Core.Bool.{Bool, true, false, cond, ◌&&◌}
+use mathlib.Core.Path.{◌≡◌, refl, sym, ap, ◌∙◌}
+use mathlib.Core.Bool.{Bool, true, false, ◌&&◌}
 use mathlib.Core.Logic.{◌↔◌}
 use mathlib.Core.List.{List, [], ◌∷◌, ◌++◌, map, map-append, append-nil}
 use Prim.Native.Nat.{ℕ, suc, ◌+◌, ◌-◌, ◌*◌, ◌%◌, ◌^◌, ◌≤◌, ◌<◌, zero-le}
@@ -12,11 +12,11 @@ use native.Mathlib.Decide.{dec_le}
 use native.Mathlib.Omega.{arith}
 use lib.Dec.{eqb, ltb}
 use lib.IntN.{ℤ, pos}
-use lib.ListN.{length, get_or, set, take, length-append, length-map}
+use lib.ListN.{length, set, take, length-append, length-map}
 use lib.Seq.{take_all, take-append_seam}
-use borrow.Author.Tests.{eqb-true, eqb-false, eq-eqb, ne_eqb, ltb-false}
+use borrow.Author.Tests.{eqb-true, eqb-false, ltb-false}
 use Rattle.theory.specs.Lists.{over, count}
-use Rattle.theory.specs.Pages.{hits, page_hits}
+use Rattle.theory.specs.Pages.{hits}
 use Rattle.theory.specs.Bits.{bit}
 use Rattle.theory.specs.Register.{step, reg_from}
 use Rattle.theory.proofs.Either.{either}

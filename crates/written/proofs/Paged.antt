@@ -1,18 +1,18 @@
 -- From the walk to the page: what is accepted is what the walk asks for, the starts that the search has left from a bookmark on
 -- are the columns behind those passed, and the answer that is read off the buffers is the page's. Assumes nothing.
 use mathlib.Core.Path.{◌≡◌, refl, sym, ap, ◌∙◌}
-use mathlib.Core.Bool.{Bool, true, false, cond, not, ◌&&◌, ◌||◌}
-use mathlib.Core.List.{List, [], ◌∷◌, ◌++◌, map}
+use mathlib.Core.Bool.{Bool, true, false, not, ◌&&◌, ◌||◌}
+use mathlib.Core.List.{List, [], ◌∷◌, map}
 use Prim.Native.Nat.{ℕ, ◌+◌, ◌-◌, ◌≤◌, ◌<◌}
 use native.Mathlib.Decide.{dec_le}
 use native.Mathlib.Omega.{arith}
 use lib.Dec.{leb, ltb, eqb}
 use lib.IntN.{ℤ, pos}
 use lib.ListN.{length, length-map}
-use lib.Signed.{le_z, lt_z}
-use borrow.Author.Tests.{le-leb, lt-leb, lt-ltb, le-ltb, eq-eqb, ne_eqb, ltb-true, ltb-false, eqb-true, eqb-false}
-use Rattle.theory.specs.Lists.{over, count, sum}
-use Rattle.theory.specs.Pages.{hits, page_hits, page_looks}
+use lib.Signed.{lt_z}
+use borrow.Author.Tests.{le-leb, lt-leb, ltb-true, ltb-false, eqb-true, eqb-false}
+use Rattle.theory.specs.Lists.{over, count}
+use Rattle.theory.specs.Pages.{hits, page_hits}
 use Rattle.theory.proofs.Either.{either}
 use Rattle.theory.proofs.Lists.{count_append, map_twice, none_over}
 use Rattle.theory.proofs.Pages.{hits_append}
@@ -39,13 +39,13 @@ use Rattle.asking.specs.Refusals.{plain_rows}
 use Rattle.asking.proofs.Rows.{plain_clear}
 use Rattle.paging.specs.declared.page.Turn.{Turn}
 use Rattle.paging.specs.declared.page.Page.TheVariants.{Turned, Refused}
-use Rattle.paging.specs.Lent.{Lent, lent, written}
+use Rattle.paging.specs.Lent.{lent, written}
 use Rattle.paging.specs.Order.{at_or_after}
 use Rattle.paging.specs.Search.{Search, left, found, spent}
 use Rattle.paging.specs.Page.{leaf, away}
 use Rattle.paging.specs.Turning.{read_turn}
 use Rattle.paging.proofs.Turnings.{away_pages, went_pages}
-use Rattle.written.specs.Written.{stands_at, written_search, written_page, WrittenPages}
+use Rattle.written.specs.Written.{written_search, written_page, WrittenPages}
 use Rattle.written.specs.Walk.{passed, Walkable, shown_from, ListsFrom}
 
 -- ---- what is left from a bookmark on

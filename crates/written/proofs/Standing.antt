@@ -10,13 +10,13 @@ use native.Mathlib.Omega.{arith}
 use lib.Dec.{leb, eqb}
 use lib.ListN.{length, get_or, take, drop}
 use lib.Seq.{get_or-drop}
-use borrow.Author.Tests.{le-leb, lt-leb, leb-true, leb-false, ne_eqb}
+use borrow.Author.Tests.{leb-false, ne_eqb}
 use Rattle.theory.specs.Lists.{some}
 use Rattle.theory.specs.Bits.{bit}
 use Rattle.theory.proofs.Either.{either}
 use Rattle.theory.proofs.Register.{Diagonal}
 use Rattle.score.specs.Limits.{highest_pitch}
-use Rattle.score.specs.Score.{column_at, columns_in, score_of, columns_from, pitches}
+use Rattle.score.specs.Score.{column_at, columns_in, score_of, columns_from}
 use Rattle.score.proofs.Columns.{cut_at}
 use Rattle.written.specs.Written.{has, sounds, stands_at}
 use Rattle.written.specs.Words.{word_at}

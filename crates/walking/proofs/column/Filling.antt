@@ -2,24 +2,23 @@
 -- turn takes one of them, and a hit is written behind those found. Assumes nothing.
 use mathlib.Core.Path.{◌≡◌, refl, sym, ap, ◌∙◌}
 use mathlib.Core.Bool.{Bool, true, false, cond}
-use mathlib.Core.List.{List, [], ◌∷◌, ◌++◌, map-append}
+use mathlib.Core.List.{List, [], ◌∷◌}
 use Prim.Native.Nat.{ℕ, zero, suc, ◌+◌, ◌-◌, ◌*◌, ◌≤◌, ◌<◌, zero-le}
 use native.Mathlib.Nat.{add-zero}
 use native.Mathlib.Omega.{arith}
 use lib.IntN.{ℤ}
-use lib.ListN.{length, get_or, take, drop, set, length-append, length-map, length-set}
+use lib.ListN.{length, get_or, take, drop}
 use Rattle.theory.specs.Lists.{count, first}
-use Rattle.theory.specs.Pages.{hits, page_hits, page_looks}
+use Rattle.theory.specs.Pages.{page_hits, page_looks}
 use Rattle.theory.proofs.Lowest.{hits_first, hits_none}
 use Rattle.score.specs.Score.{pitch, column_at, column, columns_in, score_of}
 use Rattle.score.proofs.Columns.{cut_at}
 use Rattle.ways.specs.declared.way.Way.{Way}
-use Rattle.ways.specs.Way.{span, holds, shift_of}
+use Rattle.ways.specs.Way.{span, holds}
 use Rattle.hits.specs.Writing.{start_codes, fitting, Puts}
 use Rattle.hits.proofs.Fitting.{puts_hit, puts_miss}
 use Rattle.score.specs.Score.{note}
 use Rattle.walking.specs.Starts.{Place, place, hit, looks}
-use Rattle.walking.specs.Found.{columns_of, shifts_of}
 use Rattle.holding.specs.Next.{next_code, next_given}
 use Rattle.holding.proofs.Given.{next_given_lem}
 use Rattle.walking.specs.Walk.{Ready, Fits, Trial, column_starts, Tries}

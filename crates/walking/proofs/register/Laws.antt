@@ -11,7 +11,6 @@ use lib.Dec.{eqb, ltb}
 use lib.ListN.{length, set, length-append}
 use borrow.Author.Tests.{ltb-false}
 use Rattle.theory.specs.Lists.{count, over}
-use Rattle.theory.specs.Pages.{hits}
 use Rattle.theory.specs.Bits.{bit}
 use Rattle.theory.specs.Register.{step, reg_from}
 use Rattle.theory.proofs.Lists.{count_length, count_append, over_more, over_length}

@@ -112,7 +112,7 @@ module _ (way : Way) (p : Pitch) (m : ℕ) where
       ap (λ (n : ℕ). hits (λ code. holds way code p c) (count 0 n)) e
       ∙ ap (hits (λ code. holds way code p c)) (count_append 0 x (span way - x) ∙ ap (λ (n : ℕ). count 0 x ++ count n (span way - x)) g)
       ∙ hits_append (λ code. holds way code p c) (count 0 x) (count x (span way - x)) in
-      rw (parts, map-append, append_assoc)
+      rw (parts, map-append (place i), append_assoc)
       (from_past key low (map (place i) (codes way p c x) ++ D)
       ∙ from_all key (i * 256 + x) (map (place i) (codes way p c x) ++ D)
       (rising_append key (i * 256 + x) (suc i * 256) (map (place i) (codes way p c x)) D

@@ -2,7 +2,7 @@
 -- starts kept from there on are left. Which columns are kept is any choice. Laws: start; of a turn, in which some columns are
 -- listed: asks (what trying them asks for), bound and on (they are tried); over. Then where each walk begins, and what each
 -- lists. Assumes nothing.
-use mathlib.Core.Path.{◌≡◌, refl, sym, ap, ◌∙◌, subst}
+use mathlib.Core.Path.{◌≡◌, sym, ap, ◌∙◌, subst}
 use mathlib.Core.Bool.{Bool, true, false, cond, ◌&&◌}
 use mathlib.Core.List.{List, ◌∷◌, ◌++◌}
 use Prim.Native.Nat.{ℕ, zero, suc, ◌+◌, ◌-◌, ◌*◌, ◌^◌, ◌≤◌, ◌<◌, zero-le}
@@ -33,7 +33,7 @@ use Rattle.walking.specs.Starts.{Place, key, starts, hit, looks}
 use Rattle.filter.specs.Limits.{word_bits}
 use Rattle.walking.specs.Candidates.{candidate, quick_starts}
 use Rattle.walking.specs.Scan.{ListsCandidates}
-use Rattle.walking.specs.Walk.{Ready, Fits, end_of, begun, gone_on, list_starts, ListsEvery, Tries, Along, Walks}
+use Rattle.walking.specs.Walk.{Ready, end_of, begun, gone_on, list_starts, ListsEvery, Tries, Along, Walks}
 use Rattle.walking.proofs.Answers.{accepted_ready}
 use Rattle.walking.proofs.Order.{starts_rising}
 use Rattle.walking.proofs.LookBound.{most_lt, sum_looks_le}

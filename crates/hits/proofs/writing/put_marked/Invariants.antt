@@ -1,4 +1,5 @@
--- The invariant and the measure.
+-- The invariant is `Putting`: what is written and what is still marked are all that was marked. The measure is what is still
+-- marked, as a number.
 use Rattle.hits.proofs.writing.Putting.{Putting}
 use Rattle.hits.proofs.writing.put_marked.Given as goal
 

@@ -1,4 +1,4 @@
--- The invariant and the measure.
+-- The invariant: no cell passed is the pitch. The measure is the cells left.
 use Prim.Native.Nat.{◌-◌}
 use lib.Dec.{eqb}
 use lib.ListN.{length}

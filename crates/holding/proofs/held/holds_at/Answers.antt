@@ -1,3 +1,4 @@
+-- `holding::held::holds_at` meets its contract: exact seeks a pitch, if the moved note is one; octave seeks its class.
 use mathlib.Core.Path.{sym, ◌∙◌}
 use Rattle.ways.proofs.Holding.{holds_below, holds_above, holds_exact, holds_octave}
 use Rattle.holding.proofs.held.holds_at.Goals as goal

@@ -1,3 +1,4 @@
+-- `holding::next::lowest_code` meets its contract.
 use Rattle.holding.proofs.next.Lowering.{low_end}
 use Rattle.holding.proofs.next.lowest_code.Goals as goal
 

@@ -1,4 +1,4 @@
--- The invariant and the measure.
+-- The invariant: the least code found and what is left of the column give the column's next code. The measure is the cells left.
 use Prim.Native.Nat.{◌-◌}
 use lib.ListN.{length}
 use Rattle.holding.proofs.next.Lowering.{Lowering}

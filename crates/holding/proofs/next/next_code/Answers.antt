@@ -1,3 +1,4 @@
+-- `holding::next::next_code` meets its contract: each way out is a case of the definition.
 use Rattle.holding.proofs.Given.{no_pitch, past_span, found_next}
 use Rattle.holding.proofs.next.next_code.Goals as goal
 

@@ -1,4 +1,4 @@
--- The invariant and the measure.
+-- The invariant is `Gathering` of the one number: the cells so far have their bits. The measure is the cells left.
 use Prim.Native.Nat.{◌-◌}
 use lib.ListN.{length}
 use Rattle.masks.specs.Masks.{value}

@@ -1,3 +1,4 @@
+-- `masks::moving::moved` meets its contract: exact moves by the distance from the first note, octave by the class of the note.
 use mathlib.Core.Path.{◌∙◌}
 use native.Mathlib.Nat.{mod-lt, zero-lt-suc}
 use native.Mathlib.Omega.{arith}

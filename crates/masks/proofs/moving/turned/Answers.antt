@@ -1,3 +1,4 @@
+-- `masks::moving::turned` meets its contract.
 use Rattle.masks.proofs.Shifting.{turned_round}
 use Rattle.masks.proofs.moving.turned.Goals as goal
 

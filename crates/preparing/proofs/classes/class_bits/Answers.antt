@@ -1,3 +1,4 @@
+-- `preparing::classes::class_bits` meets its contract.
 use Rattle.preparing.proofs.ClassSets.{tabled_start}
 use Rattle.preparing.proofs.classes.class_bits.Goals as goal
 

@@ -1,4 +1,4 @@
--- The invariant and the measure.
+-- The invariant: the bits below the cell are made. The measure is the pitches left.
 use Prim.Native.Nat.{◌-◌}
 use Rattle.preparing.proofs.ClassSets.{Tabled}
 use Rattle.preparing.proofs.classes.class_bits.Given as goal

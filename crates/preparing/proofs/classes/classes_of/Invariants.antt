@@ -1,4 +1,4 @@
--- The invariant and the measure.
+-- The invariant: the mask has the classes of the cells passed. The measure is the cells left.
 use Prim.Native.Nat.{◌-◌}
 use lib.ListN.{length}
 use Rattle.preparing.proofs.ClassSets.{Gathered}

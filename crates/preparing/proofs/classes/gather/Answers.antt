@@ -1,3 +1,4 @@
+-- `preparing::classes::gather` meets its contract.
 use native.Mathlib.Omega.{arith}
 use Rattle.preparing.proofs.Filling.{gathering_end}
 use Rattle.preparing.proofs.classes.gather.Goals as goal

@@ -1,4 +1,4 @@
--- The invariant and the measure.
+-- The invariant: the class sets of the columns after the first, up to k, are stored. The measure is the columns left.
 use Prim.Native.Nat.{◌-◌}
 use lib.ListN.{length}
 use Rattle.preparing.proofs.Filling.{Gathering}

@@ -1,3 +1,4 @@
+-- `preparing::classes::looked_up` meets its contract.
 use native.Mathlib.Omega.{arith}
 use Rattle.preparing.proofs.ClassSets.{gathered_start, gathered_look, gathered_end}
 use Rattle.preparing.proofs.classes.looked_up.Goals as goal

@@ -1,4 +1,4 @@
--- The invariant and the measure.
+-- The invariant: the flag says whether some class set passed is that of an empty column. The measure is the class sets left.
 use Prim.Native.Nat.{◌-◌}
 use lib.ListN.{length}
 use Rattle.theory.proofs.Scans.{Flagged}

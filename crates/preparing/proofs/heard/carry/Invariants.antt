@@ -1,4 +1,4 @@
--- The invariant and the measure.
+-- The invariant: all places but those left are stored, and the class set to carry on is at hand. The measure is the places left.
 use Rattle.preparing.proofs.Carrying.{Carrying}
 use Rattle.preparing.proofs.heard.carry.Given as goal
 

@@ -1,3 +1,5 @@
+-- `preparing::sets::fill` meets its contract: the class sets that are gathered are those of the score. Where one of them is 0
+-- they are turned to what is carried, elsewhere each to the next, which is the same.
 use mathlib.Core.Path.{sym, ◌∙◌}
 use Rattle.preparing.proofs.Carrying.{full_carried}
 use Rattle.preparing.proofs.Filling.{turned_sets}

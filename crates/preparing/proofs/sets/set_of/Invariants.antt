@@ -1,4 +1,4 @@
--- The invariant and the measure.
+-- The invariant: what is reached from the classes below k. The measure is the classes left.
 use Prim.Native.Nat.{◌-◌}
 use Rattle.preparing.proofs.Turning.{Turning}
 use Rattle.preparing.proofs.sets.set_of.Given as goal

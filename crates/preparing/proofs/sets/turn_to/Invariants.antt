@@ -1,4 +1,5 @@
--- The invariant and the measure.
+-- The invariant: the first k are sets, the others still class sets, and the class set before them is at hand. The measure is the
+-- class sets left.
 use Prim.Native.Nat.{◌-◌}
 use lib.ListN.{length}
 use Rattle.preparing.proofs.Filling.{Turns}

@@ -1,4 +1,4 @@
--- The invariant and the measure.
+-- The invariant: the flag says whether some cell passed is bad. The measure is the cells left.
 use Prim.Native.Nat.{◌-◌}
 use lib.ListN.{length}
 use Rattle.theory.proofs.Scans.{Flagged}

@@ -1,3 +1,4 @@
+-- `summing::summary::summary_of` meets its contract.
 use Rattle.summing.proofs.Making.{kept_start, kept_more, kept_end}
 use Rattle.std.proofs.Common.{arith}
 use Rattle.summing.proofs.summary.summary_of.Goals as goal

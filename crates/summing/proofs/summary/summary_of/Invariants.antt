@@ -1,4 +1,5 @@
--- The invariant and the measure.
+-- The invariant: what is kept has the bits of the summary, but for those that the sets left take away. The measure is the sets
+-- left.
 use Prim.Native.Nat.{◌-◌}
 use lib.ListN.{length}
 use Rattle.summing.proofs.Making.{Kept}

@@ -1,4 +1,4 @@
--- The invariant and the measure.
+-- The invariant is `Following`: the notes so far were there at the starts that are alive. The measure is the notes left.
 use Prim.Native.Nat.{◌-◌}
 use lib.ListN.{length}
 use Rattle.masks.specs.Masks.{value}

@@ -1,4 +1,4 @@
--- The invariant and the measure.
+-- The invariant is `Listing`: the candidates among the columns passed are listed. The measure is the columns left.
 use Prim.Native.Nat.{◌+◌, ◌-◌, ◌≤◌}
 use Rattle.walking.proofs.register.Laws.{Listing}
 use Rattle.walking.proofs.register.list_candidates.Given as goal

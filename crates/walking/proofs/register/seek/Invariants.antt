@@ -1,4 +1,4 @@
--- The invariant and the measure.
+-- The invariant: the columns before column j + i are decided, and none is a candidate. The measure is the columns left.
 use mathlib.Core.List.{[]}
 use Prim.Native.Nat.{◌+◌, ◌-◌}
 use Rattle.walking.specs.Scan.{Decides}

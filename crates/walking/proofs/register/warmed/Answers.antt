@@ -1,3 +1,4 @@
+-- The register begins all ones, takes one word more at each turn, and at the end has taken them all.
 use mathlib.Core.Path.{sym}
 use native.Mathlib.Omega.{arith}
 use Rattle.theory.proofs.Register.{reg_from_none, reg_from_turn}

@@ -1,4 +1,4 @@
--- The invariant and the measure.
+-- The invariant: the register has taken the words from `from` up to `at`. The measure is the words left.
 use mathlib.Core.Path.{◌≡◌}
 use Prim.Native.Nat.{◌-◌, ◌≤◌}
 use Rattle.theory.specs.Register.{reg_from}

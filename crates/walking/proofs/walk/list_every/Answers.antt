@@ -1,3 +1,4 @@
+-- A turn stores the next column, for which the list has a place.
 use native.Mathlib.Omega.{arith}
 use Rattle.walking.proofs.walk.Along.{count_turn}
 use Rattle.walking.proofs.walk.list_every.Goals as goal

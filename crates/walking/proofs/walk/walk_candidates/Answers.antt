@@ -1,91 +1,67 @@
+-- A turn lists candidates from the spot on, walks along them, and goes on behind the columns that were decided.
 use mathlib.Core.Path.{refl, ap, ◌∙◌}
+use Prim.Native.Nat.{◌<◌}
 use native.Mathlib.Omega.{arith}
+use borrow.Author.Tests.{ltb-true}
+use Rattle.theory.proofs.Either.{both_left}
 use Rattle.walking.specs.declared.walked.Spot.{Spot}
-use Rattle.walking.proofs.Answers.{accepted_ready}
+use Rattle.walking.proofs.Answers.{accepted_ready, asked_lent, asked_small}
 use Rattle.walking.proofs.ring.Laws.{cached_none}
 use Rattle.walking.proofs.register.Laws.{warmed_filters}
 use Rattle.walking.proofs.walk.Walking.{begun_key, begun_first, quick_start, turn_bound, turn_on, walk_over}
-use Rattle.walking.proofs.walk.Walking.{candidates_long, candidates_turn}
+use Rattle.walking.proofs.walk.Walking.{candidates_long, candidates_turn, turn_asks}
 use Rattle.walking.proofs.walk.walk_candidates.Goals as goal
 
--- OLDHELPER -- what is known at entry, and from the loop on
--- OLDHELPER abbrev entered : tie.After-begin invariant-loop decreases-loop → tie.Start invariant-loop decreases-loop
--- OLDHELPER entered c = c.before.before.before.before.before.before
-
--- OLDHELPER abbrev begun : tie.At-loop invariant-loop decreases-loop → tie.After-begin invariant-loop decreases-loop
--- OLDHELPER begun c = c.before.before.before.before.before
-
--- OLDHELPER abbrev at-loop : tie.After-wanted-of invariant-loop decreases-loop → tie.At-loop invariant-loop decreases-loop
--- OLDHELPER at-loop c = turning c.before.before
-
--- OLDHELPER abbrev listing : tie.After-ring invariant-loop decreases-loop → tie.After-list-candidates invariant-loop decreases-loop
--- OLDHELPER listing c = c.before.before.before.before.before.before.before
-
--- OLDHELPER abbrev tried : tie.After-struct-known5 invariant-loop decreases-loop → tie.After-walk-along invariant-loop decreases-loop
--- OLDHELPER tried c = c.before.before.before.before.before
-
--- OLDHELPER -- the columns that are left end where the theme has no more room
--- OLDHELPER ended : (c : tie.After-wanted-of invariant-loop decreases-loop) → let l = at-loop c in let s = entered (begun l) in
--- OLDHELPER     l.loop.spot.column.0 + l.loop.left ≡ end_of s.args.cells.now s.args.h s.args.theme.now
--- OLDHELPER ended c = omega (arith, more c.before.before, (at-loop c).loop.invariant.1)
-
 pub columns_left-left-requires : goal.columns_left-left-requires
-columns_left-left-requires c = accepted_ready (entered c).requires.plain.accepted
+columns_left-left-requires c = accepted_ready c.requires.plain.accepted
 
 pub returns-then-left-eq0 : goal.returns-then-left-eq0
 returns-then-left-eq0 c =
-    let k = c in
-    let b = k in
-    let p = (entered b).requires.plain in
-    let t = quick_start p b.begin.ensures (entered b).args.table.now (entered b).args.sets.now in
-    rw (← (begun_key p b.begin.ensures)) (walk_over t k.columns_left.ensures (rw c.if1.true))
+    let p = c.requires.plain in
+    let b = c.begin-spot.ensures in
+    let t = quick_start p b c.args.table.now c.args.sets.now in
+    rw (← (begun_key p b)) (walk_over t c.columns_left-left.ensures (rw c.if-left-eq0.true))
 
 pub warmed-register-requires-clause-by_index : goal.warmed-register-requires-clause-by_index
-warmed-register-requires-clause-by_index c = ?
+warmed-register-requires-clause-by_index c = asked_small c.requires
 
 pub loop-left-init : goal.loop-left-init
 loop-left-init c =
-    let k = c in
-    let b = k in
-    let p = (entered b).requires.plain in (
-      quick_start p b.begin.ensures _ _,
-      k.columns_left.ensures,
-      warmed_filters _ _ _ _ _ p.accepted.notes_some (begun_first p b.begin.ensures) c.warmed.ensures,
+    let p = c.requires.plain in
+    let b = c.begin-spot.ensures in (
+      quick_start p b _ _,
+      c.columns_left-left.ensures,
+      warmed_filters _ _ _ _ _ p.accepted.notes_some (begun_first p b) c.warmed-register.ensures,
       cached_none _ _ _,
       refl,
     )
 
 pub list_candidates-l-requires-clause-lent : goal.list_candidates-l-requires-clause-lent
-list_candidates-l-requires-clause-lent c = ?
+list_candidates-l-requires-clause-lent c =
+    let more : 0 < c.loop-left.left = ltb-true _ _ (both_left _ _ c.loop-left-test.true) in
+    asked_lent c.requires c.loop-left.invariant.0.first (omega arith) (omega (arith, c.loop-left.invariant.1))
 
 pub walk_along-t-requires-clause-along : goal.walk_along-t-requires-clause-along
-walk_along-t-requires-clause-along c = ?
+walk_along-t-requires-clause-along c = turn_asks (candidates_turn c.list_candidates-l.ensures c.loop-left.invariant.0 refl (omega (arith, c.loop-left.invariant.1)))
 
 pub overflow_add-looks : goal.overflow_add-looks
 overflow_add-looks c =
-    let w = tried c in
-    let l = listing w in
-    let a = l in
-    let u = candidates_turn l.list_candidates.ensures (at-loop a).loop-left.invariant.0 refl (omega (arith, ended a)) in
-    record { fits = turn_bound u w.walk_along.ensures.0 }
+    let u = candidates_turn c.list_candidates-l.ensures c.loop-left.invariant.0 refl (omega (arith, c.loop-left.invariant.1)) in
+    record { fits = turn_bound u c.walk_along-t.ensures.0 }
 
 pub loop-left-preserved : goal.loop-left-preserved
 loop-left-preserved c =
-    let w = tried c in
-    let l = listing w in
-    let d = l.list_candidates.ensures in
-    let a = l in
-    let i = (at-loop a).loop-left.invariant in
-    let u = candidates_turn d i.0 refl (omega (arith, ended a)) in (
-      turn_on u w.walk_along.ensures.0 c.go_on.ensures,
-      omega (arith, i.1, ap (λ (s : Spot). s.column.0) c.go_on.ensures),
-      rw c.go_on.ensures d.decides.goes_on,
-      w.walk_along.ensures.1,
+    let d = c.list_candidates-l.ensures in
+    let i = c.loop-left.invariant in
+    let u = candidates_turn d i.0 refl (omega (arith, i.1)) in (
+      turn_on u c.walk_along-t.ensures.0 c.go_on-spot.ensures,
+      omega (arith, i.1, ap (λ (s : Spot). s.column.0) c.go_on-spot.ensures),
+      rw c.go_on-spot.ensures d.decides.goes_on,
+      c.walk_along-t.ensures.1,
       candidates_long d ∙ i.4,
     )
 
 pub returns : goal.returns
 returns c =
-    let l = c in
-    let b = begun l in
-    rw (← (begun_key (entered b).pre.plain b.begin.ensures)) (walk_over l.loop-left.invariant.0 l.loop-left.invariant.1 c.if2.false)
+    rw (← (begun_key c.requires.plain c.begin-spot.ensures))
+    (walk_over c.loop-left.invariant.0 c.loop-left.invariant.1 c.loop-left-test.false)
