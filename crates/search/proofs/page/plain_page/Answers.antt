@@ -1,28 +1,44 @@
-use Rattle.search.proofs.page.Choosing.{along_pages, plain_refused}
+-- `search::page::plain_page` meets its contract: along all columns, turned away, or over the empty columns.
+use Rattle.std.proofs.Common.{ℕ}
+use native.Mathlib.Omega.{arith}
+use lib.ListN.{length-replicate}
+use Rattle.score.specs.Limits.{most_cells}
+use Rattle.search.proofs.page.Choosing.{cells_most, leaves, along_pages, plain_checked, plain_refused}
 use Rattle.search.proofs.page.plain_page.Goals as goal
 
 pub returns-then-goes_along : goal.returns-then-goes_along
 returns-then-goes_along c =
-    let g = c in
-    let a = g.args in
-    along_pages a.cells.now a.tracks a.theme.now a.way a.bookmark a.columns.now a.shifts.now g.goes_along.ensures
-    c.if-goes_along.true c.along_page_lem.ensures
+    let a = c.args in
+    along_pages a.cells.now a.tracks a.theme.now a.way a.bookmark a.columns.now a.shifts.now c.goes_along.ensures
+    c.if-goes_along.true c.along_page.ensures
 
 pub returns-in-Refused : goal.returns-in-Refused
 returns-in-Refused c =
-    let c8 = c in
-    let a = c8.args in
+    let a = c.args in
     plain_refused a.cells.now a.tracks a.theme.now a.way a.bookmark a.columns.now a.shifts.now
-    c.check_plain.ensures c.e.given.1
+    c.check_plain.ensures c.in-Refused.is
 
 pub passed_page-requires-clause-plain_asks : goal.passed_page-requires-clause-plain_asks
-passed_page-requires-clause-plain_asks c = ?
+passed_page-requires-clause-plain_asks c =
+    let a = c.args in
+    plain_checked a.cells.now a.tracks a.theme.now a.way a.bookmark a.columns.now a.shifts.now c.check_plain.ensures c.in_default.is
 
 pub passed_page-requires-clause-leaves : goal.passed_page-requires-clause-leaves
-passed_page-requires-clause-leaves c = ?
+passed_page-requires-clause-leaves c =
+    let a = c.args in
+    let k = plain_checked a.cells.now a.tracks a.theme.now a.way a.bookmark a.columns.now a.shifts.now
+    c.check_plain.ensures c.in_default.is in
+    leaves k.accepted c.goes_along.ensures c.if-goes_along.false (omega (arith, length-replicate {A = ℕ} 2048 0))
 
 pub passed_page-requires-2-clause-plain_asks : goal.passed_page-requires-2-clause-plain_asks
-passed_page-requires-2-clause-plain_asks c = ?
+passed_page-requires-2-clause-plain_asks c =
+    let a = c.args in
+    plain_checked a.cells.now a.tracks a.theme.now a.way a.bookmark a.columns.now a.shifts.now c.check_plain.ensures c.in_default.is
 
 pub passed_page-requires-2-clause-leaves : goal.passed_page-requires-2-clause-leaves
-passed_page-requires-2-clause-leaves c = ?
+passed_page-requires-2-clause-leaves c =
+    let a = c.args in
+    let k = plain_checked a.cells.now a.tracks a.theme.now a.way a.bookmark a.columns.now a.shifts.now
+    c.check_plain.ensures c.in_default.is in
+    leaves k.accepted c.goes_along.ensures c.if-goes_along.false
+    (omega (arith, cells_most k.accepted, length-replicate {A = ℕ} most_cells 0))
