@@ -1,15 +1,14 @@
 -- A score without an empty column has the pairs that it had: a pair stands exactly where each note is in the column after the one
 -- before (`full_stands`). The idea: the columns with a pitch from column j on are then the columns from column j on. Assumes nothing.
 use mathlib.Core.Path.{◌≡◌, sym, ap, ◌∙◌, subst}
-use mathlib.Core.Bool.{true, false}
+use mathlib.Core.Bool.{false}
 use mathlib.Core.Logic.{◌↔◌}
 use mathlib.Core.List.{List, []}
-use Prim.Native.Nat.{ℕ, ◌+◌, ◌-◌, ◌≤◌, ◌<◌}
+use Prim.Native.Nat.{ℕ, ◌+◌, ◌-◌, ◌≤◌}
 use native.Mathlib.Omega.{arith}
-use lib.ListN.{length, get_or, drop, length-drop}
+use lib.ListN.{length, get_or, length-drop}
 use lib.Seq.{get_or-drop}
-use Rattle.theory.proofs.Lists.{some_none}
-use Rattle.score.specs.Score.{column_at, column, heard, has_empty, columns_from, onward, note}
+use Rattle.score.specs.Score.{column_at, column, has_empty, columns_from, onward, note}
 use Rattle.score.proofs.Heard.{full_heard, full_drop, full_at}
 use Rattle.ways.specs.declared.way.Way.{Way}
 use Rattle.ways.specs.declared.bookmark.Pair.{Pair}

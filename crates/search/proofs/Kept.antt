@@ -4,8 +4,8 @@
 use mathlib.Core.Path.{◌≡◌, refl, sym, ap, ap₂, ◌∙◌, subst}
 use mathlib.Core.Bool.{Bool, true, false, cond, ◌&&◌, ◌||◌, true≢false}
 use mathlib.Core.List.{List, [], ◌∷◌, ◌++◌}
-use Prim.Native.Nat.{ℕ, zero, suc, ◌+◌, ◌-◌, ◌*◌, ◌/◌, ◌%◌, ◌≤◌, ◌<◌}
-use native.Mathlib.Nat.{suc-mul, zero-mul, not-suc-le-zero, le_of_suc-le-suc, mul-le-mul_right, mul-div_cancel, div-add-mod'}
+use Prim.Native.Nat.{ℕ, zero, suc, ◌+◌, ◌-◌, ◌*◌, ◌/◌, ◌≤◌, ◌<◌}
+use native.Mathlib.Nat.{suc-mul, zero-mul, mul-le-mul_right, mul-div_cancel, div-add-mod'}
 use native.Mathlib.Decide.{dec_lt}
 use native.Mathlib.Omega.{arith}
 use lib.Dec.{T, leb, ltb, eqb}
@@ -15,11 +15,11 @@ use lib.Seq.{take-append_seam, drop-append_seam}
 use lib.Signed.{le_z, ◌≤ℤ◌}
 use borrow.Author.Tests.{lt-ltb, le-ltb, eq-eqb, ne_eqb, leb-true, leb-false}
 use Rattle.theory.specs.Lists.{some, first, join}
-use Rattle.theory.proofs.Lists.{first_le, first_before, first_there, some_none, none_some}
-use Rattle.score.specs.Score.{column_at, cut, columns_in, score_of, heard, heard_of, heard_from, number_of}
+use Rattle.theory.proofs.Lists.{first_le, first_before, first_there}
+use Rattle.score.specs.Score.{cut, columns_in, score_of, heard_of, heard_from, number_of}
 use Rattle.score.specs.Refusals.{bad_cell}
 use Rattle.score.proofs.Columns.{cut_at, columns_whole, column_length, score_length}
-use Rattle.score.proofs.Heard.{heard_length, number_at, number_rises, number_is}
+use Rattle.score.proofs.Heard.{heard_length, number_at, number_rises}
 use Rattle.ways.specs.declared.bookmark.Pair.{Pair}
 use Rattle.ways.specs.declared.bookmark.Bookmark.{Bookmark}
 use Rattle.ways.specs.Way.{Range}

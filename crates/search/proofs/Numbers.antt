@@ -1,6 +1,6 @@
 -- The columns with a pitch under the numbers of the score: the numbers rise (`numbers_rise`), and the columns are no longer than
 -- those of the score (`heard_long`). Assumes nothing.
-use mathlib.Core.Path.{◌≡◌, ap, ◌∙◌, subst}
+use mathlib.Core.Path.{ap, subst}
 use mathlib.Core.List.{List, []}
 use Prim.Native.Nat.{ℕ, ◌-◌, ◌≤◌, ◌<◌}
 use native.Mathlib.Decide.{dec_lt}

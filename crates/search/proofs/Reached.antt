@@ -1,33 +1,32 @@
 -- From the walk's words to the page's. A walk goes along places by their keys; a page shows pairs. What a walk has left from a bookmark's key on
 -- is what the search has left from the bookmark on (`left_reached`), so what it has found and written is what the page shows and
 -- holds. Assumes nothing.
-use mathlib.Core.Path.{◌≡◌, refl, sym, ap, ◌∙◌}
+use mathlib.Core.Path.{◌≡◌, ◌∙◌}
 use mathlib.Core.Bool.{Bool}
 use mathlib.Core.List.{List, map, Memᴰ as In}
-use Prim.Native.Nat.{ℕ, ◌≤◌, ◌<◌}
+use Prim.Native.Nat.{ℕ, ◌<◌}
 use native.Mathlib.Omega.{arith}
 use lib.Dec.{leb}
 use lib.IntN.{ℤ}
-use lib.ListN.{length, length-map}
+use lib.ListN.{length}
 use Rattle.theory.specs.Lists.{over}
-use Rattle.theory.specs.Pages.{hits, page_hits, Rising, from}
+use Rattle.theory.specs.Pages.{hits, Rising, from}
 use Rattle.theory.proofs.Hits.{from_keys, hits_same}
 use Rattle.theory.proofs.Lists.{map_twice}
 use Rattle.theory.proofs.Members.{in_hits, rising_hits}
 use Rattle.ways.specs.declared.way.Way.{Way}
 use Rattle.ways.specs.declared.bookmark.Pair.{Pair}
 use Rattle.ways.specs.declared.bookmark.Bookmark.{Bookmark}
-use Rattle.ways.specs.Way.{span, range_of, shift_of}
+use Rattle.ways.specs.Way.{span, range_of}
 use Rattle.ways.specs.Bookmarks.{key_of}
 use Rattle.asking.specs.Asking.{InRange}
-use Rattle.paging.specs.Lent.{Lent, lent, written}
+use Rattle.paging.specs.Lent.{lent, written}
 use Rattle.paging.specs.Order.{at_or_after}
-use Rattle.paging.specs.Search.{left, found, spent}
+use Rattle.paging.specs.Search.{left}
 use Rattle.paging.proofs.Keys.{span_lt, key_order}
-use Rattle.walking.specs.Starts.{Place, key, starts, hit}
+use Rattle.walking.specs.Starts.{Place, key, starts}
 use Rattle.walking.specs.Candidates.{candidate, quick_starts}
 use Rattle.walking.specs.Found.{columns_of, shifts_of}
-use Rattle.walking.specs.Walk.{Walks}
 use Rattle.walking.proofs.Order.{starts_rising, in_starts}
 use Rattle.search.specs.Pairs.{pair_at, along_search}
 use Rattle.search.specs.Along.{quick_along}

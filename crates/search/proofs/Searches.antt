@@ -1,8 +1,7 @@
 -- The plain and the quick searches are right searches, and their calls turn the pages of them: all that `paging` asks. The
 -- quick search leaves out starts of the plain one. Assumes nothing.
-use mathlib.Core.Path.{◌≡◌, refl, sym, ap, ◌∙◌, subst}
-use mathlib.Core.Bool.{Bool}
-use mathlib.Core.List.{List, Memᴰ as In}
+use mathlib.Core.Path.{◌≡◌, sym, ◌∙◌, subst}
+use mathlib.Core.List.{List}
 use Prim.Native.Nat.{ℕ, ◌≤◌, ◌<◌}
 use native.Mathlib.Omega.{arith}
 use lib.ListN.{length}
@@ -17,13 +16,12 @@ use Rattle.ways.specs.declared.way.Way.TheVariants.{Exact, Octave}
 use Rattle.ways.specs.declared.bookmark.Bookmark.{Bookmark}
 use Rattle.ways.specs.Way.{range_of, range_as}
 use Rattle.asking.specs.Limits.{most_notes}
-use Rattle.asking.specs.Asking.{Accepted, AcceptedSets, InRange, PlainAsks, QuickAsks}
+use Rattle.asking.specs.Asking.{Accepted, AcceptedSets, InRange, PlainAsks}
 use Rattle.asking.proofs.Rows.{plain_clear, quick_clear}
 use Rattle.filter.specs.Limits.{word_bits}
 use Rattle.filter.specs.Table.{theme_table}
 use Rattle.paging.specs.Lent.{Lent, Room}
 use Rattle.paging.specs.Search.{Narrow, Right}
-use Rattle.paging.specs.Page.{leaf}
 use Rattle.paging.proofs.Answers.{paged_clear}
 use Rattle.paging.proofs.Fewer.{only_right}
 use Rattle.paging.proofs.Renumbered.{renumbered_right}

@@ -11,22 +11,19 @@ use mathlib.Core.List.{List, [], ◌∷◌, Memᴰ as In}
 use Prim.Native.Nat.{ℕ, zero, suc, ◌+◌, ◌-◌, ◌≤◌, ◌<◌}
 use native.Mathlib.Nat.{le_trans, le_of_eq}
 use native.Mathlib.Omega.{arith}
-use lib.IntN.{ℤ}
 use lib.ListN.{length, take, length-drop}
 use Rattle.theory.specs.Lists.{count}
 use Rattle.theory.specs.Pages.{hits}
 use Rattle.theory.proofs.Looks.{sum_none}
 use Rattle.theory.proofs.Members.{in_hits}
 use Rattle.score.specs.Limits.{table_words}
-use Rattle.score.specs.declared.quantities.Pitch.{Pitch}
 use Rattle.score.specs.Score.{column_at, column, score_of, heard, heard_of, rank_of}
 use Rattle.ways.specs.declared.way.Way.{Way}
 use Rattle.ways.specs.declared.way.AnyWay.{AnyWay}
 use Rattle.ways.specs.declared.way.AnyWay.TheVariants.{Moved, Written}
-use Rattle.ways.specs.declared.way.Way.TheVariants.{Exact, Octave}
 use Rattle.ways.specs.declared.bookmark.Pair.{Pair}
 use Rattle.ways.specs.declared.bookmark.Bookmark.{Bookmark}
-use Rattle.ways.specs.Way.{Holds, range_as}
+use Rattle.ways.specs.Way.{range_as}
 use Rattle.ways.specs.Bookmarks.{finished_bookmark}
 use Rattle.asking.specs.Limits.{most_notes}
 use Rattle.asking.specs.Asking.{Accepted, AcceptedSets, PlainAsks}

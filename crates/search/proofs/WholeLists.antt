@@ -13,9 +13,9 @@
 -- whole list and of a page are at most `most_looks` (`all_looks_le` and `candidate_looks_le`, `plain_page_le`, `quick_page_le`;
 -- of an answer, `plain_looks_le` and `quick_looks_le` of `Truths`), which fits 32 bits (`most_fits`); `quick_same` of `Quicker`
 -- says that with the score's own sets a quick page is the plain page with no more looks. Assumes nothing.
-use mathlib.Core.Path.{◌≡◌, refl, sym, ap, ◌∙◌, subst}
+use mathlib.Core.Path.{◌≡◌, refl, subst}
 use mathlib.Core.List.{List, []}
-use Prim.Native.Nat.{ℕ, ◌+◌, ◌-◌, ◌*◌, ◌^◌, ◌≤◌, ◌<◌}
+use Prim.Native.Nat.{ℕ, ◌+◌, ◌-◌, ◌^◌, ◌≤◌, ◌<◌}
 use native.Mathlib.Nat.{le_trans}
 use native.Mathlib.Omega.{arith}
 use lib.ListN.{length, get_or}

@@ -1,7 +1,7 @@
 -- From a walk to a page: a walk that is turned away is a page that is turned away, and the answer that is read off the buffers
 -- of one that is done is the page's. Assumes nothing.
 use mathlib.Core.Path.{◌≡◌, refl, sym, ap, ◌∙◌}
-use mathlib.Core.List.{List, [], map}
+use mathlib.Core.List.{List, map}
 use Prim.Native.Nat.{ℕ, ◌≤◌, ◌<◌}
 use native.Mathlib.Omega.{arith}
 use lib.IntN.{ℤ}
@@ -12,20 +12,19 @@ use Rattle.score.specs.Score.{column_at, columns_in, score_of}
 use Rattle.score.specs.Refusals.{Row}
 use Rattle.score.proofs.Columns.{score_length}
 use Rattle.score.proofs.Judging.{judge_away}
-use Rattle.score.proofs.Judged.{Clear}
 use Rattle.ways.specs.declared.way.Way.{Way}
 use Rattle.ways.specs.declared.way.AnyWay.TheVariants.{Moved, Written}
 use Rattle.ways.specs.declared.bookmark.Bookmark.{Bookmark}
 use Rattle.ways.specs.Way.{range_of}
 use Rattle.ways.specs.Bookmarks.{key_of, finished_bookmark}
-use Rattle.asking.specs.Asking.{InRange, PlainAsks, QuickAsks}
+use Rattle.asking.specs.Asking.{PlainAsks, QuickAsks}
 use Rattle.asking.proofs.Rows.{plain_clear, quick_clear}
 use Rattle.filter.specs.Limits.{word_bits}
 use Rattle.filter.specs.Table.{theme_table}
 use Rattle.paging.specs.declared.page.Page.{Page}
 use Rattle.paging.specs.declared.page.Page.TheVariants.{Turned, Refused}
-use Rattle.paging.specs.Lent.{Lent, lent, Room, written}
-use Rattle.paging.specs.Search.{Search, left, found, spent}
+use Rattle.paging.specs.Lent.{Lent, lent, written}
+use Rattle.paging.specs.Search.{Search, left}
 use Rattle.paging.specs.Page.{leaf, away, paged, Pages}
 use Rattle.paging.specs.Turning.{read_turn}
 use Rattle.paging.proofs.Turnings.{away_pages, went_pages}
@@ -34,11 +33,11 @@ use Rattle.walking.specs.declared.calls.Walk.TheVariants.{Done, Refused as Away}
 use Rattle.walking.specs.Starts.{Place, key, starts, hit, looks}
 use Rattle.walking.specs.Candidates.{quick_starts}
 use Rattle.walking.specs.Found.{Finds, PlainWalks, QuickWalks}
-use Rattle.walking.proofs.Answers.{Went, finds_refused, finds_clear, finds_went, table_filled}
+use Rattle.walking.proofs.Answers.{finds_refused, finds_clear, finds_went}
 use Rattle.written.specs.Written.{written_page, WrittenPages}
-use Rattle.search.specs.Pairs.{pair_at, along_search}
+use Rattle.search.specs.Pairs.{pair_at}
 use Rattle.search.specs.Page.{rows_of_plain, rows_of_quick, quick_table}
-use Rattle.search.specs.Along.{along_page, AlongPages, quick_along, quick_along_page, QuickAlongPages}
+use Rattle.search.specs.Along.{along_page, AlongPages, quick_along_page, QuickAlongPages}
 use Rattle.search.proofs.Reached.{left_plain, left_quick, places_written}
 
 -- ---- any search along the starts of a way

@@ -36,7 +36,7 @@ use Rattle.filter.specs.Table.{theme_table}
 use Rattle.paging.specs.declared.page.Turn.{Turn}
 use Rattle.paging.specs.declared.page.Page.{Page}
 use Rattle.paging.specs.declared.page.Page.TheVariants.{Turned, Refused}
-use Rattle.paging.specs.Lent.{lent, written}
+use Rattle.paging.specs.Lent.{lent}
 use Rattle.paging.specs.Order.{at_or_after}
 use Rattle.paging.specs.Search.{Search, Right, renamed}
 use Rattle.paging.specs.Page.{Leaf, leaf, Pages}

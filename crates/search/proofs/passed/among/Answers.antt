@@ -1,7 +1,10 @@
+-- `crate::passed::among` meets its contract: the place of the bookmark's column among the numbers fits a number of a column.
+use native.Mathlib.Omega.{arith}
+use Rattle.search.proofs.passed.Laws.{place_few}
 use Rattle.search.proofs.passed.among.Goals as goal
 
 pub overflow_add-result-2 : goal.overflow_add-result-2
-overflow_add-result-2 c = ?
+overflow_add-result-2 c = omega (arith, place_few c.args.numbers.now c.args.bookmark.column.0 c.rank-at.ensures c.requires.1)
 
 pub overflow_cast-result-2 : goal.overflow_cast-result-2
-overflow_cast-result-2 c = ?
+overflow_cast-result-2 c = omega (arith, place_few c.args.numbers.now c.args.bookmark.column.0 c.rank-at.ensures c.requires.1)

@@ -1,30 +1,29 @@
-use mathlib.Core.Path.{refl}
+-- `crate::passed::passed_quick_page` meets its contract: what was taken out (`Took`), with the entries of its columns, is asked for
+-- along its columns.
+use mathlib.Core.Path.{refl, sym}
+use lib.Seq.{length-take-le}
 use Rattle.search.proofs.passed.Laws.{taken, passed_quick_turns}
 use Rattle.search.proofs.passed.passed_quick_page.Goals as goal
 
 pub overflow_sub-last : goal.overflow_sub-last
 overflow_sub-last c =
-    let t = c in
-    let s = t in
-    let k = taken s.requires.0.plain.accepted s.requires.1 t.take_out.ensures in
+    let k = taken c.requires.quick_asks.plain.accepted c.requires.leaves c.take_out-q.ensures in
     k.some
 
 pub slice_bounds-quick_along_page-end : goal.slice_bounds-quick_along_page-end
-slice_bounds-quick_along_page-end c = ?
+slice_bounds-quick_along_page-end c =
+    let k = taken c.requires.quick_asks.plain.accepted c.requires.leaves c.take_out-q.ensures in
+    k.cells_long
 
 pub slice_bounds-quick_along_page-end-2 : goal.slice_bounds-quick_along_page-end-2
-slice_bounds-quick_along_page-end-2 c = ?
+slice_bounds-quick_along_page-end-2 c =
+    let k = taken c.requires.quick_asks.plain.accepted c.requires.leaves c.take_out-q.ensures in
+    sym (length-take-le _ _ k.cells_long)
 
 pub returns : goal.returns
 returns c =
-    let n = c in
-    let p = n in
-    let m = p in
-    let e = m in
-    let t = e in
-    let s = t in
-    let a = s.args in
-    let k = taken s.requires.0.plain.accepted s.requires.1 t.take_out.ensures in
+    let a = c.args in
+    let k = taken c.requires.quick_asks.plain.accepted c.requires.leaves c.take_out-q.ensures in
     passed_quick_turns a.cells.now a.tracks a.theme.now a.way a.bookmark a.sets.now a.table.now a.columns.now
-    a.shifts.now s.requires.0 k n.columns_in.ensures refl refl e.Kept-sets.ensures m.among.ensures
-    p.quick_along_page.ensures c.in_score.ensures
+    a.shifts.now c.requires.quick_asks k c.columns_in-n.ensures refl refl c.kept_sets.ensures c.among-b.ensures
+    c.quick_along_page-p.ensures c.in_score.ensures

@@ -1,4 +1,4 @@
--- Each note leaves the starts at which the next column holds it. What the first note costs was counted, and is taken off at the end.
+-- Each note leaves the starts at which the next column holds it. What the first note costs was counted, and is taken off.
 use mathlib.Core.Path.{◌≡◌}
 use mathlib.Core.List.{List}
 use Prim.Native.Nat.{ℕ, ◌+◌, ◌-◌, ◌*◌}
