@@ -1,4 +1,4 @@
--- `walking::calls::walk_plain` meets its contract: the checks turn away, or what is asked is accepted and the walk along every column is made.
+-- `walking::calls::walk_plain` meets its contract: the checks turn away, or every column is walked along as was asked.
 use Rattle.asking.proofs.Rows.{plain_clear}
 use Rattle.walking.proofs.Answers.{finds_away, finds_done, plain_asks}
 use Rattle.walking.proofs.calls.walk_plain.Goals as goal

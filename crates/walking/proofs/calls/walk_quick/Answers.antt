@@ -1,5 +1,4 @@
--- `walking::calls::walk_quick` meets its contract: the checks turn away, or what is asked is accepted, the table is filled, and the walk along
--- candidates is made.
+-- `walking::calls::walk_quick` meets its contract: the checks turn away, or the table is filled and candidates are walked along.
 use mathlib.Core.Path.{◌≡◌, sym, ap, ◌∙◌}
 use mathlib.Core.List.{List}
 use Prim.Native.Nat.{ℕ}

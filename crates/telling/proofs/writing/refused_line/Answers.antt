@@ -1,0 +1,11 @@
+-- `telling::writing::refused_line` meets its contract: the line is that of its word, 11 and its number.
+use Rattle.telling.specs.Lines.{refused_line}
+use Rattle.telling.proofs.writing.refused_line.Goals as goal
+
+pub line-requires : goal.line-requires
+unfolding refused_line
+line-requires c = c.requires
+
+pub returns : goal.returns
+unfolding refused_line
+returns c = c.line.ensures
