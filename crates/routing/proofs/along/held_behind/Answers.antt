@@ -1,4 +1,4 @@
--- `routing::along::held_behind` meets its contract: a column that holds its note, one that is empty, and one that ends the search.
+-- `routing::along::held_behind` meets its contract: a column that holds its note, an empty one, one that ends the search.
 use borrow.Author.Rules.{rules}
 use mathlib.Core.Path.{refl, ap}
 use mathlib.Core.Bool.{not}
