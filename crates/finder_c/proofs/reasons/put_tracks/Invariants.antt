@@ -1,4 +1,4 @@
--- The invariant and the measure.
+-- The invariant: the tracks passed are written. The measure is the tracks left.
 use Prim.Native.Nat.{◌-◌}
 use lib.ListN.{length}
 use Rattle.finder_c.proofs.Places.{Copied}

@@ -1,3 +1,4 @@
+-- `finder_c::told::put_five` meets its contract.
 use mir.Facts.{to_z-of_z}
 use Rattle.finder_c.proofs.Places.{five}
 use Rattle.finder_c.proofs.told.put_five.Goals as goal
