@@ -19,13 +19,12 @@ use Rattle.asking.specs.Limits.{most_notes}
 use Rattle.asking.specs.Asking.{Accepted, InRange, PlainAsks, QuickAsks}
 use Rattle.paging.specs.declared.page.Turn.{Turn}
 use Rattle.paging.specs.declared.page.Page.{Page}
-use Rattle.paging.specs.declared.page.Page.TheVariants.{Turned, Refused}
+use Rattle.paging.specs.declared.page.Page.TheVariants.{Turned}
 use Rattle.paging.specs.Lent.{Lent, read_pairs}
 use Rattle.paging.specs.Page.{Leaf}
 use Rattle.paging.specs.Reading.{Turns, Reading, last, more}
 use Rattle.paging.specs.Listing.{NoDearer, turned}
 use Rattle.paging.proofs.Paging.{told, turns_same, call_answer, call_read, next_range}
-use Rattle.search.specs.Pairs.{plain_search}
 use Rattle.search.specs.Page.{plain_page, PlainPages, quick_page, quick_table, QuickPages}
 use Rattle.search.proofs.PlainCall.{plain_turned}
 use Rattle.search.proofs.QuickCall.{quick_turned}

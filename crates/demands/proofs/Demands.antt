@@ -1,22 +1,17 @@
 -- The three demands hold, and what is wanted of the question, of the update, of the explainer and of the router. Assumes nothing.
-use mathlib.Core.Path.{◌≡◌, refl, subst}
+use mathlib.Core.Path.{refl, subst}
 use mathlib.Core.List.{List}
 use Prim.Native.Nat.{ℕ}
 use Rattle.score.specs.Score.{score_of}
-use Rattle.score.specs.Sets.{sets}
 use Rattle.score.specs.Refusals.{judge}
 use Rattle.score.proofs.Judged.{verdict_clear}
 use Rattle.preparing.specs.Preparing.{prepared}
-use Rattle.ways.specs.declared.way.Way.{Way}
 use Rattle.ways.specs.declared.way.AnyWay.TheVariants.{Moved}
-use Rattle.ways.specs.declared.bookmark.Bookmark.{Bookmark}
 use Rattle.asking.specs.Limits.{most_notes}
 use Rattle.asking.specs.Refusals.{request_rows}
 use Rattle.asking.specs.Asking.{Accepted}
 use Rattle.asking.proofs.Rows.{accepted_clear}
-use Rattle.paging.specs.declared.page.Turn.{Turn}
 use Rattle.paging.specs.declared.page.Page.TheVariants.{Turned}
-use Rattle.paging.specs.Lent.{Lent}
 use Rattle.paging.proofs.Bookmarks.{first_range}
 use Rattle.search.specs.Page.{plain_page, quick_page, quick_table, QuickPages}
 use Rattle.filter.specs.Limits.{word_bits}

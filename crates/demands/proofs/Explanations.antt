@@ -24,7 +24,7 @@ use Rattle.score.specs.declared.refusals.Refusal.{Refusal}
 use Rattle.score.specs.declared.refusals.Verdict.{Verdict}
 use Rattle.score.specs.declared.refusals.Verdict.TheVariants.{Accepted as Passed, Refused as Away}
 use Rattle.score.specs.Refusals.{verdict}
-use Rattle.score.specs.Score.{column, score_of, heard_of, rank_of, onward, note}
+use Rattle.score.specs.Score.{score_of, heard_of, rank_of, onward, note}
 use Rattle.score.specs.Sets.{interval}
 use Rattle.score.proofs.Intervals.{interval_lt}
 use Rattle.ways.specs.declared.way.Way.{Way}

@@ -4,22 +4,17 @@ use mathlib.Core.Path.{◌≡◌, refl, sym, ap, ◌∙◌, subst}
 use mathlib.Core.Bool.{true}
 use mathlib.Core.Logic.{◌↔◌, ◌⊎◌}
 use mathlib.Core.List.Memᴰ
-use mathlib.Core.List.{List, [], ◌∷◌, ◌++◌, map, Memᴰ}
+use mathlib.Core.List.{List, [], ◌∷◌, Memᴰ}
 use Prim.Native.Nat.{ℕ, zero, suc, ◌≤◌}
 use native.Mathlib.Omega.{arith}
 use lib.ListN.{length, take}
 use borrow.Author.Tests.{eq-eqb, eqb-true, not-false}
 use lib.Dec.{eqb}
 use mathlib.Core.Bool.{not}
-use Rattle.theory.specs.Pages.{hits, page_hits}
-use Rattle.theory.proofs.Pages.{page_take}
-use Rattle.theory.proofs.Hits.{take_map}
 use Rattle.score.specs.Limits.{table_words}
-use Rattle.score.specs.declared.refusals.Verdict.TheVariants.{Accepted as Passed}
-use Rattle.score.specs.Score.{columns_in, score_of}
+use Rattle.score.specs.Score.{score_of}
 use Rattle.score.specs.Sets.{sets as setsOf}
-use Rattle.score.proofs.Columns.{score_length}
-use Rattle.score.proofs.Judged.{Clear, clear_append, clear_split, verdict_clear}
+use Rattle.score.proofs.Judged.{Clear, clear_append, clear_split}
 use Rattle.summing.specs.declared.summary.Summary.{Summary}
 use Rattle.summing.specs.Summary.{summary as summaryIn, summary_of}
 use Rattle.preparing.specs.declared.sets.Preparation.TheVariants.{Prepared}
@@ -28,7 +23,6 @@ use Rattle.preparing.proofs.Prepared.{prepare_sums}
 use Rattle.ways.specs.declared.way.Way.{Way}
 use Rattle.ways.specs.declared.way.AnyWay.TheVariants.{Moved}
 use Rattle.ways.specs.declared.bookmark.Pair.{Pair}
-use Rattle.ways.specs.declared.bookmark.Bookmark.{Bookmark}
 use Rattle.ways.specs.Way.{range_of, range_as}
 use Rattle.ways.specs.Bookmarks.{first_bookmark}
 use Rattle.asking.specs.Limits.{most_notes}
@@ -40,17 +34,12 @@ use Rattle.filter.specs.Table.{theme_table}
 use Rattle.paging.specs.declared.page.Turn.{Turn}
 use Rattle.paging.specs.declared.page.Page.TheVariants.{Turned}
 use Rattle.paging.specs.Lent.{Lent}
-use Rattle.paging.specs.Search.{Search, Right, listed, found}
-use Rattle.paging.specs.Page.{Leaf, leaf}
-use Rattle.paging.proofs.Paging.{left_first, turned_same}
-use Rattle.walking.specs.Starts.{Place}
 use Rattle.search.specs.Definition.{Stands}
-use Rattle.search.specs.Pairs.{quick_search, pairs}
+use Rattle.search.specs.Pairs.{pairs}
 use Rattle.search.specs.Page.{QuickPages}
 use Rattle.search.proofs.Listed.{listed_stands, stands_listed}
-use Rattle.search.proofs.QuickCall.{quick_turned, quick_leaf}
+use Rattle.search.proofs.QuickCall.{quick_turned}
 use Rattle.search.proofs.Quicker.{own_sets, own_listed}
-use Rattle.search.proofs.Searches.{quick_right}
 use Rattle.occurring.specs.declared.question.Occurrence.{Occurrence}
 use Rattle.occurring.specs.declared.question.Occurrence.TheVariants.{Somewhere, Nowhere}
 use Rattle.occurring.specs.Occurring.{lacking, quick_list, by_list, row12, occurs_rows, Occurs}

@@ -3,9 +3,7 @@
 use mathlib.Core.Path.{◌≡◌, sym, ap, ◌∙◌, subst}
 use mathlib.Core.List.{List, Memᴰ as In}
 use Prim.Native.Nat.{ℕ, ◌-◌}
-use native.Mathlib.Omega.{arith}
 use lib.ListN.{length, get_or}
-use Rattle.theory.specs.Bits.{bit}
 use Rattle.theory.proofs.Bits.{bit_high}
 use Rattle.score.specs.declared.quantities.Column.{Column}
 use Rattle.score.specs.Score.{score_of}
@@ -19,7 +17,7 @@ use Rattle.preparing.specs.Preparing.{Prepares}
 use Rattle.preparing.proofs.Prepared.{prepare_fills, prepare_sums, prepare_bit, prepare_empty}
 use Rattle.ways.specs.declared.way.Way.{Way}
 use Rattle.ways.specs.declared.way.AnyWay.{AnyWay}
-use Rattle.ways.specs.declared.way.AnyWay.TheVariants.{Moved, Written}
+use Rattle.ways.specs.declared.way.AnyWay.TheVariants.{Written}
 use Rattle.ways.specs.declared.bookmark.Pair.{Pair}
 use Rattle.ways.specs.declared.bookmark.Bookmark.{Bookmark}
 use Rattle.paging.specs.declared.page.Turn.{Turn}
@@ -27,7 +25,7 @@ use Rattle.paging.specs.declared.page.Page.TheVariants.{Turned}
 use Rattle.paging.specs.Lent.{Lent, read_pairs}
 use Rattle.paging.proofs.Paging.{turned_same}
 use Rattle.search.specs.Definition.{Stands, StandsAs}
-use Rattle.search.specs.Page.{plain_page, PlainPages, quick_page, QuickPages}
+use Rattle.search.specs.Page.{PlainPages, QuickPages}
 use Rattle.search.proofs.PlainCall.{plain_turned}
 use Rattle.search.proofs.QuickCall.{quick_turned}
 use Rattle.search.proofs.WholeLists.{plain_page_lem, quick_page_lem}

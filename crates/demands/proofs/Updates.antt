@@ -2,7 +2,7 @@
 use mathlib.Core.Path.{◌≡◌, refl, sym, ap, ◌∙◌}
 use mathlib.Core.Bool.{Bool, true, false, cond, ◌||◌, false≢true}
 use mathlib.Core.Logic.{◌⊎◌, inl, inr, ⊎_elim}
-use mathlib.Core.List.{List, [], ◌∷◌}
+use mathlib.Core.List.{List}
 use Prim.Native.Nat.{ℕ, ◌+◌, ◌-◌, ◌≤◌}
 use native.Mathlib.Omega.{arith}
 use lib.Dec.{eqb}
@@ -12,7 +12,7 @@ use Rattle.theory.proofs.Lists.{count_map_length, count_map_at}
 use Rattle.score.specs.declared.quantities.Column.{Column}
 use Rattle.score.specs.Score.{score_of}
 use Rattle.score.specs.Sets.{sets as setsOf}
-use Rattle.score.proofs.Judged.{Clear, judge_clear}
+use Rattle.score.proofs.Judged.{judge_clear}
 use Rattle.summing.specs.declared.summary.Summary.{Summary}
 use Rattle.summing.specs.Summary.{summary_of}
 use Rattle.preparing.specs.declared.sets.Preparation.TheVariants.{Prepared, Refused}
@@ -21,7 +21,6 @@ use Rattle.updating.specs.declared.changes.Change.TheVariants.{Updated}
 use Rattle.updating.specs.Updating.{heard_before, rests_on, updated_sets, Updates, OneChanged}
 use Rattle.updating.proofs.Updated.{update_accepted, update_leaves, clear_renewable}
 use Rattle.updating.proofs.Fresh.{fresh_sets}
-use Rattle.demands.proofs.True.{own_sets_left}
 
 module _ (cells : List ℕ) (h : ℕ) (c : Column) {lent : List ℕ} {s : Summary} {after : List ℕ} (u : Updates cells h c lent (Updated s) after) where
   left : after ≡ updated_sets (score_of cells h) c lent

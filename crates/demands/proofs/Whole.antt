@@ -1,8 +1,8 @@
 -- Demand 3, the list: a call that promises what a plain call does turns the pages of the plain search, and so lists all pairs
 -- that stand; a quick one with the score's own sets lists the same. The idea: what meets a promise is the defined answer.
 -- Assumes nothing.
-use mathlib.Core.Path.{◌≡◌, sym, ap, ap₂, ◌∙◌, subst}
-use mathlib.Core.List.{List, [], ◌∷◌, ◌++◌, Memᴰ as In}
+use mathlib.Core.Path.{◌≡◌, sym, ap₂, ◌∙◌, subst}
+use mathlib.Core.List.{List, ◌∷◌, Memᴰ as In}
 use Prim.Native.Nat.{ℕ, ◌+◌, ◌/◌, ◌≤◌}
 use native.Mathlib.Nat.{le_trans}
 use native.Mathlib.Omega.{arith}
@@ -32,7 +32,6 @@ use Rattle.paging.proofs.Orders.{ordered_once, ordered_behind}
 use Rattle.paging.proofs.Paging.{Calls}
 use Rattle.paging.proofs.Readings.{search_lists}
 use Rattle.search.specs.Pairs.{quick_search, search_as, pairs_as}
-use Rattle.search.specs.Page.{plain_page, quick_page}
 use Rattle.search.specs.WholeList.{candidate_looks, most_looks}
 use Rattle.search.proofs.AllWays.{as_stands, stands_as, ordered_as}
 use Rattle.search.proofs.Searches.{plain_calls, quick_calls}

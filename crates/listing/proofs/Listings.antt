@@ -10,7 +10,6 @@ use lib.ListN.{length}
 use borrow.Author.Tests.{lt-ltb, le-ltb, ltb-false}
 use Rattle.score.specs.declared.refusals.Refusal.{Refusal}
 use Rattle.telling.specs.declared.calls.Telling.{Telling}
-use Rattle.telling.specs.declared.calls.Telling.TheVariants as Telling
 use Rattle.telling.specs.declared.calls.Telling.TheVariants.{Told, Refused}
 use Rattle.telling.specs.Limits.{room}
 use Rattle.telling.specs.Telling.{told, Tells}

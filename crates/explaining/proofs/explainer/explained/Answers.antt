@@ -21,14 +21,15 @@ pub returns-in-Short : goal.returns-in-Short
 returns-in-Short c =
     let a = c.args in
     answer_short a.cells.now a.tracks a.theme.now a.way a.pair a.sets.now c.requires c.sought-numbers.ensures c.fit_by-fit.ensures
-    c.in-Short.is (rw (to_z-of_z {w = w16} {z = a.pair.shift} (omega arith)) at c.first_of-in-Short.ensures) c.bare-in-Short.ensures
+    c.in-Short.is (rw (to_z-of_z {w = w16} {z = a.pair.shift} (omega arith)) at c.first_of-in-Short.ensures)
+    c.bare-in-Short.ensures
 
 pub returns-in-NoPitch : goal.returns-in-NoPitch
 returns-in-NoPitch c =
     let a = c.args in
     answer_no_pitch a.cells.now a.tracks a.theme.now a.way a.pair a.sets.now c.requires c.sought-numbers.ensures
-    c.fit_by-fit.ensures c.in-NoPitch.is (rw (to_z-of_z {w = w16} {z = a.pair.shift} (omega arith)) at c.first_of-in-NoPitch.ensures)
-    c.bare-in-NoPitch.ensures
+    c.fit_by-fit.ensures c.in-NoPitch.is
+    (rw (to_z-of_z {w = w16} {z = a.pair.shift} (omega arith)) at c.first_of-in-NoPitch.ensures) c.bare-in-NoPitch.ensures
 
 pub returns-in-Fits : goal.returns-in-Fits
 returns-in-Fits c =

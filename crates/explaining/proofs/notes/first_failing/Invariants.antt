@@ -1,5 +1,5 @@
--- `explaining::notes::first_failing` meets its contract. The invariant: of the notes gone through, the one found is the first that
--- fails. The measure is the notes left.
+-- `explaining::notes::first_failing` meets its contract. The invariant: of the notes gone through, the one found is the first
+-- that fails. The measure is the notes left.
 use Rattle.std.proofs.Common.{◌≤◌, length}
 use Rattle.score.specs.Score.{score_of}
 use Rattle.explaining.proofs.NoteByNote.{Gone}

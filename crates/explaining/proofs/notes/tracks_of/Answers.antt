@@ -17,4 +17,5 @@ overflow_cast-named c =
 
 pub loop-i-preserved : goal.loop-i-preserved
 loop-i-preserved c =
-    naming_more _ _ _ _ _ c.loop-i.invariant c.requires.notes_few c.loop-i-test.true c.column_at-column.ensures c.lowest_track.ensures
+    naming_more _ _ _ _ _ c.loop-i.invariant c.requires.notes_few c.loop-i-test.true c.column_at-column.ensures
+    c.lowest_track.ensures

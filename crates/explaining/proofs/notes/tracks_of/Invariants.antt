@@ -1,5 +1,5 @@
--- `explaining::notes::tracks_of` meets its contract. The invariant: the tracks of the notes passed are written. The measure is the
--- notes left.
+-- `explaining::notes::tracks_of` meets its contract. The invariant: the tracks of the notes passed are written. The measure is
+-- the notes left.
 use Prim.Native.Nat.{◌-◌}
 use lib.ListN.{length}
 use Rattle.score.specs.Score.{score_of}

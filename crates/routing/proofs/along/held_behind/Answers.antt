@@ -1,4 +1,5 @@
--- `routing::along::held_behind` meets its contract: a column that holds its note, one that is empty, and one that ends the search.
+-- `routing::along::held_behind` meets its contract: a column that holds its note, an empty one, one that ends the search.
+use borrow.Author.Rules.{rules}
 use mathlib.Core.Path.{refl, ap}
 use mathlib.Core.Bool.{not}
 use Prim.Native.Nat.{◌*◌}
@@ -24,7 +25,7 @@ loop-k-preserved c =
     let (room, more) = goes_on _ _ _ _ _ _ _ c.loop-k.invariant c.columns_in-n.ensures c.loop-k-test.true in
     let here = column_cells c.args.cells.now c.args.tracks c.loop-k.k (c.loop-k.k * c.args.tracks) refl room in
     following_skipped _ _ _ _ _ _ _ c.loop-k.invariant room more here c.holders-set.ensures
-    c.is_empty.ensures (ap not c.if-not-is_empty.false)
+    c.is_empty.ensures (search rules)
 
 pub returns : goal.returns
 returns c = following_end _ _ _ _ _ _ _ c.loop-k.invariant c.columns_in-n.ensures c.loop-k-test.false

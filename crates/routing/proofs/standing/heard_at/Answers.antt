@@ -1,3 +1,4 @@
+-- `routing::standing::heard_at` meets its contract: a column that is none, and one of the score.
 use Rattle.routing.proofs.AtPair.{heard_outside, heard_inside}
 use Rattle.routing.proofs.standing.heard_at.Goals as goal
 

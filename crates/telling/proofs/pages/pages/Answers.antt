@@ -1,4 +1,5 @@
--- `telling::pages::pages` meets its contract: each page that is turned adds its lines, its pairs and its looks, and no page is refused.
+-- `telling::pages::pages` meets its contract: each page that is turned adds its lines, its pairs and its looks, and no page is
+-- refused.
 use mathlib.Core.Path.{sym, ◌∙◌}
 use native.Mathlib.Omega.{arith}
 use Rattle.telling.proofs.Searching.{paging_start}

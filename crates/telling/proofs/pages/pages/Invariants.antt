@@ -1,5 +1,5 @@
--- `telling::pages::pages` meets its contract. The invariant: the lines of the pairs so far are written, and what is left is what is left at
--- the bookmark. The measure is a bound on the pages left.
+-- `telling::pages::pages` meets its contract. The invariant: the lines of the pairs so far are written, and what is left is what
+-- is left at the bookmark. The measure is a bound on the pages left.
 use Rattle.paging.specs.Lent.{lent}
 use Rattle.paging.proofs.UnderWay.{turns_left}
 use Rattle.telling.proofs.Searching.{search_of, Paging}

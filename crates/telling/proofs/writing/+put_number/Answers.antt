@@ -1,5 +1,5 @@
--- `telling::writing::put_number` meets its contract: a number of one digit is that digit, a longer one is the number before its last digit, and
--- that digit.
+-- `telling::writing::put_number` meets its contract: a number of one digit is that digit, a longer one is the number before its
+-- last digit, and that digit.
 use native.Mathlib.Omega.{arith}
 use Rattle.telling.proofs.Decimals.{small_room, small_wrote, first_room, last_room, more_wrote}
 use Rattle.telling.proofs.writing.+put_number.Goals as goal

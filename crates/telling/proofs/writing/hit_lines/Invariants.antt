@@ -1,5 +1,5 @@
--- `telling::writing::hit_lines` meets its contract. The invariant: the lines so far are written, and those of the pairs left are to come. The
--- measure is how many are left.
+-- `telling::writing::hit_lines` meets its contract. The invariant: the lines so far are written, and those of the pairs left are
+-- to come. The measure is how many are left.
 use Prim.Native.Nat.{◌-◌}
 use Rattle.telling.proofs.Hitting.{Hitting}
 use Rattle.telling.proofs.writing.hit_lines.Given as goal

@@ -1,5 +1,5 @@
--- `telling::writing::put_word` meets its contract. The invariant: the bytes of the word so far stand in the output. The measure is what is
--- left of the word.
+-- `telling::writing::put_word` meets its contract. The invariant: the bytes of the word so far stand in the output. The measure
+-- is what is left of the word.
 use Prim.Native.Nat.{◌-◌}
 use lib.ListN.{length}
 use Rattle.telling.proofs.Puts.{Putting}
