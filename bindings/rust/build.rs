@@ -1,7 +1,7 @@
 //! Finds or builds the static library libfinder_c.a, and says where it is.
 //!
 //! With FINDER_LIB_DIR set it is taken from there. Otherwise `bindings/native-lib` proves the crates, as far as they are
-//! not proved yet, and compiles it for the processor at hand.
+//! not proved yet, and compiles it for an x86-64 processor.
 
 use std::path::PathBuf;
 use std::process::Command;

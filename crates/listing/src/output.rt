@@ -21,6 +21,7 @@ pub enum Listing {
 
 // Writes the whole output of the input from the front of a buffer of 458,546 bytes or more, and keeps what stands behind it.
 // No input needs more room. A shorter buffer is turned away, whatever the input is.
+#[tactic(auto, using(crate::proofs::Listings::list_short))]
 pub fn list(input: &[u8], out: &mut [u8]) -> Listing
     ensures { Lists input.now out.old result out.new }
 {

@@ -13,20 +13,20 @@ use second::ways::Way;
 use std::io;
 
 // A number after what it is.
-fn named(rt: &impl Print, text: &str, x: usize) -> io::Result<()> {
+fn named(rt: &impl Print, text: &[u8], x: usize) -> io::Result<()> {
     say(rt, text)?;
     number(rt, x)
 }
 
 // Sets after what they are.
-fn named_sets(rt: &impl Print, text: &str, s: &[u16], many: usize) -> io::Result<()> {
+fn named_sets(rt: &impl Print, text: &[u8], s: &[u16], many: usize) -> io::Result<()> {
     say(rt, text)?;
     sets(rt, s, many)
 }
 
 // An answer, whole: the refusal and its place, or whether the theme occurs, and the summary.
 fn whole_answer(rt: &impl Print, said: Said) -> io::Result<()> {
-    named(rt, " answered", size(said.number))?;
+    named(rt, b" answered", size(said.number))?;
     number(rt, said.place)?;
     answer_name(rt, said.yes)?;
     number(rt, size16(said.summary))?;
@@ -35,9 +35,9 @@ fn whole_answer(rt: &impl Print, said: Said) -> io::Result<()> {
 
 fn answer_name(rt: &impl Print, yes: bool) -> io::Result<()> {
     if yes {
-        say(rt, " somewhere")
+        say(rt, b" somewhere")
     } else {
-        say(rt, " nowhere")
+        say(rt, b" nowhere")
     }
 }
 
@@ -53,13 +53,13 @@ pub fn differing_question(
 ) -> io::Result<()> {
     let fault = j.fault;
     let said = j.said;
-    say(rt, "\nDIFFERS in")?;
+    say(rt, b"\nDIFFERS in")?;
     fault_name(rt, fault)?;
-    say(rt, ":")?;
+    say(rt, b":")?;
     case(rt, cells, theme, a)?;
-    named_sets(rt, " sets", s, a.sets)?;
-    named(rt, " summary", size16(lent))?;
-    named(rt, " table", a.table)?;
+    named_sets(rt, b" sets", s, a.sets)?;
+    named(rt, b" summary", size16(lent))?;
+    named(rt, b" table", a.table)?;
     whole_answer(rt, said)
 }
 
@@ -72,11 +72,11 @@ fn edit_name(
     a: Ask,
     column: u16,
 ) -> io::Result<()> {
-    say(rt, " cells")?;
+    say(rt, b" cells")?;
     bytes(rt, cells, a.cells)?;
-    named(rt, " changed column", size16(column))?;
-    named_sets(rt, " sets", old, a.sets)?;
-    named_sets(rt, " become", s, a.sets)
+    named(rt, b" changed column", size16(column))?;
+    named_sets(rt, b" sets", old, a.sets)?;
+    named_sets(rt, b" become", s, a.sets)
 }
 
 // An update that differs, with the sets before and after it.
@@ -91,9 +91,9 @@ pub fn differing_update(
 ) -> io::Result<()> {
     let fault = j.fault;
     let said = j.said;
-    say(rt, "\nDIFFERS in")?;
+    say(rt, b"\nDIFFERS in")?;
     fault_name(rt, fault)?;
-    named(rt, ": tracks", a.h)?;
+    named(rt, b": tracks", a.h)?;
     edit_name(rt, cells, old, s, a, column)?;
     whole_answer(rt, said)
 }
@@ -108,11 +108,11 @@ pub fn case_answered(
     lent: u16,
     said: Said,
 ) -> io::Result<()> {
-    say(rt, "case:")?;
+    say(rt, b"case:")?;
     case(rt, cells, theme, a)?;
-    named_sets(rt, " sets", s, a.sets)?;
-    named(rt, " summary", size16(lent))?;
-    say(rt, ":")?;
+    named_sets(rt, b" sets", s, a.sets)?;
+    named(rt, b" summary", size16(lent))?;
+    say(rt, b":")?;
     answer_name(rt, said.yes)?;
     line(rt)
 }
@@ -127,9 +127,9 @@ pub fn edit_answered(
     column: u16,
     said: Said,
 ) -> io::Result<()> {
-    say(rt, "edit:")?;
+    say(rt, b"edit:")?;
     edit_name(rt, cells, old, s, a, column)?;
-    named(rt, " summary", size16(said.summary))?;
+    named(rt, b" summary", size16(said.summary))?;
     line(rt)
 }
 
@@ -138,8 +138,8 @@ pub fn edit_answered(
 fn twist_name(rt: &impl Print, lent: u16, t: Twist) -> io::Result<()> {
     let what = t.what;
     match what {
-        SUMMARY => named(rt, " summary", size16(lent)),
-        COLUMN => named(rt, " changed-column", size16(t.value)),
+        SUMMARY => named(rt, b" summary", size16(lent)),
+        COLUMN => named(rt, b" changed-column", size16(t.value)),
         _ => change_name(rt, t),
     }
 }
@@ -149,7 +149,7 @@ fn change_name(rt: &impl Print, t: Twist) -> io::Result<()> {
     what_name(rt, what)?;
     number(rt, size16(t.value))?;
     if placed(what, 1) {
-        say(rt, " at")?;
+        say(rt, b" at")?;
         number(rt, t.place)?;
     }
     Ok(())
@@ -159,23 +159,23 @@ fn change_name(rt: &impl Print, t: Twist) -> io::Result<()> {
 fn refusals_name(rt: &impl Print, low: usize, high: usize) -> io::Result<()> {
     if 0 < low {
         number(rt, number_at(low))?;
-        say(rt, " and")?;
+        say(rt, b" and")?;
     }
     number(rt, number_at(high))
 }
 
 fn end_head(rt: &impl Print, way: Way, lent: u16, t: Twist) -> io::Result<()> {
-    say(rt, "end:")?;
+    say(rt, b"end:")?;
     way_name(rt, way)?;
     twist_name(rt, lent, t)?;
-    say(rt, ":")
+    say(rt, b":")
 }
 
 fn due_head(rt: &impl Print, way: Way, low: usize, high: usize) -> io::Result<()> {
-    say(rt, "due:")?;
+    say(rt, b"due:")?;
     way_name(rt, way)?;
     refusals_name(rt, low, high)?;
-    say(rt, ":")
+    say(rt, b":")
 }
 
 // What stands before a call on twists, with the summary that is lent.
@@ -193,8 +193,8 @@ pub fn head(rt: &impl Print, lent: u16, t: Twisted) -> io::Result<()> {
 
 fn call_name(rt: &impl Print, asked: Asked) -> io::Result<()> {
     match asked {
-        Asked::Question => say(rt, " question"),
-        Asked::Update => say(rt, " update"),
+        Asked::Question => say(rt, b" question"),
+        Asked::Update => say(rt, b" update"),
     }
 }
 
@@ -218,10 +218,10 @@ pub fn answered(rt: &impl Print, said: Said, t: Twisted) -> io::Result<()> {
 // A refusal and its place, or that the call was accepted.
 fn verdict_name(rt: &impl Print, said: Said) -> io::Result<()> {
     if said.number == 0 {
-        return say(rt, " accepted");
+        return say(rt, b" accepted");
     }
     number(rt, size(said.number))?;
-    named(rt, " at", said.place)
+    named(rt, b" at", said.place)
 }
 
 fn last_in(way: Way, asked: Asked) -> bool {

@@ -11,51 +11,51 @@ use second::totals::{size, size16};
 use std::io;
 
 // A number after what it is.
-fn named(rt: &impl Print, text: &str, x: usize) -> io::Result<()> {
+fn named(rt: &impl Print, text: &[u8], x: usize) -> io::Result<()> {
     say(rt, text)?;
     number(rt, x)
 }
 
 pub fn reason_name(rt: &impl Print, reason: u8) -> io::Result<()> {
     match reason {
-        LISTED => say(rt, " listed"),
-        NO_SHIFT => say(rt, " no-shift"),
-        NO_COLUMN => say(rt, " column-0"),
-        TOO_FEW => say(rt, " too-few"),
-        EMPTY => say(rt, " empty"),
-        OUTSIDE => say(rt, " outside"),
-        ABSENT => say(rt, " absent"),
-        _ => say(rt, " refused"),
+        LISTED => say(rt, b" listed"),
+        NO_SHIFT => say(rt, b" no-shift"),
+        NO_COLUMN => say(rt, b" column-0"),
+        TOO_FEW => say(rt, b" too-few"),
+        EMPTY => say(rt, b" empty"),
+        OUTSIDE => say(rt, b" outside"),
+        ABSENT => say(rt, b" absent"),
+        _ => say(rt, b" refused"),
     }
 }
 
 pub fn verdict_name(rt: &impl Print, verdict: u8) -> io::Result<()> {
     match verdict {
-        KEPT => say(rt, " kept"),
-        DISMISSED => say(rt, " dismissed"),
-        _ => say(rt, " unasked"),
+        KEPT => say(rt, b" kept"),
+        DISMISSED => say(rt, b" dismissed"),
+        _ => say(rt, b" unasked"),
     }
 }
 
 // Why: the refusal's number and place, or the note that fails, before the reason.
 fn why_told(rt: &impl Print, answer: Answer) -> io::Result<()> {
     if 0 < answer.number {
-        named(rt, " number", size(answer.number))?;
-        named(rt, " at", answer.place)?;
+        named(rt, b" number", size(answer.number))?;
+        named(rt, b" at", answer.place)?;
     }
     if 0 < answer.note {
-        named(rt, " note", answer.note)?;
+        named(rt, b" note", answer.note)?;
     }
     reason_name(rt, answer.reason)
 }
 
 // What the sets make of the column, and the interval by which they dismiss it.
 fn verdict_told(rt: &impl Print, answer: Answer) -> io::Result<()> {
-    say(rt, ", sets:")?;
+    say(rt, b", sets:")?;
     verdict_name(rt, answer.verdict)?;
     if 0 < answer.interval {
-        named(rt, " by interval", answer.interval)?;
-        named(rt, " of size", size(answer.size))?;
+        named(rt, b" by interval", answer.interval)?;
+        named(rt, b" of size", size(answer.size))?;
     }
     line(rt)
 }
@@ -74,24 +74,24 @@ pub fn answer_told(
 
 // What stands before the explanation of a case: all that is lent, and the pair.
 pub fn case_head(rt: &impl Print, cells: &[u8], theme: &[u8], s: &[u16], a: Ask) -> io::Result<()> {
-    say(rt, "case:")?;
+    say(rt, b"case:")?;
     case(rt, cells, theme, a)?;
-    say(rt, " sets")?;
+    say(rt, b" sets")?;
     sets(rt, s, a.sets)?;
-    say(rt, " pair")?;
+    say(rt, b" pair")?;
     pair(rt, size16(a.column), a.shift)?;
-    say(rt, ":")
+    say(rt, b":")
 }
 
 // What stands before that of a call with two faults, the lower 0 where there is one alone.
 pub fn due_head(rt: &impl Print, low: usize, high: usize) -> io::Result<()> {
-    say(rt, "due:")?;
+    say(rt, b"due:")?;
     if 0 < low {
         number(rt, low)?;
-        say(rt, " and")?;
+        say(rt, b" and")?;
     }
     number(rt, high)?;
-    say(rt, ":")
+    say(rt, b":")
 }
 
 // An explanation that differs: its case, the library's answer with all of its tracks, and the answer that is due.
@@ -105,9 +105,9 @@ pub fn differing(
     answer: Answer,
     due: Answer,
 ) -> io::Result<()> {
-    say(rt, "\nDIFFERS, ")?;
+    say(rt, b"\nDIFFERS, ")?;
     case_head(rt, cells, theme, s, a)?;
     answer_told(rt, tracks, 64, answer)?;
-    say(rt, "due:")?;
+    say(rt, b"due:")?;
     answer_told(rt, tracks, 0, due)
 }

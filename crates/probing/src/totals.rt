@@ -7,7 +7,7 @@ use second::totals::count;
 use std::io;
 
 // A count after what it is.
-fn told(rt: &impl Print, text: &str, counts: &[u64], place: usize) -> io::Result<()> {
+fn told(rt: &impl Print, text: &[u8], counts: &[u64], place: usize) -> io::Result<()> {
     say(rt, text)?;
     tried(rt, count(counts, place))
 }
@@ -15,7 +15,7 @@ fn told(rt: &impl Print, text: &str, counts: &[u64], place: usize) -> io::Result
 // A reason, and how many there are by what the sets make of the column.
 fn reason_line(rt: &impl Print, counts: &[u64], reason: u8) -> io::Result<()> {
     reason_name(rt, reason)?;
-    say(rt, ":")?;
+    say(rt, b":")?;
     for verdict in 0..3 {
         verdict_name(rt, verdict)?;
         tried(rt, count(counts, place_of(reason, verdict)))?;
@@ -31,12 +31,12 @@ fn reason_lines(rt: &impl Print, counts: &[u64]) -> io::Result<()> {
 }
 
 pub fn totals(rt: &impl Print, counts: &[u64]) -> io::Result<()> {
-    told(rt, "compared: explanations", counts, COMPARED)?;
+    told(rt, b"compared: explanations", counts, COMPARED)?;
     line(rt)?;
     reason_lines(rt, counts)?;
-    told(rt, "by a later note", counts, LATER_NOTE)?;
-    told(rt, ", by a later interval", counts, LATER_INTERVAL)?;
-    told(rt, ", in a higher track", counts, HIGHER_TRACK)?;
-    told(rt, "\ndiffered", counts, DIFFERED)?;
+    told(rt, b"by a later note", counts, LATER_NOTE)?;
+    told(rt, b", by a later interval", counts, LATER_INTERVAL)?;
+    told(rt, b", in a higher track", counts, HIGHER_TRACK)?;
+    told(rt, b"\ndiffered", counts, DIFFERED)?;
     line(rt)
 }

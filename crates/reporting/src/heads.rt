@@ -9,11 +9,11 @@ use std::io;
 
 // A case, whole: the score, the theme and the way.
 pub fn case(rt: &impl Print, cells: &[u8], theme: &[u8], a: Ask) -> io::Result<()> {
-    say(rt, " tracks")?;
+    say(rt, b" tracks")?;
     number(rt, a.h)?;
-    say(rt, " cells")?;
+    say(rt, b" cells")?;
     bytes(rt, cells, a.cells)?;
-    say(rt, " theme")?;
+    say(rt, b" theme")?;
     bytes(rt, theme, a.notes)?;
     let way = a.way;
     way_name(rt, way)
@@ -21,10 +21,10 @@ pub fn case(rt: &impl Print, cells: &[u8], theme: &[u8], a: Ask) -> io::Result<(
 
 // A worked case and its sets, a line each.
 fn worked_case(rt: &impl Print, cells: &[u8], theme: &[u8], s: &[u16], a: Ask) -> io::Result<()> {
-    say(rt, "case:")?;
+    say(rt, b"case:")?;
     case(rt, cells, theme, a)?;
     line(rt)?;
-    say(rt, "  sets")?;
+    say(rt, b"  sets")?;
     sets(rt, s, a.sets)?;
     line(rt)
 }
@@ -32,27 +32,27 @@ fn worked_case(rt: &impl Print, cells: &[u8], theme: &[u8], s: &[u16], a: Ask) -
 // A change to an accepted call.
 fn change_name(rt: &impl Print, way: Way, c: Change) -> io::Result<()> {
     let what = c.what;
-    say(rt, "end:")?;
+    say(rt, b"end:")?;
     way_name(rt, way)?;
     what_name(rt, what)?;
     value_name(rt, what, c.value)?;
     if placed(what, 1) {
-        say(rt, " at")?;
+        say(rt, b" at")?;
         number(rt, c.place)?;
     }
-    say(rt, ":")
+    say(rt, b":")
 }
 
 // Two refusals that are due, the lower one 0 where there is one alone.
 fn faults_name(rt: &impl Print, way: Way, low: usize, high: usize) -> io::Result<()> {
-    say(rt, "due:")?;
+    say(rt, b"due:")?;
     way_name(rt, way)?;
     if 0 < low {
         number(rt, low)?;
-        say(rt, " and")?;
+        say(rt, b" and")?;
     }
     number(rt, high)?;
-    say(rt, ":")
+    say(rt, b":")
 }
 
 // What stands before a job's answers.

@@ -30,9 +30,9 @@ pub const WRITTEN_PAIRS: usize = 7;
 // Where a page begins, and its room.
 fn opening(rt: &impl Print, a: Ask, call: Call) -> io::Result<()> {
     call_name(rt, call)?;
-    say(rt, " from")?;
+    say(rt, b" from")?;
     pair(rt, size16(a.column), a.shift)?;
-    say(rt, " room")?;
+    say(rt, b" room")?;
     number(rt, a.columns)
 }
 
@@ -45,18 +45,18 @@ pub fn page(
     call: Call,
     got: Got,
 ) -> io::Result<()> {
-    say(rt, " ")?;
+    say(rt, b" ")?;
     opening(rt, a, call)?;
-    say(rt, ":")?;
+    say(rt, b":")?;
     pairs(rt, columns, shifts, got.written)?;
     if got.finished {
-        say(rt, " finished,")?;
+        say(rt, b" finished,")?;
     } else {
-        say(rt, " more,")?;
+        say(rt, b" more,")?;
     }
-    say(rt, " next")?;
+    say(rt, b" next")?;
     pair(rt, size16(got.column), got.shift)?;
-    say(rt, " looks")?;
+    say(rt, b" looks")?;
     tried(rt, got.looks as u64)?;
     line(rt)
 }
@@ -73,19 +73,19 @@ pub fn differing(
     let fault = seen.fault;
     let call = seen.call;
     let got = seen.got;
-    say(rt, "\nDIFFERS in")?;
+    say(rt, b"\nDIFFERS in")?;
     fault_name(rt, fault)?;
-    say(rt, ":")?;
+    say(rt, b":")?;
     case(rt, cells, theme, a)?;
-    say(rt, " sets")?;
+    say(rt, b" sets")?;
     sets(rt, s, a.sets)?;
-    say(rt, " lent")?;
+    say(rt, b" lent")?;
     number(rt, a.sets)?;
     number(rt, a.table)?;
     number(rt, a.columns)?;
     number(rt, a.shifts)?;
     opening(rt, a, call)?;
-    say(rt, ": answered")?;
+    say(rt, b": answered")?;
     number(rt, size(got.number))?;
     number(rt, got.place)?;
     number(rt, got.written)?;
@@ -100,10 +100,10 @@ pub fn answered(rt: &impl Print, call: Call, got: Got, loud: bool) -> io::Result
     }
     call_name(rt, call)?;
     if got.number == 0 {
-        return say(rt, " accepted");
+        return say(rt, b" accepted");
     }
     number(rt, size(got.number))?;
-    say(rt, " at")?;
+    say(rt, b" at")?;
     number(rt, got.place)
 }
 
@@ -126,23 +126,23 @@ pub fn tail(rt: &impl Print, j: Job) -> io::Result<()> {
 
 // How much was tried, and how many differed.
 pub fn totals(rt: &impl Print, tally: &[u64]) -> io::Result<()> {
-    say(rt, "tried: scores")?;
+    say(rt, b"tried: scores")?;
     tried(rt, count(tally, SCORES))?;
-    say(rt, " themes")?;
+    say(rt, b" themes")?;
     tried(rt, count(tally, THEMES))?;
-    say(rt, " pages")?;
+    say(rt, b" pages")?;
     tried(rt, count(tally, PAGES))?;
-    say(rt, " pairs")?;
+    say(rt, b" pairs")?;
     tried(rt, count(tally, PAIRS))?;
-    say(rt, " refusals")?;
+    say(rt, b" refusals")?;
     tried(rt, count(tally, REFUSALS))?;
     line(rt)?;
-    say(rt, "of these in written: pages")?;
+    say(rt, b"of these in written: pages")?;
     tried(rt, count(tally, WRITTEN_PAGES))?;
-    say(rt, " pairs")?;
+    say(rt, b" pairs")?;
     tried(rt, count(tally, WRITTEN_PAIRS))?;
     line(rt)?;
-    say(rt, "differed")?;
+    say(rt, b"differed")?;
     tried(rt, count(tally, DIFFERED))?;
     line(rt)
 }

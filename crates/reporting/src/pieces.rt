@@ -7,12 +7,12 @@ use second::totals::{byte, distance, set, shift, size, size16};
 use second::ways::Way;
 use std::io;
 
-pub fn say(rt: &impl Print, text: &str) -> io::Result<()> {
-    rt.print(text)
+pub fn say(rt: &impl Print, text: &[u8]) -> io::Result<()> {
+    rt.write_all(text)
 }
 
 pub fn line(rt: &impl Print) -> io::Result<()> {
-    say(rt, "\n")
+    say(rt, b"\n")
 }
 
 // A number with a space before it.
@@ -63,66 +63,66 @@ pub fn pairs(rt: &impl Print, columns: &[u16], shifts: &[i16], many: usize) -> i
 
 pub fn way_name(rt: &impl Print, way: Way) -> io::Result<()> {
     match way {
-        Way::Exact => say(rt, " exact"),
-        Way::Octave => say(rt, " octave"),
-        Way::Written => say(rt, " written"),
+        Way::Exact => say(rt, b" exact"),
+        Way::Octave => say(rt, b" octave"),
+        Way::Written => say(rt, b" written"),
     }
 }
 
 pub fn call_name(rt: &impl Print, call: Call) -> io::Result<()> {
     match call {
-        Call::Prepare => say(rt, " prepare"),
-        Call::Plain => say(rt, " plain"),
-        Call::Quick => say(rt, " quick"),
-        Call::Both => say(rt, " both"),
+        Call::Prepare => say(rt, b" prepare"),
+        Call::Plain => say(rt, b" plain"),
+        Call::Quick => say(rt, b" quick"),
+        Call::Both => say(rt, b" both"),
     }
 }
 
 pub fn fault_name(rt: &impl Print, fault: Fault) -> io::Result<()> {
     match fault {
-        Fault::Nothing => say(rt, " -"),
-        Fault::Refusal => say(rt, " refusal"),
-        Fault::Pair => say(rt, " pair"),
-        Fault::Written => say(rt, " written"),
-        Fault::Next => say(rt, " next"),
-        Fault::Finished => say(rt, " finished"),
-        Fault::Looks => say(rt, " looks"),
-        Fault::Untouched => say(rt, " untouched"),
-        Fault::Sets => say(rt, " sets"),
-        Fault::Table => say(rt, " table"),
-        Fault::Pages => say(rt, " pages"),
-        Fault::Beside => say(rt, " quick-beside-plain"),
-        Fault::Answer => say(rt, " answer"),
-        Fault::Summary => say(rt, " summary"),
-        Fault::Fresh => say(rt, " beside-a-fresh-preparation"),
+        Fault::Nothing => say(rt, b" -"),
+        Fault::Refusal => say(rt, b" refusal"),
+        Fault::Pair => say(rt, b" pair"),
+        Fault::Written => say(rt, b" written"),
+        Fault::Next => say(rt, b" next"),
+        Fault::Finished => say(rt, b" finished"),
+        Fault::Looks => say(rt, b" looks"),
+        Fault::Untouched => say(rt, b" untouched"),
+        Fault::Sets => say(rt, b" sets"),
+        Fault::Table => say(rt, b" table"),
+        Fault::Pages => say(rt, b" pages"),
+        Fault::Beside => say(rt, b" quick-beside-plain"),
+        Fault::Answer => say(rt, b" answer"),
+        Fault::Summary => say(rt, b" summary"),
+        Fault::Fresh => say(rt, b" beside-a-fresh-preparation"),
     }
 }
 
 pub fn what_name(rt: &impl Print, what: What) -> io::Result<()> {
     match what {
-        What::Nothing => say(rt, " -"),
-        What::Tracks => say(rt, " tracks"),
-        What::Columns => say(rt, " columns"),
-        What::Cells => say(rt, " cells"),
-        What::Cell => say(rt, " cell"),
-        What::Notes => say(rt, " notes"),
-        What::Note => say(rt, " note"),
-        What::Sets => say(rt, " sets"),
-        What::Set => say(rt, " set"),
-        What::EachSet => say(rt, " each-set"),
-        What::Table => say(rt, " table"),
-        What::Room => say(rt, " room"),
-        What::ColumnRoom => say(rt, " room-of-columns"),
-        What::ShiftRoom => say(rt, " room-of-shifts"),
-        What::Column => say(rt, " bookmark-column"),
-        What::Shift => say(rt, " bookmark-shift"),
+        What::Nothing => say(rt, b" -"),
+        What::Tracks => say(rt, b" tracks"),
+        What::Columns => say(rt, b" columns"),
+        What::Cells => say(rt, b" cells"),
+        What::Cell => say(rt, b" cell"),
+        What::Notes => say(rt, b" notes"),
+        What::Note => say(rt, b" note"),
+        What::Sets => say(rt, b" sets"),
+        What::Set => say(rt, b" set"),
+        What::EachSet => say(rt, b" each-set"),
+        What::Table => say(rt, b" table"),
+        What::Room => say(rt, b" room"),
+        What::ColumnRoom => say(rt, b" room-of-columns"),
+        What::ShiftRoom => say(rt, b" room-of-shifts"),
+        What::Column => say(rt, b" bookmark-column"),
+        What::Shift => say(rt, b" bookmark-shift"),
     }
 }
 
 // The number that something gets; a shift goes by its own number.
 pub fn value_name(rt: &impl Print, what: What, value: u16) -> io::Result<()> {
     if let What::Shift = what {
-        say(rt, " ")?;
+        say(rt, b" ")?;
         signed(rt, end_shift(value))
     } else {
         number(rt, size16(value))

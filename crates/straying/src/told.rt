@@ -12,7 +12,7 @@ use second::totals::{byte, size, size16};
 use std::io;
 
 // A number after what it is.
-fn named(rt: &impl Print, text: &str, x: usize) -> io::Result<()> {
+fn named(rt: &impl Print, text: &[u8], x: usize) -> io::Result<()> {
     say(rt, text)?;
     number(rt, x)
 }
@@ -20,10 +20,10 @@ fn named(rt: &impl Print, text: &str, x: usize) -> io::Result<()> {
 // The changes, or the refusal's number and place.
 fn outcome(rt: &impl Print, refusal: u8, place: usize, changes: usize) -> io::Result<()> {
     if 0 < refusal {
-        named(rt, " refused", size(refusal))?;
-        named(rt, " at", place)?;
+        named(rt, b" refused", size(refusal))?;
+        named(rt, b" at", place)?;
     } else {
-        named(rt, " changes", changes)?;
+        named(rt, b" changes", changes)?;
     }
     Ok(())
 }
@@ -31,7 +31,7 @@ fn outcome(rt: &impl Print, refusal: u8, place: usize, changes: usize) -> io::Re
 // The places from one to another.
 fn kept(rt: &impl Print, places: &Places, from: usize, to: usize) -> io::Result<()> {
     if from < to {
-        say(rt, ", kept")?;
+        say(rt, b", kept")?;
     }
     for i in from..to {
         number(rt, size(byte(places, i)))?;
@@ -44,7 +44,7 @@ pub fn stray_told(rt: &impl Print, places: &Places, a: Ask, answer: Stray) -> io
     outcome(rt, answer.number, answer.place, answer.changes)?;
     let many = written_by(a, answer.number);
     if 0 < many {
-        say(rt, ", route")?;
+        say(rt, b", route")?;
     }
     bytes(rt, places, many)?;
     kept(rt, places, many, a.columns)?;
@@ -53,23 +53,23 @@ pub fn stray_told(rt: &impl Print, places: &Places, a: Ask, answer: Stray) -> io
 
 // What stands before the route of a case: all that is lent, and the pair.
 pub fn stray_head(rt: &impl Print, cells: &[u8], theme: &[u8], a: Ask) -> io::Result<()> {
-    say(rt, "case:")?;
+    say(rt, b"case:")?;
     case(rt, cells, theme, a)?;
-    say(rt, " pair")?;
+    say(rt, b" pair")?;
     pair(rt, size16(a.column), a.shift)?;
-    named(rt, " places", a.columns)?;
-    say(rt, ":")
+    named(rt, b" places", a.columns)?;
+    say(rt, b":")
 }
 
 // What stands before that of a call with two faults, the first 0 where there is one alone.
 pub fn barred_head(rt: &impl Print, low: usize, high: usize) -> io::Result<()> {
-    say(rt, "due:")?;
+    say(rt, b"due:")?;
     if 0 < low {
         number(rt, low)?;
-        say(rt, " and")?;
+        say(rt, b" and")?;
     }
     number(rt, high)?;
-    say(rt, ":")
+    say(rt, b":")
 }
 
 // So many tracks of the route that is due.
@@ -89,10 +89,10 @@ pub fn astray(
     due: Detour,
 ) -> io::Result<()> {
     let path = due.path;
-    say(rt, "\nDIFFERS, ")?;
+    say(rt, b"\nDIFFERS, ")?;
     stray_head(rt, cells, theme, a)?;
     stray_told(rt, places, a, answer)?;
-    say(rt, "due:")?;
+    say(rt, b"due:")?;
     outcome(rt, due.number, due.place, due.changes)?;
     path_told(rt, &path, written_by(a, due.number))
 }

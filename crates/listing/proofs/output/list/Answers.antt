@@ -1,10 +1,7 @@
 -- `listing::output::list` meets its contract: where there is room, the answer is always told.
 use native.Mathlib.Omega.{arith}
-use Rattle.listing.proofs.Listings.{list_short, list_written, list_refused, list_room}
+use Rattle.listing.proofs.Listings.{list_written, list_refused, list_room}
 use Rattle.listing.proofs.output.list.Goals as goal
-
-pub returns-then-out-lt-ROOM : goal.returns-then-out-lt-ROOM
-returns-then-out-lt-ROOM c = list_short _ _ (omega arith)
 
 pub returns-in-Told : goal.returns-in-Told
 returns-in-Told c = list_written _ _ (omega arith) c.answer.ensures c.in-Told.is

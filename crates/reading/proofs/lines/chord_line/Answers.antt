@@ -1,4 +1,4 @@
--- `crate::lines::chord_line` meets its contract: no word at the front, bad fields, and as many cells as are allowed or not.
+-- `reading::lines::chord_line` meets its contract: no word at the front, bad fields, and as many cells as are allowed or not.
 use mathlib.Core.Path.{sym, ◌∙◌}
 use Rattle.reading.specs.Reading.{chord_word}
 use Rattle.reading.proofs.Lining.{begins_within, chord_none, chord_bad, chord_right, chord_wrong}

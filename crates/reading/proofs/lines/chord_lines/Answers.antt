@@ -1,4 +1,4 @@
--- `crate::lines::chord_lines` meets its contract: what the invariant says behind a line, at a faulty one, and at the end of the
+-- `reading::lines::chord_lines` meets its contract: what the invariant says behind a line, at a faulty one, and at the end of the
 -- text.
 use native.Mathlib.Omega.{arith}
 use Rattle.reading.proofs.Scoring.{scoring_end, scoring_bad, scoring_more}

@@ -1,4 +1,4 @@
--- `crate::lines::fields` meets its contract: what the invariant says at the line feed, at bad text, and at the end of the text.
+-- `reading::lines::fields` meets its contract: what the invariant says at the line feed, at bad text, and at the end of the text.
 use Rattle.reading.proofs.Filling.{filling_short, filling_end, filling_stop, filling_bad, filling_more}
 use Rattle.reading.proofs.lines.fields.Goals as goal
 

@@ -1,4 +1,4 @@
--- `crate::lines::theme_line` meets its contract: which of the three words stands at the front, or none.
+-- `reading::lines::theme_line` meets its contract: which of the three words stands at the front, or none.
 use mathlib.Core.Path.{sym, ◌∙◌}
 use Rattle.reading.proofs.Lining.{theme_exact, theme_octave, theme_written, theme_none}
 use Rattle.reading.proofs.lines.theme_line.Goals as goal

@@ -1,4 +1,4 @@
--- `crate::request::all_lines` meets its contract: of the theme line and of all chord lines, what the whole input means.
+-- `reading::request::all_lines` meets its contract: of the theme line and of all chord lines, what the whole input means.
 use Rattle.reading.proofs.Wholes.{theme_got, score_got, fault_got, whole_bad, whole_none, whole_fault, whole_read}
 use Rattle.reading.proofs.request.all_lines.Goals as goal
 

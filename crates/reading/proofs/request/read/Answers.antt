@@ -1,4 +1,4 @@
--- `crate::request::read` meets its contract: a buffer that is too short, or what was read and copied.
+-- `reading::request::read` meets its contract: a buffer that is too short, or what was read and copied.
 use Rattle.reading.proofs.Takings.{takes_short, takes_held}
 use Rattle.reading.proofs.request.read.Goals as goal
 

@@ -1,4 +1,4 @@
--- `crate::bytes::stands` meets its contract where the text ends before the word: it doesn't stand there.
+-- `words::bytes::stands` meets its contract where the text ends before the word: it doesn't stand there.
 use Rattle.words.proofs.Standing.{standing_short}
 use Rattle.words.proofs.bytes.stands.Goals as goal
 

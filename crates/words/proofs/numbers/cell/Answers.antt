@@ -1,4 +1,4 @@
--- `crate::numbers::cell` meets its contract: a rest where one may stand, and else a number.
+-- `words::numbers::cell` meets its contract: a rest where one may stand, and else a number.
 use Rattle.words.proofs.Places.{cell_rest, cell_number}
 use Rattle.words.proofs.numbers.cell.Goals as goal
 

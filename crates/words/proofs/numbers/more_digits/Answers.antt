@@ -1,4 +1,4 @@
--- `crate::numbers::more_digits` meets its contract: one digit more, one that makes the number too large, or no digit.
+-- `words::numbers::more_digits` meets its contract: one digit more, one that makes the number too large, or no digit.
 use mathlib.Core.Path.{sym, ◌∙◌}
 use native.Mathlib.Omega.{arith}
 use Rattle.words.proofs.Places.{digits_none, digits_large, digits_one}

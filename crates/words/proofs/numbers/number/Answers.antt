@@ -1,4 +1,4 @@
--- `crate::numbers::number` meets its contract: no digit, a zero, or one digit and then two more where they stand.
+-- `words::numbers::number` meets its contract: no digit, a zero, or one digit and then two more where they stand.
 use mathlib.Core.Path.{sym, ◌∙◌}
 use native.Mathlib.Omega.{arith}
 use Rattle.words.proofs.Places.{number_bad, number_stop, number_more}
