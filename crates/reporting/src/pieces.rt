@@ -28,7 +28,7 @@ pub fn tried(rt: &impl Print, x: u64) -> io::Result<()> {
 // A shift with its sign.
 fn signed(rt: &impl Print, c: i16) -> io::Result<()> {
     if c < 0 {
-        say(rt, "-")?;
+        say(rt, b"-")?;
     }
     rt.print(distance(c))
 }
@@ -37,7 +37,7 @@ fn signed(rt: &impl Print, c: i16) -> io::Result<()> {
 pub fn pair(rt: &impl Print, column: usize, c: i16) -> io::Result<()> {
     print!(rt; " ({column}, ")?;
     signed(rt, c)?;
-    say(rt, ")")
+    say(rt, b")")
 }
 
 pub fn bytes(rt: &impl Print, s: &[u8], many: usize) -> io::Result<()> {
