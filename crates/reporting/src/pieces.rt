@@ -3,7 +3,7 @@
 use jobs::changes::{What, end_shift};
 use judging::compare::Fault;
 use second::asks::Call;
-use second::totals::{byte, set, shift, size, size16};
+use second::totals::{byte, distance, set, shift, size, size16};
 use second::ways::Way;
 use std::io;
 
@@ -27,12 +27,17 @@ pub fn tried(rt: &impl Print, x: u64) -> io::Result<()> {
 
 // A shift with its sign.
 fn signed(rt: &impl Print, c: i16) -> io::Result<()> {
-    print!(rt; "{c}")
+    if c < 0 {
+        say(rt, b"-")?;
+    }
+    rt.print(distance(c))
 }
 
 // A place, as (column, shift).
 pub fn pair(rt: &impl Print, column: usize, c: i16) -> io::Result<()> {
-    print!(rt; " ({column}, {c})")
+    print!(rt; " ({column}, ")?;
+    signed(rt, c)?;
+    say(rt, b")")
 }
 
 pub fn bytes(rt: &impl Print, s: &[u8], many: usize) -> io::Result<()> {
