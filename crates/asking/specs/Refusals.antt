@@ -10,31 +10,32 @@ use Rattle.ways.specs.declared.way.Way.{Way}
 use Rattle.ways.specs.declared.way.AnyWay.{AnyWay}
 use Rattle.ways.specs.declared.bookmark.Bookmark.{Bookmark}
 use Rattle.ways.specs.Way.{Range, range_of, range_as}
+use Rattle.score.specs.declared.refusals.Rule.TheVariants as rule
 use Rattle.asking.specs.Limits.{most_notes}
 
 -- 4: the theme has fewer than two notes, or more than `most`, which a call names: 32
 abbrev pub row4 : (most : ℕ) (theme : List ℕ) → Row
-row4 most theme = row 4 (ltb (length theme) 2 || ltb most (length theme)) 0
+row4 most theme = row rule.Notes (ltb (length theme) 2 || ltb most (length theme)) 0
 
 -- 5: some note lies above every pitch; the place is the first of them, counted from 0
 abbrev pub bad_note : ℕ → Bool
 bad_note p = ltb highest_pitch p
 
 abbrev pub row5 : (theme : List ℕ) → Row
-row5 theme = row 5 (some bad_note theme) (first bad_note theme)
+row5 theme = row rule.Note (some bad_note theme) (first bad_note theme)
 
 -- 8: the table has not a word for each set
 abbrev pub row8 : (long : ℕ) → Row
-row8 long = row 8 (not (eqb long table_words)) 0
+row8 long = row rule.TableLength (not (eqb long table_words)) 0
 
 -- 9: there is no room, or the two buffers are not equally long
 abbrev pub row9 : (r other : ℕ) → Row
-row9 r other = row 9 (eqb r 0 || not (eqb other r)) 0
+row9 r other = row rule.Room (eqb r 0 || not (eqb other r)) 0
 
 -- 10: the bookmark has no column 1 to n + 1, or its shift is below the range or more than one above it
 abbrev pub row10 : Range → (n : ℕ) → Bookmark → Row
 row10 range n b =
-    row 10
+    row rule.Bookmark
     (eqb b.column.0 0 || ltb (n + 1) b.column.0 || lt_z b.shift range.lowest || lt_z (range.highest +ℤ pos 1) b.shift)
     0
 

@@ -11,21 +11,20 @@ ghost use Rattle.asking.specs.Refusals.{bad_note, row10, theme_rows, request_row
 
 use crate::limits::MOST_NOTES;
 use score::{
-    Column, HIGHEST_PITCH, Refusal, TABLE_WORDS, Verdict, check_score, check_sets, columns_in,
+    Column, HIGHEST_PITCH, Refusal, Rule, TABLE_WORDS, check_score, check_sets, columns_in,
 };
 use ways::{AnyWay, Bookmark, Way, out_as};
 
 // Refusals 1 to 5, for a score and a theme of `most` notes at most.
-pub fn check_request(cells: &[u8], tracks: usize, theme: &[u8], most: usize) -> Verdict
+pub fn check_request(cells: &[u8], tracks: usize, theme: &[u8], most: usize) -> Result<(), Refusal>
     ensures { result ≡ verdict (request_rows most cells.now tracks theme.now) }
 {
-    if let Verdict::Refused(e) = check_score(cells, tracks) {
-        return Verdict::Refused(e);
-    }
+    check_score(cells, tracks)?;
     check_theme(theme, most)
 }
 
-// Refusals 1 to 5, 9 and 10, for a plain page with room r and as many shifts as `other`.
+// Refusals 1 to 5, 9 and 10, for a plain page with room r and as many shifts as `other`. What is asked stands apart, as C lends
+// it and as the rows name it: a struct of what is lent would only be taken apart again in each row.
 pub fn check_plain(
     cells: &[u8],
     tracks: usize,
@@ -34,12 +33,10 @@ pub fn check_plain(
     bookmark: Bookmark,
     r: usize,
     other: usize,
-) -> Verdict
+) -> Result<(), Refusal>
     ensures { result ≡ verdict (request_rows most_notes cells.now tracks theme.now ++ page_rows (range_as way) (columns_in cells.now tracks) bookmark r other) }
 {
-    if let Verdict::Refused(e) = check_request(cells, tracks, theme, MOST_NOTES) {
-        return Verdict::Refused(e);
-    }
+    check_request(cells, tracks, theme, MOST_NOTES)?;
     check_page(way, columns_in(cells, tracks), bookmark, r, other)
 }
 
@@ -50,19 +47,15 @@ pub fn check_with_sets(
     theme: &[u8],
     sets: &[u16],
     table: usize,
-) -> Verdict
+) -> Result<(), Refusal>
     ensures { result ≡ verdict (with_sets_rows cells.now tracks theme.now sets.now table) }
 {
-    if let Verdict::Refused(e) = check_request(cells, tracks, theme, MOST_NOTES) {
-        return Verdict::Refused(e);
-    }
-    if let Verdict::Refused(e) = check_sets(cells, tracks, sets) {
-        return Verdict::Refused(e);
-    }
+    check_request(cells, tracks, theme, MOST_NOTES)?;
+    check_sets(cells, tracks, sets)?;
     if table != TABLE_WORDS {
-        return refused(8, 0);
+        return Err(Refusal::new(Rule::TableLength));
     }
-    Verdict::Accepted
+    Ok(())
 }
 
 // Refusals 1 to 10, for a quick page with a table as long as `table`.
@@ -76,47 +69,44 @@ pub fn check_quick(
     table: usize,
     r: usize,
     other: usize,
-) -> Verdict
+) -> Result<(), Refusal>
     ensures { result ≡ verdict (with_sets_rows cells.now tracks theme.now sets.now table ++ page_rows (range_of way) (columns_in cells.now tracks) bookmark r other) }
 {
-    if let Verdict::Refused(e) = check_with_sets(cells, tracks, theme, sets, table) {
-        return Verdict::Refused(e);
-    }
+    check_with_sets(cells, tracks, theme, sets, table)?;
     let n = columns_in(cells, tracks);
     check_page(AnyWay::Moved(way), n, bookmark, r, other)
 }
 
-// The verdict that turns away, by the number and the place.
-fn refused(number: u8, place: usize) -> Verdict
-    ensures { result ≡ Verdict.Refused (record { number = number; place = place }) }
-{
-    Verdict::Refused(Refusal { number, place })
-}
-
 // Refusals 4 and 5: the number of notes, 2 to `most`, and the notes themselves.
-pub fn check_theme(theme: &[u8], most: usize) -> Verdict
+pub fn check_theme(theme: &[u8], most: usize) -> Result<(), Refusal>
     ensures { result ≡ verdict (theme_rows most theme.now) }
 {
     if (theme.len() < 2) | (most < theme.len()) {
-        return refused(4, 0);
+        return Err(Refusal::new(Rule::Notes));
     }
     if any_bad_note(theme) {
-        return refused(5, first_bad_note(theme));
+        return Err(Refusal::at(Rule::Note, first_bad_note(theme)));
     }
-    Verdict::Accepted
+    Ok(())
 }
 
 // Refusals 9 and 10: the room of the two buffers, and the bookmark.
-pub fn check_page(way: AnyWay, n: usize, bookmark: Bookmark, r: usize, other: usize) -> Verdict
+pub fn check_page(
+    way: AnyWay,
+    n: usize,
+    bookmark: Bookmark,
+    r: usize,
+    other: usize,
+) -> Result<(), Refusal>
     ensures { result ≡ verdict (page_rows (range_as way) n bookmark r other) }
 {
     if (r == 0) | (other != r) {
-        return refused(9, 0);
+        return Err(Refusal::new(Rule::Room));
     }
     if bad_bookmark(way, n, bookmark) {
-        return refused(10, 0);
+        return Err(Refusal::new(Rule::Bookmark));
     }
-    Verdict::Accepted
+    Ok(())
 }
 
 // Whether the column is neither one of the n columns nor the one after them.
@@ -138,29 +128,25 @@ fn bad_bookmark(way: AnyWay, n: usize, bookmark: Bookmark) -> bool
     outside(column, n) | out_as(way, bookmark.shift)
 }
 
+fn bad_note(note: u8) -> bool
+    ensures { result ≡ bad_note note }
+{
+    HIGHEST_PITCH < note
+}
+
 // Whether some note is bad. All are gone through whatever is found, so that many can be looked at together.
 fn any_bad_note(theme: &[u8]) -> bool
     ensures { result ≡ some bad_note theme.now }
 {
-    let mut bad = false;
-    let mut i = 0;
-    while i < theme.len() {
-        bad = bad | (HIGHEST_PITCH < theme[i]);
-        i += 1;
-    }
-    bad
+    theme.iter().fold(false, |bad, &note| bad | bad_note(note))
 }
 
 // The first note that is bad, or the number of notes where none is.
 fn first_bad_note(theme: &[u8]) -> usize
     ensures { result ≡ first bad_note theme.now }
 {
-    let mut i = 0;
-    while i < theme.len() {
-        if HIGHEST_PITCH < theme[i] {
-            return i;
-        }
-        i += 1;
-    }
-    i
+    theme
+        .iter()
+        .position(|&note| bad_note(note))
+        .unwrap_or(theme.len())
 }

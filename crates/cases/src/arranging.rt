@@ -2,12 +2,12 @@
 
 use crate::edges::{fill_edge, fill_edge_theme};
 use crate::random::fill_theme;
-use crate::worlds::spell;
 use gapped::drawing::fill;
 use gapped::sparse::{fill_sparse, fill_sparse_theme};
+use gapped::spelling::spell;
 use gapped::spreads::{fill_spread, fill_spread_theme};
 use jobs::buffers::{Cells, Sets, Theme};
-use jobs::changes::{Change, change_bytes, change_sets};
+use jobs::changes::{change_bytes, change_sets};
 use jobs::job::{Job, Source};
 use jobs::worked::{load, load_theme};
 use judging::answers::ask_prepare;
@@ -18,11 +18,11 @@ fn put_score(cells: &mut Cells, source: Source, k: usize, a: Ask) {
     let many = a.cells;
     match source {
         Source::Worked => load(cells, k),
-        Source::World => spell(cells, many, k, 4, 0),
+        Source::World => spell(cells, many, k, &[0, 12, 127, 255]),
         Source::Random => fill(cells, many, k),
         Source::Edge => fill_edge(cells, many, k),
-        Source::Gaps => spell(cells, many, k, 3, 1),
-        Source::Beats => spell(cells, many, k, 2, 2),
+        Source::Gaps => spell(cells, many, k, &[12, 127, 255]),
+        Source::Beats => spell(cells, many, k, &[127, 255]),
         Source::Spread => fill_spread(cells, many, k),
         Source::Sparse => fill_sparse(cells, many, a.h, k),
     }
@@ -31,44 +31,27 @@ fn put_score(cells: &mut Cells, source: Source, k: usize, a: Ask) {
 fn put_theme(cells: &[u8], theme: &mut Theme, source: Source, k: usize, a: Ask) {
     match source {
         Source::Worked => load_theme(theme, k),
-        Source::World => spell(theme, 3, k, 3, 0),
+        Source::World => spell(theme, 3, k, &[0, 12, 127]),
         Source::Random => fill_theme(cells, theme, a, k),
         Source::Edge => fill_edge_theme(theme, k),
-        Source::Gaps | Source::Beats => spell(theme, 3, k, 2, 1),
+        Source::Gaps | Source::Beats => spell(theme, 3, k, &[12, 127]),
         Source::Spread => fill_spread_theme(theme),
         Source::Sparse => fill_sparse_theme(cells, theme, a, k),
     }
 }
 
-// The sets of the score, where it is one, with two changes.
-fn put_sets(cells: &[u8], sets: &mut Sets, a: Ask, c: Change, d: Change) {
-    ask_prepare(cells, sets, a);
-    change_sets(sets, c);
-    change_sets(sets, d);
-}
-
-fn put_changes(cells: &mut Cells, theme: &mut Theme, c: Change, d: Change) {
-    change_bytes(cells, theme, c);
-    change_bytes(cells, theme, d);
-}
-
-// The score and its sets, or those of another one.
+// The score and its sets, with the changes to them, or the sets of another score.
 pub fn arrange(cells: &mut Cells, sets: &mut Sets, j: Job) {
-    let source = j.source;
-    let a = j.a;
-    let c = j.c;
-    let d = j.d;
-    put_score(cells, source, j.sets_of, a);
-    put_sets(cells, sets, a, c, d);
-    put_score(cells, source, j.score, a);
+    put_score(cells, j.source, j.sets_of, j.a);
+    let _ = ask_prepare(cells, sets, j.a);
+    change_sets(sets, j.c);
+    change_sets(sets, j.d);
+    put_score(cells, j.source, j.score, j.a);
 }
 
-// The theme, and the changes.
+// The theme, and the changes to it and to the score.
 pub fn arrange_theme(cells: &mut Cells, theme: &mut Theme, j: Job) {
-    let source = j.source;
-    let a = j.a;
-    let c = j.c;
-    let d = j.d;
-    put_theme(cells, theme, source, j.theme, a);
-    put_changes(cells, theme, c, d);
+    put_theme(cells, theme, j.source, j.theme, j.a);
+    change_bytes(cells, theme, j.c);
+    change_bytes(cells, theme, j.d);
 }

@@ -4,31 +4,42 @@
 
 ghost use Rattle.std.specs.Prelude.{◌<◌};
 
-use jobs::changes::{at, none};
-use jobs::job::{Head, Job, Source};
-use jobs::shapes::{ask_of, room_of, way_of};
-use second::asks::{Ask, Call, columns_of};
-use second::totals::{less_one, more, put_byte};
+use gapped::spreads::{notes_by, tracks_by};
+use jobs::buffers::fill_by;
+use jobs::changes::at;
+use jobs::job::{Job, Source};
+use jobs::shapes::{ask_of, pages_in, room_of, way_of};
+use second::asks::{Ask, columns_of};
+use second::totals::{less_one, more};
 use second::ways::{lowest, shift_at, span};
 
-// The kinds, by the number of an edge: one pitch, rests, the theme at the end, and the same spoilt.
-fn kind_of(e: usize) -> usize {
-    e % 4
+// The kinds: one pitch, rests, the theme at the end, and the same spoilt.
+#[derive(Clone, Copy, PartialEq, Eq)]
+enum Kind {
+    Even,
+    Silent,
+    Ending,
+    Spoilt,
 }
 
-// There is at least one track.
+// The kind of an edge, by its number.
+fn kind_of(e: usize) -> Kind {
+    match e % 4 {
+        0 => Kind::Even,
+        1 => Kind::Silent,
+        2 => Kind::Ending,
+        _ => Kind::Spoilt,
+    }
+}
+
 fn tracks_of(e: usize) -> usize
     ensures { 0 < result }
 {
-    if e / 4 % 2 == 0 { 1 } else { 16 }
+    tracks_by(e / 4)
 }
 
 fn notes_of(e: usize) -> usize {
-    match e / 8 % 3 {
-        0 => 2,
-        1 => 31,
-        _ => 32,
-    }
+    notes_by(e / 8)
 }
 
 fn columns_in(e: usize) -> usize {
@@ -43,62 +54,48 @@ fn columns_in(e: usize) -> usize {
 
 // The columns before those in which the theme stands; none where it is longer than the score.
 fn before(e: usize) -> usize {
-    let n = columns_in(e);
-    let m = notes_of(e);
-    if m <= n { n - m } else { 0 }
+    columns_in(e).saturating_sub(notes_of(e))
 }
 
 // Note i of the theme, from 0: the same all over, or rising.
 fn edge_note(e: usize, i: usize) -> u8 {
-    if kind_of(e) < 2 {
-        return 60;
+    match kind_of(e) {
+        Kind::Even | Kind::Silent => 60,
+        Kind::Ending | Kind::Spoilt => 40 + (i % 64) as u8,
     }
-    40 + (i % 64) as u8
 }
 
-// The same as it stands in the score: of the spoilt ones the last is too high.
+// The same as it stands in the score: of the spoilt ones the last is too high. That of `gapped::spreads` differs in its notes and
+// has rests behind: one for both would take all it says from its callers.
 fn standing_note(e: usize, i: usize) -> u8 {
-    if kind_of(e) == 3 {
-        if more(i, 1) == notes_of(e) {
-            return edge_note(e, more(i, 1));
-        }
-    }
-    edge_note(e, i)
+    let spoilt = kind_of(e) == Kind::Spoilt && more(i, 1) == notes_of(e);
+    edge_note(e, if spoilt { more(i, 1) } else { i })
 }
 
 // The cell of a column and a track, both from 0, of a score in which the theme stands at the end.
 fn ending_cell(e: usize, column: usize, track: usize) -> u8 {
-    let first = before(e);
-    if column < first {
-        return 255;
+    match column.checked_sub(before(e)) {
+        Some(i) if i % tracks_of(e) == track => standing_note(e, i),
+        _ => 255,
     }
-    let i = column - first;
-    if i % tracks_of(e) == track {
-        return standing_note(e, i);
-    }
-    255
 }
 
 // Cell i of an edge's score.
 fn edge_cell(e: usize, i: usize) -> u8 {
     let h = tracks_of(e);
     match kind_of(e) {
-        0 => 60,
-        1 => 255,
-        _ => ending_cell(e, i / h, i % h),
+        Kind::Even => 60,
+        Kind::Silent => 255,
+        Kind::Ending | Kind::Spoilt => ending_cell(e, i / h, i % h),
     }
 }
 
 pub fn fill_edge(cells: &mut [u8], many: usize, e: usize) {
-    for i in 0..many {
-        put_byte(cells, i, edge_cell(e, i));
-    }
+    fill_by(cells, many, |i| edge_cell(e, i));
 }
 
 pub fn fill_edge_theme(theme: &mut [u8], e: usize) {
-    for i in 0..32 {
-        put_byte(theme, i, edge_note(e, i));
-    }
+    fill_by(theme, 32, |i| edge_note(e, i));
 }
 
 // From the p-th bookmark: the first; the last column at which the theme has room, from its lowest shift and from one above its
@@ -115,42 +112,21 @@ fn from_mark(a: Ask, p: usize, last: usize) -> Ask {
     }
 }
 
-// What is asked of an edge.
-fn edge_ask(e: usize, way: usize, room: usize) -> Ask {
-    ask_of(
-        tracks_of(e),
-        columns_in(e),
-        notes_of(e),
-        way_of(way),
-        room_of(room),
-    )
-}
-
 // Each edge in all ways, at all rooms: the whole list, and a page from each other bookmark.
 pub fn edge_job(k: usize) -> Job {
     let e = k / 60;
     let p = k / 15 % 4;
-    let a = from_mark(edge_ask(e, k % 3, k / 3 % 5), p, more(before(e), 1));
-    let c = none();
+    let way = way_of(k % 3);
+    let a = ask_of(
+        tracks_of(e),
+        columns_in(e),
+        notes_of(e),
+        way,
+        room_of(k / 3),
+    );
+    let marked = from_mark(a, p, more(before(e), 1));
     Job {
-        tried: true,
-        source: Source::Edge,
-        sets_of: e,
-        score: e,
-        theme: e,
-        a,
-        c,
-        d: c,
-        call: call_in(k % 3),
         whole: p == 0,
-        deep: false,
-        loud: false,
-        head: Head::Quiet,
-        low: 0,
-        high: 0,
+        ..Job::quiet(Source::Edge, e, e, marked, pages_in(way))
     }
-}
-
-fn call_in(way: usize) -> Call {
-    if way == 2 { Call::Plain } else { Call::Both }
 }

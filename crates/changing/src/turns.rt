@@ -1,54 +1,65 @@
 // A call beside the second finder: what is lent is marked, the call is made, and what it did is compared.
 
-use crate::calls::{ask_prepare, ask_question, ask_update};
-use crate::verdicts::{fresh_fault, prepared_fault, question_fault, update_fault};
+use crate::calls::{ask_question, ask_update};
+use crate::verdicts::{fresh_right, question_right, summed_right, update_right_in};
 use jobs::buffers::{Sets, Table};
-use judging::compare::differs;
-use judging::marks::{mark_sets, mark_words};
-use noting::answers::Judged;
-use second::asks::Ask;
-use second::totals::{more, put_set, set};
+use judging::answers::{Denied, ask_prepare};
+use judging::compare::Fault;
+use judging::marks::put_marks;
+use noting::answers::{Judged, Said};
+use noting::lines::Mended;
+use second::asks::{Ask, Case};
+use second::totals::more;
 
-// A question with a lent summary. Deep: the whole table is marked before the call, and looked at afterwards.
-pub fn turn_question(
-    cells: &[u8],
-    theme: &[u8],
-    sets: &[u16],
-    table: &mut Table,
-    a: Ask,
-    deep: bool,
-    lent: u16,
-) -> Judged {
-    mark_words(table, marked_from(a, deep), more(a.table, 1));
-    let said = ask_question(cells, theme, sets, table, a, lent);
-    let fault = question_fault(cells, theme, sets, table, a, deep, lent, said);
-    Judged { fault, said }
-}
-
-fn marked_from(a: Ask, deep: bool) -> usize {
-    if deep { 0 } else { a.table }
-}
-
-// The sets as they are lent, and the place behind them, copied.
-fn keep(old: &mut [u16], sets: &[u16], many: usize) {
-    for i in 0..many {
-        put_set(old, i, (set(sets, i) % 65536) as u16);
+// What was seen of a call that gives a summary.
+fn summed(said: Result<u16, Denied>, verdict: Result<(), Fault>) -> Judged {
+    Judged {
+        said: said.map(|summary| Said::Summary(summary)),
+        verdict,
     }
 }
 
-// An update after a column was changed; the sets as they were stay in `old`.
-pub fn turn_update(cells: &[u8], old: &mut Sets, sets: &mut Sets, a: Ask, column: u16) -> Judged {
-    keep(old, sets, more(a.sets, 1));
-    let said = ask_update(cells, sets, a, column);
-    let fault = update_fault(cells, old, sets, a, column, said);
-    Judged { fault, said }
+// A question with a lent summary. Deep: the whole table is marked before the call, and looked at afterwards.
+pub fn turn_question(case: Case<'_>, table: &mut Table, a: Ask, deep: bool, lent: u16) -> Judged {
+    let from = if deep { 0 } else { a.table };
+    put_marks(table, from, more(a.table, 1));
+    let answer = ask_question(case, table, a, lent);
+    let verdict = question_right(case, table, a, deep, lent, answer);
+    Judged {
+        said: answer.map(|yes| Said::Occurs(yes)),
+        verdict,
+    }
 }
 
-pub fn turn_prepare(cells: &[u8], theme: &[u8], sets: &mut Sets, a: Ask) -> Judged {
-    mark_sets(sets, more(a.sets, 1));
+// An update after a column was changed, by the sets as they are: what they were stays in `old`.
+fn updated(
+    cells: &[u8],
+    old: &mut Sets,
+    sets: &mut Sets,
+    a: Ask,
+    column: u16,
+) -> (Result<u16, Denied>, Result<(), Fault>) {
+    *old = *sets;
+    let said = ask_update(cells, sets, a, column);
+    let mended = Mended {
+        cells,
+        old,
+        sets,
+        column,
+    };
+    (said, update_right_in(mended, a, said))
+}
+
+pub fn turn_update(cells: &[u8], old: &mut Sets, sets: &mut Sets, a: Ask, column: u16) -> Judged {
+    let (said, verdict) = updated(cells, old, sets, a, column);
+    summed(said, verdict)
+}
+
+// A preparation. That of `turning` judges the sets alone, as what was seen beside pages.
+pub fn turn_prepare(cells: &[u8], sets: &mut Sets, a: Ask) -> Judged {
+    put_marks(sets, 0, more(a.sets, 1));
     let said = ask_prepare(cells, sets, a);
-    let fault = prepared_fault(cells, theme, sets, a, said);
-    Judged { fault, said }
+    summed(said, summed_right(cells, sets, a, said))
 }
 
 // An update of sets that were right, beside a fresh preparation of the changed score too.
@@ -60,13 +71,10 @@ pub fn turn_fresh(
     a: Ask,
     column: u16,
 ) -> Judged {
-    let updated = turn_update(cells, old, sets, a, column);
-    let fault_of_update = updated.fault;
-    if differs(fault_of_update) {
-        return updated;
+    let (said, verdict) = updated(cells, old, sets, a, column);
+    if verdict.is_err() {
+        return summed(said, verdict);
     }
-    let said = updated.said;
     let prepared = ask_prepare(cells, fresh, a);
-    let fault = fresh_fault(sets, fresh, a, said, prepared);
-    Judged { fault, said }
+    summed(said, fresh_right(sets, fresh, a, said, prepared))
 }

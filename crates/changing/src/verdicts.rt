@@ -1,145 +1,96 @@
 // What a question, an update or a preparation did, beside the second finder: what it answered, what it wrote, and what it left
 // untouched.
 
-use judging::answers::refused;
-use judging::compare::{Fault, differs, sets_fault, table_fault};
-use noting::answers::Said;
-use second::asks::Ask;
-use second::away::Away;
+use judging::answers::Denied;
+use judging::compare::{Fault, demand, filled_right, prepared_right, refusal_right};
+use noting::lines::Mended;
+use second::asks::{Ask, Case};
 use second::questions::{lacks, occurs, question_refusal};
 use second::summaries::summary;
-use second::totals::{more, set};
+use second::totals::more;
 use second::updates::{update_refusal, update_right};
-
-// Whether the answer is the refusal that is due, 0 for none.
-fn refusal_fault(due: Away, said: Said) -> Fault {
-    if due.number != said.number {
-        return Fault::Refusal;
-    }
-    if due.place != said.place {
-        return Fault::Refusal;
-    }
-    Fault::Nothing
-}
 
 // The answer of an accepted question: yes where the list by the lent sets has a pair. It is never yes where the theme has an
 // interval that no set has.
-fn answer_fault(cells: &[u8], theme: &[u8], sets: &[u16], a: Ask, lent: u16, said: Said) -> Fault {
-    if said.yes != occurs(cells, theme, sets, a) {
-        return Fault::Answer;
-    }
-    if said.yes {
-        if lacks(theme, a.notes, lent) {
-            return Fault::Answer;
-        }
-    }
-    Fault::Nothing
+fn answer_right(case: Case<'_>, a: Ask, lent: u16, yes: bool) -> Result<(), Fault> {
+    demand(yes == occurs(case, a), Fault::Answer)?;
+    demand(!yes || !lacks(case.theme, a.notes, lent), Fault::Answer)
 }
 
 // A question: its answer, and the theme's table.
-pub fn question_fault(
-    cells: &[u8],
-    theme: &[u8],
-    sets: &[u16],
+pub(crate) fn question_right(
+    case: Case<'_>,
     table: &[u32],
     a: Ask,
     deep: bool,
     lent: u16,
-    said: Said,
-) -> Fault {
-    let due = refusal_fault(question_refusal(cells, theme, sets, a, lent), said);
-    if differs(due) {
-        return due;
+    said: Result<bool, Denied>,
+) -> Result<(), Fault> {
+    refusal_right(question_refusal(case, a, lent), said.err())?;
+    if let Ok(yes) = said {
+        answer_right(case, a, lent, yes)?;
     }
-    if said.number == 0 {
-        let answer = answer_fault(cells, theme, sets, a, lent, said);
-        if differs(answer) {
-            return answer;
-        }
-    }
-    table_fault(theme, table, a, deep, refused(said.number, said.place))
+    filled_right(case.theme, table, a, deep, said.is_ok())
 }
 
 // Whether sets from one place to another are the same in two buffers.
 fn same_sets(s: &[u16], t: &[u16], from: usize, to: usize) -> bool {
-    for i in from..to {
-        if set(s, i) != set(t, i) {
-            return false;
-        }
-    }
-    true
+    s.get(from..to) == t.get(from..to)
 }
 
 // The summary that an accepted call gives, of the sets as they then are.
-fn summary_fault(sets: &[u16], a: Ask, said: Said) -> Fault {
-    if summary(sets, a.sets) == said.summary {
-        return Fault::Nothing;
-    }
-    Fault::Summary
+fn summary_right(sets: &[u16], a: Ask, given: u16) -> Result<(), Fault> {
+    demand(summary(sets, a.sets) == given, Fault::Summary)
 }
 
-// The sets after an accepted update of the old ones: the two that are rewritten, all others as they were, and the summary.
-fn updated_fault(
-    cells: &[u8],
-    old: &[u16],
-    sets: &[u16],
+// An update. A refused one leaves the sets as they were, an accepted one those behind them: it rewrites two, and gives the
+// summary.
+pub(crate) fn update_right_in(
+    m: Mended<'_>,
     a: Ask,
-    column: u16,
-    said: Said,
-) -> Fault {
-    if !update_right(cells, old, sets, a, column) {
-        return Fault::Sets;
+    said: Result<u16, Denied>,
+) -> Result<(), Fault> {
+    refusal_right(update_refusal(m.cells, m.old, a, m.column), said.err())?;
+    demand(
+        same_sets(m.old, m.sets, a.sets, more(a.sets, 1)),
+        Fault::Untouched,
+    )?;
+    match said {
+        Ok(given) => {
+            demand(
+                update_right(m.cells, m.old, m.sets, a, m.column),
+                Fault::Sets,
+            )?;
+            summary_right(m.sets, a, given)
+        }
+        Err(_) => demand(same_sets(m.old, m.sets, 0, a.sets), Fault::Untouched),
     }
-    summary_fault(sets, a, said)
 }
 
-// An update of the old sets. A refused one leaves them as they were, an accepted one what lies behind them.
-pub fn update_fault(
-    cells: &[u8],
-    old: &[u16],
+// Updated sets beside fresh ones, with their summaries.
+pub(crate) fn fresh_right(
     sets: &[u16],
+    fresh: &[u16],
     a: Ask,
-    column: u16,
-    said: Said,
-) -> Fault {
-    let due = refusal_fault(update_refusal(cells, old, a, column), said);
-    if differs(due) {
-        return due;
-    }
-    if !same_sets(old, sets, a.sets, more(a.sets, 1)) {
-        return Fault::Untouched;
-    }
-    if said.number == 0 {
-        return updated_fault(cells, old, sets, a, column, said);
-    }
-    if !same_sets(old, sets, 0, a.sets) {
-        return Fault::Untouched;
-    }
-    Fault::Nothing
-}
-
-// What differs between updated sets and fresh ones, with their summaries.
-pub fn fresh_fault(sets: &[u16], fresh: &[u16], a: Ask, updated: Said, prepared: Said) -> Fault {
-    if prepared.number != updated.number {
-        return Fault::Fresh;
-    }
-    if !same_sets(sets, fresh, 0, a.sets) {
-        return Fault::Fresh;
-    }
-    if updated.summary != prepared.summary {
-        return Fault::Fresh;
-    }
-    Fault::Nothing
+    updated: Result<u16, Denied>,
+    prepared: Result<u16, Denied>,
+) -> Result<(), Fault> {
+    demand(
+        updated == prepared && same_sets(sets, fresh, 0, a.sets),
+        Fault::Fresh,
+    )
 }
 
 // A preparation: the sets, and the summary.
-pub fn prepared_fault(cells: &[u8], theme: &[u8], sets: &[u16], a: Ask, said: Said) -> Fault {
-    let fault = sets_fault(cells, theme, sets, a, refused(said.number, said.place));
-    if differs(fault) {
-        return fault;
+pub(crate) fn summed_right(
+    cells: &[u8],
+    sets: &[u16],
+    a: Ask,
+    said: Result<u16, Denied>,
+) -> Result<(), Fault> {
+    prepared_right(cells, sets, a, said.err())?;
+    match said {
+        Ok(given) => summary_right(sets, a, given),
+        Err(_) => Ok(()),
     }
-    if said.number == 0 {
-        return summary_fault(sets, a, said);
-    }
-    Fault::Nothing
 }

@@ -18,8 +18,6 @@ use Rattle.ways.specs.Way.{range_of}
 use Rattle.asking.specs.Limits.{most_notes}
 use Rattle.asking.specs.Asking.{Accepted, InRange, PlainAsks, QuickAsks}
 use Rattle.paging.specs.declared.page.Turn.{Turn}
-use Rattle.paging.specs.declared.page.Page.{Page}
-use Rattle.paging.specs.declared.page.Page.TheVariants.{Turned}
 use Rattle.paging.specs.Lent.{Lent, read_pairs}
 use Rattle.paging.specs.Page.{Leaf}
 use Rattle.paging.specs.Reading.{Turns, Reading, last, more}
@@ -32,6 +30,8 @@ use Rattle.search.proofs.Searches.{plain_calls}
 use Rattle.search.proofs.Quicker.{quick_same}
 use Rattle.demands.specs.Demands.{PlainCall, QuickCall, NoneDearer, none, more as dearer}
 use Rattle.demands.proofs.Whole.{pages_leaf, plainly}
+use Rattle.std.specs.Prelude.{Result, Ok, Err}
+use Rattle.score.specs.declared.refusals.Refusal.{Refusal}
 
 -- the parts of it
 record Near (t u : Turn) : Type 0 where
@@ -40,10 +40,10 @@ record Near (t u : Turn) : Type 0 where
   finished : t.finished ≡ u.finished
   looks : t.looks ≤ u.looks
 
-near_turned : {t u : Turn} → Near t u → NoDearer (Turned t) (Turned u)
+near_turned : {t u : Turn} → Near t u → NoDearer (Ok t) (Ok u)
 near_turned n = turned n.written n.next n.finished n.looks
 
-turned_near : {t u : Turn} → NoDearer (Turned t) (Turned u) → Near t u
+turned_near : {t u : Turn} → NoDearer (Ok t) (Ok u) → Near t u
 turned_near (turned a b c d) = record { written = a; next = b; finished = c; looks = d }
 
 module _ (cells : List ℕ) (h : ℕ) (theme : List ℕ) (way : Way) (a : Accepted most_notes cells h theme) (r : ℕ) (room : 1 ≤ r)
@@ -60,11 +60,11 @@ module _ (cells : List ℕ) (h : ℕ) (theme : List ℕ) (way : Way) (a : Accept
       let defined : Leaf = quick_page cells h theme way b (sets (score_of cells h)) (q.table b y.buffers) y.buffers in
       let e : quick b y.buffers ≡ defined = pages_leaf (q.promises b y.buffers).pages in
       let mine = turns_same (plainly cells h theme a r room (Moved way) p) i x in
-      let answered : Turned t' ≡ defined.answer = sym y.answered ∙ ap (λ (l : Leaf). l.answer) e in
-      let other : (plain_page cells h theme (Moved way) b y.buffers).answer ≡ Turned t = call_answer c b i y.buffers y.room ∙ ap Turned (sym mine.0) in
+      let answered : Ok t' ≡ defined.answer = sym y.answered ∙ ap (λ (l : Leaf). l.answer) e in
+      let other : (plain_page cells h theme (Moved way) b y.buffers).answer ≡ Ok t = call_answer c b i y.buffers y.room ∙ ap Ok (sym mine.0) in
       let near : Near t' t =
-      turned_near (subst (λ (z : Page). NoDearer z (Turned t)) (sym answered)
-      (subst (λ (z : Page). NoDearer defined.answer z) other s.answers)) in
+      turned_near (subst (λ (z : Result Turn Refusal). NoDearer z (Ok t)) (sym answered)
+      (subst (λ (z : Result Turn Refusal). NoDearer defined.answer z) other s.answers)) in
       let read : read_pairs t'.written (quick b y.buffers).buffers ≡ read_pairs (told c b).written (plain_page cells h theme (Moved way) b y.buffers).buffers =
       ap₂ read_pairs (near.written ∙ ap (λ (z : Turn). z.written) mine.0) (ap (λ (l : Leaf). l.buffers) e ∙ s.writes) in
       (y.left ∙ read ∙ call_read c b i y.buffers y.room ∙ sym mine.1, near)
@@ -88,8 +88,8 @@ module _ (cells : List ℕ) (h : ℕ) (theme : List ℕ) (way : Way) (a : Accept
 
 module _ (cells : List ℕ) (h : ℕ) (theme : List ℕ) (way : Way) (b : Bookmark) (buffers buffers' : Lent) (table : List ℕ)
     (same : length buffers'.columns ≡ length buffers.columns) {t u : Turn} {after after' : Lent} {table' : List ℕ}
-    (p : PlainPages cells h theme (Moved way) b buffers (Turned u) after)
-    (q : QuickPages cells h theme way b (sets (score_of cells h)) table buffers' (Turned t) table' after') where
+    (p : PlainPages cells h theme (Moved way) b buffers (Ok u) after)
+    (q : QuickPages cells h theme way b (sets (score_of cells h)) table buffers' (Ok t) table' after') where
   plain_asks : PlainAsks cells h theme (Moved way) b buffers.columns buffers.shifts
   plain_asks = (plain_turned cells h theme (Moved way) b buffers).0 (u, sym p.pages.answers)
 
@@ -109,7 +109,7 @@ module _ (cells : List ℕ) (h : ℕ) (theme : List ℕ) (way : Way) (b : Bookma
         promises = λ c l. record { pages = record { answers = refl; writes = refl }; fills_table = refl };
       }
 
-  pub one_page : (read_pairs t.written after' ≡ read_pairs u.written after) × NoDearer (Turned t) (Turned u)
+  pub one_page : (read_pairs t.written after' ≡ read_pairs u.written after) × NoDearer (Ok t) (Ok u)
   one_page =
       let r = length buffers.columns in
       let s =

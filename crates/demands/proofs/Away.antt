@@ -1,21 +1,18 @@
 -- Demand 1: each call, over its promise. The idea: an answer that meets the promise is the defined one, whose refusals are
 -- known. Assumes nothing.
 use mathlib.Core.Path.{◌≡◌, refl, sym, ap, ◌∙◌}
-use mathlib.Core.Bool.{true}
+use mathlib.Core.Bool.{true, Bool, false}
 use mathlib.Core.Logic.{◌↔◌, ◌⊎◌}
 use mathlib.Core.List.{List, [], ◌∷◌}
 use Prim.Native.Nat.{ℕ}
 use native.Mathlib.Omega.{arith}
+use Rattle.score.specs.declared.refusals.Rule.{Rule}
 use Rattle.score.specs.declared.quantities.Column.{Column}
 use Rattle.score.specs.declared.refusals.Refusal.{Refusal}
-use Rattle.score.specs.declared.refusals.Verdict.{Verdict}
-use Rattle.score.specs.declared.refusals.Verdict.TheVariants.{Accepted as Passed, Refused as Away}
 use Rattle.score.specs.Refusals.{Row, verdict, distinct, GivenBy, place_by}
 use Rattle.score.specs.Score.{score_of}
 use Rattle.score.proofs.Judged.{Clear, judge_clear, verdict_clear, answer_refused, answer_accepted, answer_kept}
 use Rattle.summing.specs.declared.summary.Summary.{Summary}
-use Rattle.preparing.specs.declared.sets.Preparation.{Preparation}
-use Rattle.preparing.specs.declared.sets.Preparation.TheVariants.{Prepared, Refused as Unprepared}
 use Rattle.preparing.specs.Preparing.{prepare_rows, Prepares}
 use Rattle.preparing.proofs.Prepared.{prepare_accepted, prepare_refused, prepare_kept}
 use Rattle.ways.specs.declared.way.Way.{Way}
@@ -24,50 +21,42 @@ use Rattle.ways.specs.declared.bookmark.Pair.{Pair}
 use Rattle.ways.specs.declared.bookmark.Bookmark.{Bookmark}
 use Rattle.asking.proofs.Rows.{plain_clear, quick_clear}
 use Rattle.paging.specs.declared.page.Turn.{Turn}
-use Rattle.paging.specs.declared.page.Page.{Page}
-use Rattle.paging.specs.declared.page.Page.TheVariants.{Turned, Refused}
 use Rattle.paging.specs.Lent.{Lent}
 use Rattle.search.specs.Page.{rows_of_plain, PlainPages, rows_of_quick, QuickPages}
 use Rattle.search.proofs.PlainCall.{plain_turned, plain_refused, plain_kept}
 use Rattle.search.proofs.QuickCall.{quick_turned, quick_refused, quick_kept}
-use Rattle.occurring.specs.declared.question.Occurrence.{Occurrence}
-use Rattle.occurring.specs.declared.question.Occurrence.TheVariants.{Somewhere, Nowhere, Refused as Unanswered}
 use Rattle.occurring.specs.Occurring.{occurs_rows, Occurs}
 use Rattle.occurring.proofs.Asked.{occurs_accepted, occurs_refused, occurs_kept}
-use Rattle.updating.specs.declared.changes.Change.{Change}
-use Rattle.updating.specs.declared.changes.Change.TheVariants.{Updated, Refused as Unchanged}
 use Rattle.updating.specs.Updating.{update_rows, Updates}
 use Rattle.updating.proofs.Updated.{update_accepted, update_refused, update_kept}
-use Rattle.routing.specs.declared.answer.Routed.{Routed}
-use Rattle.routing.specs.declared.answer.Routed.TheVariants.{Changes, Refused as Unrouted}
 use Rattle.routing.specs.Routing.{route_rows, Routes}
 use Rattle.explaining.specs.declared.answer.Explanation.{Explanation}
 use Rattle.explaining.specs.declared.answer.Reason.{Reason}
-use Rattle.explaining.specs.declared.answer.Reason.TheVariants.{Listed, NoShift, NoColumn, TooFew, Empty, Outside, Absent, Refused as Unexplained}
 use Rattle.explaining.specs.declared.answer.Sifted.TheVariants.{Unasked}
-use Rattle.explaining.specs.Explaining.{no_tracks, bare, explained, explain_rows, explanation}
+use Rattle.explaining.specs.Explaining.{explained, explain_rows, explanation}
+use Rattle.explaining.proofs.Refusing.{passed_explained, answered_is}
 use Rattle.demands.specs.Demands.{TurnsAway}
-use Rattle.demands.proofs.Explanations.{never_refused}
 use Rattle.demands.proofs.Routings.{routed_refused, routed_changes}
+use Rattle.std.specs.Prelude.{Result, Ok, Err}
 
 -- no row applies exactly where the verdict accepts
-clear_verdict : (rows : List Row) → Clear rows ↔ (verdict rows ≡ Passed)
-clear_verdict rows = (λ c. judge_clear Away Passed rows c, λ e. verdict_clear rows e)
+clear_verdict : (rows : List Row) → Clear rows ↔ (verdict rows ≡ Ok tt)
+clear_verdict rows = (λ c. judge_clear Err (Ok tt) rows c, λ e. verdict_clear rows e)
 
 -- a refusal is given exactly where the verdict is that refusal
-given_verdict : (rows : List Row) → distinct rows ≡ true → (k p : ℕ)
-    → (verdict rows ≡ Away (record { number = k; place = p })) ↔ (GivenBy rows k × (p ≡ place_by rows k))
-given_verdict rows = answer_refused (λ (v : Verdict). v) Away same Away Passed (λ r. refl) never rows
+given_verdict : (rows : List Row) → distinct rows ≡ true → (k : Rule) (p : ℕ)
+    → (verdict rows ≡ Err (record { rule = k; place = p })) ↔ (GivenBy rows k × (p ≡ place_by rows k))
+given_verdict rows = answer_refused (λ (v : Result (Unit {0}) Refusal). v) Err same Err (Ok tt) (λ r. refl) never rows
   where
-    same : (r s : Refusal) → Away r ≡ Away s → r ≡ s
+    same : (r s : Refusal) → ◌≡◌ {A = Result (Unit {0}) Refusal} (Err r) (Err s) → r ≡ s
     same r s e = cc
 
-    never : (r : Refusal) → Passed ≡ Away r → ⊥
+    never : (r : Refusal) → Ok (tt {0}) ≡ Err r → ⊥
     never r e = let z : ◌≡◌ {A = ℕ} 0 1 = cc in omega arith
 
-pub prepares_away : (cells : List ℕ) (h : ℕ) (lent : List ℕ) {answer : Preparation} {after : List ℕ} → Prepares cells h lent answer after
-    → TurnsAway (1 ∷ 2 ∷ 3 ∷ 6 ∷ []) (prepare_rows cells h lent) (λ r. answer ≡ Unprepared r)
-    ((s : Summary) × (answer ≡ Prepared s)) (after ≡ lent)
+pub prepares_away : (cells : List ℕ) (h : ℕ) (lent : List ℕ) {answer : Result Summary Refusal} {after : List ℕ} → Prepares cells h lent answer after
+    → TurnsAway (1 ∷ 2 ∷ 3 ∷ 6 ∷ []) (prepare_rows cells h lent) (λ r. answer ≡ Err r)
+    ((s : Summary) × (answer ≡ Ok s)) (after ≡ lent)
 prepares_away cells h lent p =
     let v = clear_verdict (prepare_rows cells h lent) in
     let a = prepare_accepted cells h lent in
@@ -78,10 +67,10 @@ prepares_away cells h lent p =
       unwritten = λ r x. p.fills ∙ prepare_kept cells h lent r (sym p.answers ∙ x);
     }
 
-pub plain_away : (cells : List ℕ) (h : ℕ) (theme : List ℕ) (way : AnyWay) (b : Bookmark) (buffers : Lent) {answer : Page} {after : Lent}
+pub plain_away : (cells : List ℕ) (h : ℕ) (theme : List ℕ) (way : AnyWay) (b : Bookmark) (buffers : Lent) {answer : Result Turn Refusal} {after : Lent}
     → PlainPages cells h theme way b buffers answer after
     → TurnsAway (1 ∷ 2 ∷ 3 ∷ 4 ∷ 5 ∷ 9 ∷ 10 ∷ []) (rows_of_plain cells h theme way b buffers)
-    (λ r. answer ≡ Refused r) ((t : Turn) × (answer ≡ Turned t)) (after ≡ buffers)
+    (λ r. answer ≡ Err r) ((t : Turn) × (answer ≡ Ok t)) (after ≡ buffers)
 plain_away cells h theme way b buffers p =
     let e = p.pages.answers in
     let v = clear_verdict (rows_of_plain cells h theme way b buffers) in
@@ -95,9 +84,9 @@ plain_away cells h theme way b buffers p =
     }
 
 pub quick_away : (cells : List ℕ) (h : ℕ) (theme : List ℕ) (way : Way) (b : Bookmark) (sets table : List ℕ) (buffers : Lent)
-    {answer : Page} {table' : List ℕ} {after : Lent} → QuickPages cells h theme way b sets table buffers answer table' after
+    {answer : Result Turn Refusal} {table' : List ℕ} {after : Lent} → QuickPages cells h theme way b sets table buffers answer table' after
     → TurnsAway (1 ∷ 2 ∷ 3 ∷ 4 ∷ 5 ∷ 6 ∷ 7 ∷ 8 ∷ 9 ∷ 10 ∷ []) (rows_of_quick cells h theme way b sets table buffers)
-    (λ r. answer ≡ Refused r) ((t : Turn) × (answer ≡ Turned t)) ((after ≡ buffers) × (table' ≡ table))
+    (λ r. answer ≡ Err r) ((t : Turn) × (answer ≡ Ok t)) ((after ≡ buffers) × (table' ≡ table))
 quick_away cells h theme way b sets table buffers p =
     let e = p.pages.answers in
     let v = clear_verdict (rows_of_quick cells h theme way b sets table buffers) in
@@ -111,9 +100,9 @@ quick_away cells h theme way b sets table buffers p =
     }
 
 pub occurs_away : (cells : List ℕ) (h : ℕ) (theme : List ℕ) (way : Way) (sets : List ℕ) (summary : Summary) (table : List ℕ)
-    {answer : Occurrence} {table' : List ℕ} → Occurs cells h theme way sets summary table answer table'
+    {answer : Result Bool Refusal} {table' : List ℕ} → Occurs cells h theme way sets summary table answer table'
     → TurnsAway (1 ∷ 2 ∷ 3 ∷ 4 ∷ 5 ∷ 6 ∷ 7 ∷ 8 ∷ 12 ∷ []) (occurs_rows cells h theme sets summary table)
-    (λ r. answer ≡ Unanswered r) ((answer ≡ Somewhere) ⊎ (answer ≡ Nowhere)) (table' ≡ table)
+    (λ r. answer ≡ Err r) ((answer ≡ Ok true) ⊎ (answer ≡ Ok false)) (table' ≡ table)
 occurs_away cells h theme way sets summary table o =
     let v = clear_verdict (occurs_rows cells h theme sets summary table) in
     let a = occurs_accepted cells h theme way sets summary table o in
@@ -124,9 +113,9 @@ occurs_away cells h theme way sets summary table o =
       unwritten = occurs_kept cells h theme way sets summary table o;
     }
 
-pub updates_away : (cells : List ℕ) (h : ℕ) (c : Column) (lent : List ℕ) {answer : Change} {after : List ℕ} → Updates cells h c lent answer after
-    → TurnsAway (1 ∷ 2 ∷ 3 ∷ 6 ∷ 7 ∷ 19 ∷ []) (update_rows cells h c lent) (λ r. answer ≡ Unchanged r)
-    ((s : Summary) × (answer ≡ Updated s)) (after ≡ lent)
+pub updates_away : (cells : List ℕ) (h : ℕ) (c : Column) (lent : List ℕ) {answer : Result Summary Refusal} {after : List ℕ} → Updates cells h c lent answer after
+    → TurnsAway (1 ∷ 2 ∷ 3 ∷ 6 ∷ 7 ∷ 19 ∷ []) (update_rows cells h c lent) (λ r. answer ≡ Err r)
+    ((s : Summary) × (answer ≡ Ok s)) (after ≡ lent)
 updates_away cells h c lent u =
     let v = clear_verdict (update_rows cells h c lent) in
     let a = update_accepted cells h c lent in
@@ -140,15 +129,15 @@ updates_away cells h c lent u =
 -- ---- the router: its promise is over the verdict itself
 
 pub routes_away : (cells : List ℕ) (h : ℕ) (theme : List ℕ) (way : AnyWay) (pair : Pair) (lent : List ℕ)
-    {answer : Routed} {after : List ℕ} → Routes cells h theme way pair lent answer after
-    → TurnsAway (1 ∷ 2 ∷ 3 ∷ 4 ∷ 5 ∷ 13 ∷ 14 ∷ []) (route_rows cells h theme way pair lent) (λ r. answer ≡ Unrouted r)
-    ((n : ℕ) × (answer ≡ Changes n)) (after ≡ lent)
+    {answer : Result ℕ Refusal} {after : List ℕ} → Routes cells h theme way pair lent answer after
+    → TurnsAway (1 ∷ 2 ∷ 3 ∷ 4 ∷ 5 ∷ 13 ∷ 14 ∷ []) (route_rows cells h theme way pair lent) (λ r. answer ≡ Err r)
+    ((n : ℕ) × (answer ≡ Ok n)) (after ≡ lent)
 routes_away cells h theme way pair lent p =
     let a = routed_refused cells h theme way pair lent p in
     record {
       order = refl;
       exactly = λ k q.
-          let f = a (record { number = k; place = q }) in
+          let f = a (record { rule = k; place = q }) in
           let g = given_verdict (route_rows cells h theme way pair lent) refl k q in
           (λ x. g.0 (f.0 x), λ x. f.1 (g.1 x));
       otherwise = routed_changes cells h theme way pair lent p;
@@ -157,43 +146,31 @@ routes_away cells h theme way pair lent p =
 
 -- ---- the explainer
 
-abbrev none : Refusal
-none = record { number = 0; place = 0 }
-
-abbrev refusal_in : Reason → Refusal
-refusal_in (Unexplained r) = r
-refusal_in Listed = none
-refusal_in NoShift = none
-refusal_in NoColumn = none
-refusal_in TooFew = none
-refusal_in Empty = none
-refusal_in (Outside i) = none
-refusal_in (Absent i) = none
-
-pub explains_away : (cells : List ℕ) (h : ℕ) (theme : List ℕ) (way : Way) (pair : Pair) (sets : List ℕ) {answer : Explanation}
+pub explains_away : (cells : List ℕ) (h : ℕ) (theme : List ℕ) (way : Way) (pair : Pair) (sets : List ℕ) {answer : Result Explanation Refusal}
     → answer ≡ explanation cells h theme way pair sets
-    → TurnsAway (1 ∷ 2 ∷ 3 ∷ 4 ∷ 5 ∷ 6 ∷ 7 ∷ []) (explain_rows cells h theme sets) (λ r. answer.reason ≡ Unexplained r)
-    ((r : Refusal) → answer.reason ≡ Unexplained r → ⊥) ((answer.tracks ≡ no_tracks) × (answer.sifted ≡ Unasked))
+    → TurnsAway (1 ∷ 2 ∷ 3 ∷ 4 ∷ 5 ∷ 6 ∷ 7 ∷ []) (explain_rows cells h theme sets) (λ r. answer ≡ Err r)
+    ((e : Explanation) × (answer ≡ Ok e)) ((e : Explanation) → answer ≡ Ok e → ⊥)
 unfolding explanation
 explains_away cells h theme way pair sets {answer} e =
-    let rows = explain_rows cells h theme sets in
-    let said : Explanation → Reason = λ x. x.reason in
-    let turned : Refusal → Explanation = λ r. bare (Unexplained r) in
-    let full = explained way (score_of cells h) theme pair sets in
-    let same : (r s : Refusal) → Unexplained r ≡ Unexplained s → r ≡ s = λ r s x. ap refusal_in x in
-    let never = never_refused cells h theme way pair sets in
-    let own = ap said e in
-    let v = clear_verdict rows in
-    let a = answer_accepted said Unexplained same turned full (λ r. refl) never rows in
+    let given = answer_refused (λ (a : Result Explanation Refusal). a) Err same Err (Ok full) (λ r. refl) never (explain_rows cells h theme sets) refl in
     record {
       order = refl;
-      exactly = λ k q.
-          let f = answer_refused said Unexplained same turned full (λ r. refl) never rows refl k q in
-          (λ x. f.0 (sym own ∙ x), λ x. own ∙ f.1 x);
-      otherwise = (λ g. v.0 (a.0 (λ r x. g r (own ∙ x))), λ x r y. a.1 (v.1 x) r (sym own ∙ y));
-      unwritten = λ r x.
-          let k =
-          answer_kept said Unexplained same turned full (λ r. refl) never rows (λ y. (y.tracks ≡ no_tracks) × (y.sifted ≡ Unasked))
-          (λ r. (refl, refl)) r (sym own ∙ x) in
-          (ap (λ (y : Explanation). y.tracks) e ∙ k.0, ap (λ (y : Explanation). y.sifted) e ∙ k.1);
+      exactly = λ k q. let f = given k q in (λ x. f.0 (sym e ∙ x), λ x. e ∙ f.1 x);
+      otherwise = (
+        λ x. (answered_is cells h theme way pair sets (sym x.1 ∙ e)).0,
+        λ v. (full, e ∙ passed_explained cells h theme way pair sets v),
+      );
+      unwritten = λ r x y z. told y r (sym z ∙ x);
     }
+  where
+    full : Explanation
+    full = explained way (score_of cells h) theme pair sets
+
+    same : (r s : Refusal) → ◌≡◌ {A = Result Explanation Refusal} (Err r) (Err s) → r ≡ s
+    same r s e = cc
+
+    told : (y : Explanation) (r : Refusal) → Ok y ≡ Err r → ⊥
+    told y r e = let z : ◌≡◌ {A = ℕ} 0 1 = cc in omega arith
+
+    never : (r : Refusal) → Ok full ≡ Err r → ⊥
+    never r e = told full r e

@@ -11,12 +11,10 @@ use Rattle.asking.specs.Limits.{most_notes}
 use Rattle.asking.specs.Refusals.{request_rows}
 use Rattle.asking.specs.Asking.{Accepted}
 use Rattle.asking.proofs.Rows.{accepted_clear}
-use Rattle.paging.specs.declared.page.Page.TheVariants.{Turned}
 use Rattle.paging.proofs.Bookmarks.{first_range}
 use Rattle.search.specs.Page.{plain_page, quick_page, quick_table, QuickPages}
 use Rattle.filter.specs.Limits.{word_bits}
 use Rattle.filter.specs.Table.{theme_table}
-use Rattle.occurring.specs.declared.question.Occurrence.TheVariants.{Refused as Unanswered}
 use Rattle.occurring.specs.Occurring.{quick_list, by_list, occurs_rows}
 use Rattle.updating.specs.Updating.{renewed}
 use Rattle.explaining.specs.Explaining.{explanation}
@@ -35,6 +33,7 @@ use Rattle.demands.proofs.Explanations.{explained_dismissed, explained_unasked, 
 use Rattle.demands.proofs.Updates.{renewed_fresh, renewed_length, renewed_own, renewed_other}
 use Rattle.demands.proofs.Routings.{routed_unlisted, routed_listed, routed_written, routed_length, routed_tail}
 use Rattle.demands.proofs.Routings.{routed_count, routed_least, meant_as_exact}
+use Rattle.std.specs.Prelude.{Result, Ok, Err}
 
 -- a right score and theme are accepted
 accepted : {cells : List ℕ} {h : ℕ} {theme : List ℕ} → RightRequest cells h theme → Accepted most_notes cells h theme
@@ -54,7 +53,7 @@ demand1 =
           (f.answer, (quick_table cells h theme way b sets table buffers, (f.buffers, record { pages = record { answers = refl; writes = refl }; fills_table = refl })));
       question_answers = λ cells h theme way sets summary table.
           let rows = occurs_rows cells h theme sets summary table in (
-            judge rows Unanswered (by_list (quick_list way (score_of cells h) theme sets)),
+            judge rows Err (by_list (quick_list way (score_of cells h) theme sets)),
             (judge rows (λ r. table) (theme_table word_bits theme), record { answers = refl; fills_table = refl }),
           );
       explainer_answers = λ cells h theme way pair sets. (explanation cells h theme way pair sets, refl);
@@ -89,7 +88,7 @@ demand3 =
       quick = λ cells h theme way a r room lent s q. quick_own cells h theme (accepted a) r room way (own_call cells h theme (accepted a) r room way s q);
       same_page = λ cells h theme way b buffers buffers' table same lent s {t} {u} {after} {after'} {table'} p q.
           one_page cells h theme way b buffers buffers' table same p
-          (subst (λ (l : List ℕ). QuickPages cells h theme way b l table buffers' (Turned t) table' after') (own_sets_left s) q);
+          (subst (λ (l : List ℕ). QuickPages cells h theme way b l table buffers' (Ok t) table' after') (own_sets_left s) q);
       same = λ cells h theme way a r room lent s p q x y.
           reading_same cells h theme way (accepted a) r room p (own_call cells h theme (accepted a) r room way s q)
           (first_range (plainly cells h theme (accepted a) r room (Moved way) p).right.narrow _) x y;

@@ -21,8 +21,6 @@ use Rattle.score.specs.declared.quantities.Pitch.{Pitch}
 use Rattle.score.specs.declared.quantities.Interval.{Interval}
 use Rattle.score.specs.declared.quantities.Column.{Column}
 use Rattle.score.specs.declared.refusals.Refusal.{Refusal}
-use Rattle.score.specs.declared.refusals.Verdict.{Verdict}
-use Rattle.score.specs.declared.refusals.Verdict.TheVariants.{Accepted as Passed, Refused as Away}
 use Rattle.score.specs.Refusals.{verdict}
 use Rattle.score.specs.Score.{score_of, heard_of, rank_of, onward, note}
 use Rattle.score.specs.Sets.{interval}
@@ -51,7 +49,7 @@ use Rattle.search.proofs.Entries.{entry_is, entries_small}
 use Rattle.search.proofs.Filtered.{candidate_iff}
 use Rattle.explaining.specs.declared.answer.Explanation.{Explanation}
 use Rattle.explaining.specs.declared.answer.Reason.{Reason}
-use Rattle.explaining.specs.declared.answer.Reason.TheVariants.{Listed, NoShift, NoColumn, TooFew, Empty, Outside, Absent, Refused}
+use Rattle.explaining.specs.declared.answer.Reason.TheVariants.{Listed, NoShift, NoColumn, TooFew, Empty, Outside, Absent}
 use Rattle.explaining.specs.declared.answer.Lacking.{Lacking}
 use Rattle.explaining.specs.declared.answer.Sifted.{Sifted}
 use Rattle.explaining.specs.declared.answer.Sifted.TheVariants.{Unasked, Kept, Dismissed}
@@ -60,8 +58,9 @@ use Rattle.explaining.specs.declared.fits.Fit.TheVariants.{Zero, Short, NoPitch,
 use Rattle.explaining.specs.Explaining.{no_tracks, fit_of, Fitting, note_outside, failed, fails, held, notes_say, tracks_of, lacks, had, sifted_by}
 use Rattle.explaining.specs.Explaining.{bare, column_of, reason_at, tracks_at, sifted_at, explained, explain_rows, explanation}
 use Rattle.explaining.proofs.Fitting.{fit_cases, placed_fits}
-use Rattle.explaining.proofs.Refusing.{passed_asks, passed_explained, turned_bare}
+use Rattle.explaining.proofs.Refusing.{passed_asks, answered_is}
 use Rattle.demands.specs.Demands.{OfWay, Inside, HeldNote, FirstFails, TrueFirst, LowestTrack, DismissedBy, candidate_at, RightExplained}
+use Rattle.std.specs.Prelude.{Result, Ok, Err}
 
 -- ---- a note moved, exact
 
@@ -205,7 +204,6 @@ module _ (way : Way) (score : List (List ℕ)) (theme : List ℕ) (pair : Pair) 
   stands_only s Empty t = absurd (true≢false (sym s.with_pitch ∙ t.3))
   stands_only s (Outside i) t = let f = t.2 in absurd (f.fails (s.each_note i f.from_first f.to_last))
   stands_only s (Absent i) t = let f = t.2 in absurd (f.fails (s.each_note i f.from_first f.to_last))
-  stands_only s (Refused r) t = absurd t
 
   -- ---- the tracks
 
@@ -461,9 +459,9 @@ module _ (cells : List ℕ) (h : ℕ) (theme : List ℕ) (way : Way) (pair : Pai
 -- ---- over the promise
 
 module _ (cells : List ℕ) (h : ℕ) (theme : List ℕ) (way : Way) (pair : Pair) (sets : List ℕ) {answer : Explanation}
-    (e : answer ≡ explanation cells h theme way pair sets) (v : RightExplained cells h theme sets) where
+    (e : Ok answer ≡ explanation cells h theme way pair sets) (v : RightExplained cells h theme sets) where
   told : answer ≡ explained way (score_of cells h) theme pair sets
-  told = e ∙ sym (passed_explained cells h theme way pair sets v)
+  told = (answered_is cells h theme way pair sets e).1
 
   reason_told : answer.reason ≡ reason_said way (score_of cells h) theme pair sets
   reason_told = ap (λ (x : Explanation). x.reason) told
@@ -525,7 +523,7 @@ module _ (cells : List ℕ) (h : ℕ) (theme : List ℕ) (way : Way) (pair : Pai
       nothing : Unasked ≡ Dismissed x → ⊥
       nothing y = let w : ◌≡◌ {A = ℕ} 0 2 = ap part y in omega arith
 
--- ---- of every answer, refused or not
+-- ---- of every answer that is no refusal
 
 -- what a fit makes of what the sets say
 abbrev by_fit : Sifted → Fit → Sifted
@@ -538,9 +536,9 @@ module _ (cells : List ℕ) (h : ℕ) (theme sets : List ℕ) where
   abbrev column_says : Column → Sifted
   column_says j = by_fit (sifted_by theme sets (numbers_on (score_of cells h) j)) (fit_of (score_of cells h) theme j)
 
-  module _ (way : Way) (pair : Pair) {answer : Explanation} (e : answer ≡ explanation cells h theme way pair sets) where
-    turned : {r : Refusal} → verdict (explain_rows cells h theme sets) ≡ Away r → answer ≡ bare (Refused r)
-    turned {r} v = e ∙ sym (turned_bare cells h theme way pair sets (sym v) refl refl)
+  module _ (way : Way) (pair : Pair) {answer : Explanation} (e : Ok answer ≡ explanation cells h theme way pair sets) where
+    accepted : RightExplained cells h theme sets
+    accepted = (answered_is cells h theme way pair sets e).0
 
     tracks_long : length theme ≤ most_sought → length (tracks_said way (score_of cells h) theme pair sets) ≡ most_sought
     tracks_long short = step (no_shift way pair.shift)
@@ -561,13 +559,9 @@ module _ (cells : List ℕ) (h : ℕ) (theme sets : List ℕ) where
             (λ z. refl) (λ a b. refl) (λ a b d. refl) (λ p. by_notes (ltb (k way (score_of cells h) theme pair sets) (length theme)))
 
     pub explained_places : length answer.tracks ≡ most_sought
-    explained_places = pick (verdict (explain_rows cells h theme sets)) refl
-      where
-        pick : (v : Verdict) → verdict (explain_rows cells h theme sets) ≡ v → length answer.tracks ≡ most_sought
-        pick Passed v =
-            let a = (passed_asks cells h theme way pair sets v).0 in
-            ap length (tracks_told cells h theme way pair sets e v) ∙ tracks_long (omega (arith, a.notes_few))
-        pick (Away r) v = ap (λ (x : Explanation). length x.tracks) (turned v)
+    explained_places =
+        let a = (passed_asks cells h theme way pair sets accepted).0 in
+        ap length (tracks_told cells h theme way pair sets e accepted) ∙ tracks_long (omega (arith, a.notes_few))
 
     by_its_column : (f : Fit) → sifted_at way (score_of cells h) theme pair sets f ≡ by_fit (sifted_by theme sets (numbers_on (score_of cells h) pair.column)) f
     by_its_column Fits = refl
@@ -575,20 +569,9 @@ module _ (cells : List ℕ) (h : ℕ) (theme sets : List ℕ) where
     by_its_column Short = refl
     by_its_column NoPitch = refl
 
-    sifted_accepted : RightExplained cells h theme sets → answer.sifted ≡ column_says pair.column
-    sifted_accepted v = sifted_told cells h theme way pair sets e v ∙ by_its_column (fit_of (score_of cells h) theme pair.column)
+    sifted_own : answer.sifted ≡ column_says pair.column
+    sifted_own = sifted_told cells h theme way pair sets e accepted ∙ by_its_column (fit_of (score_of cells h) theme pair.column)
 
-  pub explained_by_column : (way way' : Way) (pair pair' : Pair) {answer answer' : Explanation} → answer ≡ explanation cells h theme way pair sets
-      → answer' ≡ explanation cells h theme way' pair' sets → pair'.column ≡ pair.column → answer'.sifted ≡ answer.sifted
-  explained_by_column way way' pair pair' {answer} {answer'} e e' same = pick (verdict (explain_rows cells h theme sets)) refl
-    where
-      pick : (v : Verdict) → verdict (explain_rows cells h theme sets) ≡ v → answer'.sifted ≡ answer.sifted
-      pick Passed v = sifted_accepted way' pair' e' v ∙ ap column_says same ∙ sym (sifted_accepted way pair e v)
-      pick (Away r) v =
-          ap (λ (x : Explanation). x.sifted) (turned way' pair' e' v) ∙ sym (ap (λ (x : Explanation). x.sifted) (turned way pair e v))
-
--- ---- what is turned away
-
-module _ (cells : List ℕ) (h : ℕ) (theme : List ℕ) (way : Way) (pair : Pair) (sets : List ℕ) where
-  pub never_refused : (r : Refusal) → (explained way (score_of cells h) theme pair sets).reason ≡ Refused r → ⊥
-  never_refused r e = subst (TrueFirst way (score_of cells h) theme pair) e (reason_true way (score_of cells h) theme pair sets)
+  pub explained_by_column : (way way' : Way) (pair pair' : Pair) {answer answer' : Explanation} → Ok answer ≡ explanation cells h theme way pair sets
+      → Ok answer' ≡ explanation cells h theme way' pair' sets → pair'.column ≡ pair.column → answer'.sifted ≡ answer.sifted
+  explained_by_column way way' pair pair' e e' same = sifted_own way' pair' e' ∙ ap column_says same ∙ sym (sifted_own way pair e)

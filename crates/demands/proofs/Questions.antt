@@ -1,7 +1,7 @@
 -- The question, over its promise: a yes exactly where the first quick page has a pair, whatever sets are lent, and with a
 -- preparation's sets exactly where the theme stands at all. The idea: both are read off the quick list. Assumes nothing.
 use mathlib.Core.Path.{◌≡◌, refl, sym, ap, ◌∙◌, subst}
-use mathlib.Core.Bool.{true}
+use mathlib.Core.Bool.{true, Bool, false}
 use mathlib.Core.Logic.{◌↔◌, ◌⊎◌}
 use mathlib.Core.List.Memᴰ
 use mathlib.Core.List.{List, [], ◌∷◌, Memᴰ}
@@ -17,7 +17,6 @@ use Rattle.score.specs.Sets.{sets as setsOf}
 use Rattle.score.proofs.Judged.{Clear, clear_append, clear_split}
 use Rattle.summing.specs.declared.summary.Summary.{Summary}
 use Rattle.summing.specs.Summary.{summary as summaryIn, summary_of}
-use Rattle.preparing.specs.declared.sets.Preparation.TheVariants.{Prepared}
 use Rattle.preparing.specs.Preparing.{Prepares}
 use Rattle.preparing.proofs.Prepared.{prepare_sums}
 use Rattle.ways.specs.declared.way.Way.{Way}
@@ -32,7 +31,6 @@ use Rattle.asking.proofs.Rows.{accepted_clear, sets_clear}
 use Rattle.filter.specs.Limits.{word_bits}
 use Rattle.filter.specs.Table.{theme_table}
 use Rattle.paging.specs.declared.page.Turn.{Turn}
-use Rattle.paging.specs.declared.page.Page.TheVariants.{Turned}
 use Rattle.paging.specs.Lent.{Lent}
 use Rattle.search.specs.Definition.{Stands}
 use Rattle.search.specs.Pairs.{pairs}
@@ -40,34 +38,34 @@ use Rattle.search.specs.Page.{QuickPages}
 use Rattle.search.proofs.Listed.{listed_stands, stands_listed}
 use Rattle.search.proofs.QuickCall.{quick_turned}
 use Rattle.search.proofs.Quicker.{own_sets, own_listed}
-use Rattle.occurring.specs.declared.question.Occurrence.{Occurrence}
-use Rattle.occurring.specs.declared.question.Occurrence.TheVariants.{Somewhere, Nowhere}
 use Rattle.occurring.specs.Occurring.{lacking, quick_list, by_list, row12, occurs_rows, Occurs}
 use Rattle.occurring.proofs.Absent.{lacking_none}
 use Rattle.occurring.proofs.OnePlace.{first_written}
 use Rattle.occurring.proofs.Asked.{yes_list, no_list, occurs_clear, occurs_accepted}
 use Rattle.demands.proofs.True.{own_sets_left}
+use Rattle.std.specs.Prelude.{Result, Ok, Err}
+use Rattle.score.specs.declared.refusals.Refusal.{Refusal}
 
 -- ---- by pages
 
 -- the first pairs of a list tell whether it has one
-take_yes : (r : ℕ) → 1 ≤ r → (list : List Pair) → (by_list list ≡ Somewhere) ↔ (1 ≤ length (take r list))
+take_yes : (r : ℕ) → 1 ≤ r → (list : List Pair) → (by_list list ≡ Ok true) ↔ (1 ≤ length (take r list))
 take_yes zero l list = absurd (omega (arith, l))
 take_yes (suc r) l [] = (λ e. absurd (Memᴰ.not-nil ((yes_list []).0 e).1), λ k. absurd (omega (arith, k)))
 take_yes (suc r) l (pair ∷ list) = (λ e. omega arith, λ k. refl)
 
-take_no : (r : ℕ) → 1 ≤ r → (list : List Pair) → (by_list list ≡ Nowhere) ↔ (length (take r list) ≡ 0)
+take_no : (r : ℕ) → 1 ≤ r → (list : List Pair) → (by_list list ≡ Ok false) ↔ (length (take r list) ≡ 0)
 take_no zero l list = absurd (omega (arith, l))
 take_no (suc r) l [] = (λ e. refl, λ k. refl)
 take_no (suc r) l (pair ∷ list) = (λ e. absurd ((no_list (pair ∷ list)).0 e pair (Memᴰ.head refl)), λ k. absurd (omega (arith, k)))
 
 -- two statements of equal things
-same_yes : {a b : Occurrence} {o : Occurrence} {P : Type 0} → a ≡ b → (b ≡ o) ↔ P → (a ≡ o) ↔ P
+same_yes : {a b : Result Bool Refusal} {o : Result Bool Refusal} {P : Type 0} → a ≡ b → (b ≡ o) ↔ P → (a ≡ o) ↔ P
 same_yes e f = (λ x. f.0 (sym e ∙ x), λ p. e ∙ f.1 p)
 
 module _ (cells : List ℕ) (h : ℕ) (theme : List ℕ) (way : Way) (sets : List ℕ) (summary : Summary) (table : List ℕ)
-    {answer : Occurrence} {table' : List ℕ} (o : Occurs cells h theme way sets summary table answer table')
-    (given : (answer ≡ Somewhere) ⊎ (answer ≡ Nowhere)) where
+    {answer : Result Bool Refusal} {table' : List ℕ} (o : Occurs cells h theme way sets summary table answer table')
+    (given : (answer ≡ Ok true) ⊎ (answer ≡ Ok false)) where
   clear : Clear (occurs_rows cells h theme sets summary table)
   clear = (occurs_accepted cells h theme way sets summary table o).0 given
 
@@ -75,15 +73,15 @@ module _ (cells : List ℕ) (h : ℕ) (theme : List ℕ) (way : Way) (sets : Lis
   said = (occurs_clear cells h theme way sets summary table o clear).0
 
   pub asked_pages : (table₂ : List ℕ) (buffers : Lent) {table₂' : List ℕ} {t : Turn} {after : Lent}
-      → QuickPages cells h theme way (first_bookmark (range_as (Moved way))) sets table₂ buffers (Turned t) table₂' after
-      → ((answer ≡ Somewhere) ↔ (1 ≤ t.written)) × ((answer ≡ Nowhere) ↔ (t.written ≡ 0))
+      → QuickPages cells h theme way (first_bookmark (range_as (Moved way))) sets table₂ buffers (Ok t) table₂' after
+      → ((answer ≡ Ok true) ↔ (1 ≤ t.written)) × ((answer ≡ Ok false) ↔ (t.written ≡ 0))
   asked_pages table₂ buffers {t = t} q =
       let list = quick_list way (score_of cells h) theme sets in
       let r = length buffers.columns in
       let room = ((quick_turned cells h theme way (first_bookmark (range_of way)) sets table₂ buffers).0 (t, sym q.pages.answers)).plain.room in
       let w = first_written cells h theme way sets table₂ buffers q in (
-        same_yes said (subst (λ (n : ℕ). (by_list list ≡ Somewhere) ↔ (1 ≤ n)) (sym w) (take_yes r room list)),
-        same_yes said (subst (λ (n : ℕ). (by_list list ≡ Nowhere) ↔ (n ≡ 0)) (sym w) (take_no r room list)),
+        same_yes said (subst (λ (n : ℕ). (by_list list ≡ Ok true) ↔ (1 ≤ n)) (sym w) (take_yes r room list)),
+        same_yes said (subst (λ (n : ℕ). (by_list list ≡ Ok false) ↔ (n ≡ 0)) (sym w) (take_no r room list)),
       )
 
   pub asked_table : table' ≡ theme_table word_bits theme
@@ -91,7 +89,7 @@ module _ (cells : List ℕ) (h : ℕ) (theme : List ℕ) (way : Way) (sets : Lis
 
   -- ---- without a search
 
-  pub asked_lacking : lacking theme summary.0 ≡ true → answer ≡ Nowhere
+  pub asked_lacking : lacking theme summary.0 ≡ true → answer ≡ Ok false
   asked_lacking l =
       let (prepared, last) = clear_split (with_sets_rows cells h theme sets (length table)) (row12 sets summary ∷ []) clear in
       let (request, lent) = clear_split (request_rows most_notes cells h theme) (sets_rows cells h sets (length table)) prepared in
@@ -104,7 +102,7 @@ module _ (cells : List ℕ) (h : ℕ) (theme : List ℕ) (way : Way) (sets : Lis
 -- ---- with the sets and the summary of a preparation
 
 module _ (cells : List ℕ) (h : ℕ) (theme : List ℕ) (way : Way) (a : Accepted most_notes cells h theme) (lent : List ℕ) {s : Summary} {sets : List ℕ}
-    (p : Prepares cells h lent (Prepared s) sets) (table : List ℕ) (long : length table ≡ table_words) {answer : Occurrence} {table' : List ℕ}
+    (p : Prepares cells h lent (Ok s) sets) (table : List ℕ) (long : length table ≡ table_words) {answer : Result Bool Refusal} {table' : List ℕ}
     (o : Occurs cells h theme way sets s table answer table') where
   own : sets ≡ setsOf (score_of cells h)
   own = own_sets_left p
@@ -125,8 +123,8 @@ module _ (cells : List ℕ) (h : ℕ) (theme : List ℕ) (way : Way) (a : Accept
       ∙ ap (λ (l : List ℕ). by_list (quick_list way (score_of cells h) theme l)) own
       ∙ ap by_list (own_listed cells h theme way a)
 
-  pub asked_own : ((answer ≡ Somewhere) ↔ ((pair : Pair) × Stands way (score_of cells h) theme pair))
-      × ((answer ≡ Nowhere) ↔ ((pair : Pair) → Stands way (score_of cells h) theme pair → ⊥))
+  pub asked_own : ((answer ≡ Ok true) ↔ ((pair : Pair) × Stands way (score_of cells h) theme pair))
+      × ((answer ≡ Ok false) ↔ ((pair : Pair) → Stands way (score_of cells h) theme pair → ⊥))
   asked_own =
       let score = score_of cells h in
       let y = yes_list (pairs way score theme) in

@@ -14,10 +14,8 @@ use borrow.Author.Tests.{le-ltb}
 use Rattle.theory.proofs.Either.{either}
 use Rattle.theory.proofs.Lists.{over_length}
 use Rattle.score.specs.declared.refusals.Refusal.{Refusal}
-use Rattle.score.specs.declared.refusals.Verdict.{Verdict}
-use Rattle.score.specs.declared.refusals.Verdict.TheVariants.{Accepted as Passed, Refused as Away}
 use Rattle.score.specs.Score.{score_of}
-use Rattle.score.specs.Refusals.{Row, verdict}
+use Rattle.score.specs.Refusals.{number_of, Row, verdict}
 use Rattle.score.proofs.Judging.{judge_accepted}
 use Rattle.ways.specs.declared.way.Way.TheVariants.{Exact}
 use Rattle.ways.specs.declared.way.AnyWay.{AnyWay}
@@ -26,51 +24,50 @@ use Rattle.ways.specs.declared.bookmark.Pair.{Pair}
 use Rattle.asking.specs.Limits.{most_notes}
 use Rattle.asking.specs.Refusals.{request_rows}
 use Rattle.search.specs.Definition.{StandsAs}
-use Rattle.routing.specs.declared.answer.Routed.{Routed}
-use Rattle.routing.specs.declared.answer.Routed.TheVariants.{Changes, Refused}
 use Rattle.routing.specs.Route.{changes, way_as, Plays, Route, TheRoute}
 use Rattle.routing.specs.Routing.{is_listed, pair_rows, route_rows, Writes, Routes}
 use Rattle.routing.proofs.ListedPairs.{is_listed_stands}
 use Rattle.routing.proofs.RouteAnswers.{thirteen, fourteen, passed_asks}
 use Rattle.demands.specs.Demands.{RightRequest}
+use Rattle.std.specs.Prelude.{Result, Ok, Err}
 
 -- ---- an answer is one thing
 
-never_away : (r : Refusal) → Passed ≡ Away r → ⊥
+never_away : (r : Refusal) → Ok (tt {0}) ≡ Err r → ⊥
 never_away r e = let z : ◌≡◌ {A = ℕ} 0 1 = cc in omega arith
 
-never_both : (n : ℕ) (r : Refusal) → Changes n ≡ Refused r → ⊥
+never_both : (n : ℕ) (r : Refusal) → Ok n ≡ Err r → ⊥
 never_both n r e = let z : ◌≡◌ {A = ℕ} 0 1 = cc in omega arith
 
 -- ---- what the rows behind a right request come to
 
 module _ (theme : List ℕ) (way : AnyWay) (score : List (List ℕ)) (pair : Pair) (lent : List ℕ) where
   -- 13, exactly where the pair is not listed
-  unlisted_rows : (verdict (pair_rows way score theme pair lent) ≡ Away thirteen) ↔ (is_listed way score theme pair ≡ false)
+  unlisted_rows : (verdict (pair_rows way score theme pair lent) ≡ Err thirteen) ↔ (is_listed way score theme pair ≡ false)
   unlisted_rows = step (is_listed way score theme pair) (ltb (length lent) (length theme))
     where
-      other : Away fourteen ≡ Away thirteen → ⊥
+      other : ◌≡◌ {A = Result (Unit {0}) Refusal} (Err fourteen) (Err thirteen) → ⊥
       other e =
           let same : fourteen ≡ thirteen = cc in
-          let z : ◌≡◌ {A = ℕ} 14 13 = ap (λ (r : Refusal). r.number) same in
+          let z : ◌≡◌ {A = ℕ} 14 13 = ap (λ (r : Refusal). number_of r.rule) same in
           omega arith
 
-      step : (t s : Bool) → (cond (not t) (Away thirteen) (cond s (Away fourteen) Passed) ≡ Away thirteen) ↔ (t ≡ false)
+      step : (t s : Bool) → (cond (not t) (Err thirteen) (cond s (Err fourteen) (Ok (tt {0}))) ≡ Err thirteen) ↔ (t ≡ false)
       step false s = (λ e. refl, λ e. refl)
       step true true = (λ e. absurd (other e), λ e. absurd (true≢false e))
       step true false = (λ e. absurd (never_away thirteen e), λ e. absurd (true≢false e))
 
   -- none, with room for the route, exactly where it is
-  listed_rows : length theme ≤ length lent → (verdict (pair_rows way score theme pair lent) ≡ Passed) ↔ (is_listed way score theme pair ≡ true)
+  listed_rows : length theme ≤ length lent → (verdict (pair_rows way score theme pair lent) ≡ Ok tt) ↔ (is_listed way score theme pair ≡ true)
   listed_rows room = rw (le-ltb (length lent) (length theme) room) (step (is_listed way score theme pair))
     where
-      step : (t : Bool) → (cond (not t) (Away thirteen) Passed ≡ Passed) ↔ (t ≡ true)
+      step : (t : Bool) → (cond (not t) (Err thirteen) (Ok (tt {0})) ≡ Ok (tt {0})) ↔ (t ≡ true)
       step true = (λ e. refl, λ e. refl)
       step false = (λ e. absurd (never_away thirteen (sym e)), λ e. absurd (false≢true e))
 
 -- ---- over the promise
 
-module _ (cells : List ℕ) (h : ℕ) (theme : List ℕ) (way : AnyWay) (pair : Pair) (lent : List ℕ) {answer : Routed} {after : List ℕ}
+module _ (cells : List ℕ) (h : ℕ) (theme : List ℕ) (way : AnyWay) (pair : Pair) (lent : List ℕ) {answer : Result ℕ Refusal} {after : List ℕ}
     (p : Routes cells h theme way pair lent answer after) where
   abbrev score : List (List ℕ)
   score = score_of cells h
@@ -79,27 +76,27 @@ module _ (cells : List ℕ) (h : ℕ) (theme : List ℕ) (way : AnyWay) (pair : 
   rows = route_rows cells h theme way pair lent
 
   -- the answer is a refusal, or none, as the verdict is
-  pub routed_refused : (r : Refusal) → (answer ≡ Refused r) ↔ (verdict rows ≡ Away r)
+  pub routed_refused : (r : Refusal) → (answer ≡ Err r) ↔ (verdict rows ≡ Err r)
   routed_refused r = (λ e. told e (verdict rows) refl, λ v. (p.refused r v).0)
     where
-      told : answer ≡ Refused r → (v : Verdict) → verdict rows ≡ v → v ≡ Away r
-      told e (Away s) v = let both : Refused s ≡ Refused r = sym (p.refused s v).0 ∙ e in let same : s ≡ r = cc in ap Away same
-      told e Passed v = absurd (never_both _ r (sym (p.accepted v).counted ∙ e))
+      told : answer ≡ Err r → (v : Result (Unit {0}) Refusal) → verdict rows ≡ v → v ≡ Err r
+      told e (Err s) v = let both : Err s ≡ Err r = sym (p.refused s v).0 ∙ e in let same : s ≡ r = cc in ap Err same
+      told e (Ok _) v = absurd (never_both _ r (sym (p.accepted v).counted ∙ e))
 
-  pub routed_changes : ((n : ℕ) × (answer ≡ Changes n)) ↔ (verdict rows ≡ Passed)
+  pub routed_changes : ((n : ℕ) × (answer ≡ Ok n)) ↔ (verdict rows ≡ Ok tt)
   routed_changes = (λ e. told e.0 e.1 (verdict rows) refl, λ v. (changes (p.accepted v).route, (p.accepted v).counted))
     where
-      told : (n : ℕ) → answer ≡ Changes n → (v : Verdict) → verdict rows ≡ v → v ≡ Passed
-      told n e (Away s) v = absurd (never_both n s (sym e ∙ (p.refused s v).0))
-      told n e Passed v = refl
+      told : (n : ℕ) → answer ≡ Ok n → (v : Result (Unit {0}) Refusal) → verdict rows ≡ v → v ≡ Ok tt
+      told n e (Err s) v = absurd (never_both n s (sym e ∙ (p.refused s v).0))
+      told n e (Ok _) v = refl
 
   -- ---- a right request
 
   module _ (right : RightRequest cells h theme) where
     by_pair : verdict rows ≡ verdict (pair_rows way score theme pair lent)
-    by_pair = judge_accepted Away Passed (request_rows most_notes cells h theme) (pair_rows way score theme pair lent) right
+    by_pair = judge_accepted Err (Ok tt) (request_rows most_notes cells h theme) (pair_rows way score theme pair lent) right
 
-    pub routed_unlisted : (answer ≡ Refused thirteen) ↔ (StandsAs way score theme pair → ⊥)
+    pub routed_unlisted : (answer ≡ Err thirteen) ↔ (StandsAs way score theme pair → ⊥)
     routed_unlisted =
         let a = routed_refused thirteen in
         let u = unlisted_rows theme way score pair lent in
@@ -108,7 +105,7 @@ module _ (cells : List ℕ) (h : ℕ) (theme : List ℕ) (way : AnyWay) (pair : 
           λ f. a.1 (by_pair ∙ u.1 (either (is_listed way score theme pair) (λ t. absurd (f (s.0 t))) (λ t. t))),
         )
 
-    pub routed_listed : length theme ≤ length lent → ((n : ℕ) × (answer ≡ Changes n)) ↔ StandsAs way score theme pair
+    pub routed_listed : length theme ≤ length lent → ((n : ℕ) × (answer ≡ Ok n)) ↔ StandsAs way score theme pair
     routed_listed room =
         let l = listed_rows theme way score pair lent room in
         let s = is_listed_stands way score theme pair in
@@ -117,11 +114,11 @@ module _ (cells : List ℕ) (h : ℕ) (theme : List ℕ) (way : AnyWay) (pair : 
 -- ---- an accepted call
 
 module _ (cells : List ℕ) (h : ℕ) (theme : List ℕ) (way : AnyWay) (pair : Pair) (lent : List ℕ) {n : ℕ} {after : List ℕ}
-    (p : Routes cells h theme way pair lent (Changes n) after) where
-  passed : verdict (route_rows cells h theme way pair lent) ≡ Passed
+    (p : Routes cells h theme way pair lent (Ok n) after) where
+  passed : verdict (route_rows cells h theme way pair lent) ≡ Ok tt
   passed = (routed_changes cells h theme way pair lent p).0 (n, refl)
 
-  wrote : Writes way (score_of cells h) theme pair lent (Changes n) after
+  wrote : Writes way (score_of cells h) theme pair lent (Ok n) after
   wrote = p.accepted passed
 
   long : length wrote.route ≡ length theme

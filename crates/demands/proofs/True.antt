@@ -12,7 +12,6 @@ use Rattle.score.proofs.IntervalSets.{sets_length, sets_lt}
 use Rattle.summing.specs.declared.summary.Summary.{Summary}
 use Rattle.summing.specs.Summary.{summary_of}
 use Rattle.summing.proofs.Summaries.{summary_bit, summary_high, summary_nil}
-use Rattle.preparing.specs.declared.sets.Preparation.TheVariants.{Prepared}
 use Rattle.preparing.specs.Preparing.{Prepares}
 use Rattle.preparing.proofs.Prepared.{prepare_fills, prepare_sums, prepare_bit, prepare_empty}
 use Rattle.ways.specs.declared.way.Way.{Way}
@@ -21,7 +20,6 @@ use Rattle.ways.specs.declared.way.AnyWay.TheVariants.{Written}
 use Rattle.ways.specs.declared.bookmark.Pair.{Pair}
 use Rattle.ways.specs.declared.bookmark.Bookmark.{Bookmark}
 use Rattle.paging.specs.declared.page.Turn.{Turn}
-use Rattle.paging.specs.declared.page.Page.TheVariants.{Turned}
 use Rattle.paging.specs.Lent.{Lent, read_pairs}
 use Rattle.paging.proofs.Paging.{turned_same}
 use Rattle.search.specs.Definition.{Stands, StandsAs}
@@ -30,10 +28,10 @@ use Rattle.search.proofs.PlainCall.{plain_turned}
 use Rattle.search.proofs.QuickCall.{quick_turned}
 use Rattle.search.proofs.WholeLists.{plain_page_lem, quick_page_lem}
 use Rattle.search.proofs.Truths.{plain_true, quick_true, written_looks}
-use Rattle.updating.specs.declared.changes.Change.TheVariants.{Updated}
 use Rattle.updating.specs.Updating.{Updates}
 use Rattle.updating.proofs.Updated.{update_leaves}
 use Rattle.demands.specs.Demands.{IntervalsOf, IsSummary}
+use Rattle.std.specs.Prelude.{Result, Ok, Err}
 
 -- the same pairs, where the answer and the buffers are the same
 read_same : {t u : Turn} {l k : Lent} {pair : Pair} → t ≡ u → l ≡ k → In pair (read_pairs t.written l) → In pair (read_pairs u.written k)
@@ -41,7 +39,7 @@ read_same {t} {u} {l} {k} {pair} e f m =
     subst (λ (x : Lent). In pair (read_pairs u.written x)) f (subst (λ (x : Turn). In pair (read_pairs x.written l)) e m)
 
 pub plain_stands : (cells : List ℕ) (h : ℕ) (theme : List ℕ) (way : AnyWay) (b : Bookmark) (buffers : Lent) {t : Turn} {after : Lent}
-    → PlainPages cells h theme way b buffers (Turned t) after
+    → PlainPages cells h theme way b buffers (Ok t) after
     → {pair : Pair} → In pair (read_pairs t.written after) → StandsAs way (score_of cells h) theme pair
 plain_stands cells h theme way b buffers {t} p m =
     let e = p.pages.answers in
@@ -50,11 +48,11 @@ plain_stands cells h theme way b buffers {t} p m =
     plain_true cells h theme b buffers way a (read_same (turned_same (e ∙ u.answered)) p.pages.writes m)
 
 pub written_free : (cells : List ℕ) (h : ℕ) (theme : List ℕ) (b : Bookmark) (buffers : Lent) {t : Turn} {after : Lent}
-    → PlainPages cells h theme Written b buffers (Turned t) after → t.looks ≡ 0
+    → PlainPages cells h theme Written b buffers (Ok t) after → t.looks ≡ 0
 written_free cells h theme b buffers {t} p = written_looks cells h theme b buffers t (sym p.pages.answers)
 
 pub quick_stands : (cells : List ℕ) (h : ℕ) (theme : List ℕ) (way : Way) (b : Bookmark) (sets table : List ℕ) (buffers : Lent)
-    {t : Turn} {table' : List ℕ} {after : Lent} → QuickPages cells h theme way b sets table buffers (Turned t) table' after
+    {t : Turn} {table' : List ℕ} {after : Lent} → QuickPages cells h theme way b sets table buffers (Ok t) table' after
     → {pair : Pair} → In pair (read_pairs t.written after) → Stands way (score_of cells h) theme pair
 quick_stands cells h theme way b sets table buffers {t} p m =
     let e = p.pages.answers in
@@ -64,10 +62,10 @@ quick_stands cells h theme way b sets table buffers {t} p m =
     (read_same (turned_same (e ∙ u.answered)) p.pages.writes m)
 
 -- the sets that an accepted preparation leaves
-pub own_sets_left : {cells : List ℕ} {h : ℕ} {lent after : List ℕ} {s : Summary} → Prepares cells h lent (Prepared s) after → after ≡ sets (score_of cells h)
+pub own_sets_left : {cells : List ℕ} {h : ℕ} {lent after : List ℕ} {s : Summary} → Prepares cells h lent (Ok s) after → after ≡ sets (score_of cells h)
 own_sets_left {cells} {h} {lent} p = p.fills ∙ prepare_fills cells h lent (sym p.answers)
 
-pub prepared_intervals : (cells : List ℕ) (h : ℕ) (lent : List ℕ) {s : Summary} {after : List ℕ} → Prepares cells h lent (Prepared s) after
+pub prepared_intervals : (cells : List ℕ) (h : ℕ) (lent : List ℕ) {s : Summary} {after : List ℕ} → Prepares cells h lent (Ok s) after
     → IntervalsOf (score_of cells h) after
 prepared_intervals cells h lent {after} p =
     let e : after ≡ sets (score_of cells h) = own_sets_left p in
@@ -91,10 +89,10 @@ summary_is sets e =
       of_none = λ n. ap (λ (l : List ℕ). (summary_of l).0) n ∙ summary_nil;
     })
 
-pub prepared_summary : (cells : List ℕ) (h : ℕ) (lent : List ℕ) {s : Summary} {after : List ℕ} → Prepares cells h lent (Prepared s) after → IsSummary after s
+pub prepared_summary : (cells : List ℕ) (h : ℕ) (lent : List ℕ) {s : Summary} {after : List ℕ} → Prepares cells h lent (Ok s) after → IsSummary after s
 prepared_summary cells h lent {after = after} p = summary_is after (prepare_sums cells h lent (sym p.answers) ∙ ap summary_of (sym (own_sets_left p)))
 
-pub updated_summary : (cells : List ℕ) (h : ℕ) (c : Column) (lent : List ℕ) {s : Summary} {after : List ℕ} → Updates cells h c lent (Updated s) after
+pub updated_summary : (cells : List ℕ) (h : ℕ) (c : Column) (lent : List ℕ) {s : Summary} {after : List ℕ} → Updates cells h c lent (Ok s) after
     → IsSummary after s
 updated_summary cells h c lent {after = after} u =
     let (left, said) = update_leaves cells h c lent (sym u.answers) in

@@ -15,32 +15,31 @@ use Rattle.score.specs.Sets.{sets as setsOf}
 use Rattle.score.proofs.Judged.{judge_clear}
 use Rattle.summing.specs.declared.summary.Summary.{Summary}
 use Rattle.summing.specs.Summary.{summary_of}
-use Rattle.preparing.specs.declared.sets.Preparation.TheVariants.{Prepared, Refused}
 use Rattle.preparing.specs.Preparing.{Filled, prepare_rows, prepared, Prepares}
-use Rattle.updating.specs.declared.changes.Change.TheVariants.{Updated}
 use Rattle.updating.specs.Updating.{heard_before, rests_on, updated_sets, Updates, OneChanged}
 use Rattle.updating.proofs.Updated.{update_accepted, update_leaves, clear_renewable}
 use Rattle.updating.proofs.Fresh.{fresh_sets}
+use Rattle.std.specs.Prelude.{Result, Ok, Err}
 
-module _ (cells : List ℕ) (h : ℕ) (c : Column) {lent : List ℕ} {s : Summary} {after : List ℕ} (u : Updates cells h c lent (Updated s) after) where
+module _ (cells : List ℕ) (h : ℕ) (c : Column) {lent : List ℕ} {s : Summary} {after : List ℕ} (u : Updates cells h c lent (Ok s) after) where
   left : after ≡ updated_sets (score_of cells h) c lent
   left = u.writes ∙ (update_leaves cells h c lent (sym u.answers)).0
 
   -- ---- right before, right after
 
   pub renewed_fresh : (before : List ℕ) → OneChanged c (score_of before h) (score_of cells h) → lent ≡ setsOf (score_of before h)
-      → Prepares cells h lent (Prepared s) after
+      → Prepares cells h lent (Ok s) after
   renewed_fresh before one own =
       let k = (update_accepted cells h c lent).0 (s, sym u.answers) in
       let low = (clear_renewable cells h c lent k).from_first in
       let now : after ≡ setsOf (score_of cells h) = left ∙ ap (updated_sets (score_of cells h) c) own ∙ fresh_sets one low in
-      let full : Filled = record { answer = Prepared (summary_of (setsOf (score_of cells h))); sets = setsOf (score_of cells h) } in
+      let full : Filled = record { answer = Ok (summary_of (setsOf (score_of cells h))); sets = setsOf (score_of cells h) } in
       let e : prepared cells h lent ≡ full =
-      judge_clear (λ r. record { answer = Refused r; sets = lent }) full (prepare_rows cells h lent) (k.0, (k.1.0, (k.1.1.0, (k.1.1.1.0, tt)))) in
+      judge_clear (λ r. record { answer = Err r; sets = lent }) full (prepare_rows cells h lent) (k.0, (k.1.0, (k.1.1.0, (k.1.1.1.0, tt)))) in
       let said : s ≡ summary_of (setsOf (score_of cells h)) =
       (update_leaves cells h c lent (sym u.answers)).1 ∙ ap summary_of (sym left ∙ now) in
       record {
-        answers = ap Prepared said ∙ sym (ap (λ (x : Filled). x.answer) e);
+        answers = ap Ok said ∙ sym (ap (λ (x : Filled). x.answer) e);
         fills = now ∙ sym (ap (λ (x : Filled). x.sets) e);
       }
 

@@ -10,7 +10,6 @@ use lib.ListN.{length}
 use Rattle.score.specs.Score.{score_of}
 use Rattle.score.specs.Sets.{sets}
 use Rattle.summing.specs.declared.summary.Summary.{Summary}
-use Rattle.preparing.specs.declared.sets.Preparation.TheVariants.{Prepared}
 use Rattle.preparing.specs.Preparing.{Prepares}
 use Rattle.ways.specs.declared.way.Way.{Way}
 use Rattle.ways.specs.declared.way.AnyWay.{AnyWay}
@@ -23,7 +22,6 @@ use Rattle.asking.specs.Limits.{most_notes}
 use Rattle.asking.specs.Asking.{Accepted}
 use Rattle.filter.specs.Limits.{word_bits}
 use Rattle.filter.specs.Table.{theme_table}
-use Rattle.paging.specs.declared.page.Page.{Page}
 use Rattle.paging.specs.Lent.{Lent}
 use Rattle.paging.specs.Order.{Ordered}
 use Rattle.paging.specs.Page.{Leaf, Pages}
@@ -39,10 +37,13 @@ use Rattle.search.proofs.Quicker.{own_sets, own_listed}
 use Rattle.search.proofs.WholeLists.{all_looks_le, quick_looks_less}
 use Rattle.demands.specs.Demands.{PlainCall, QuickCall, ListsAll}
 use Rattle.demands.proofs.True.{own_sets_left}
+use Rattle.std.specs.Prelude.{Result, Ok, Err}
+use Rattle.paging.specs.declared.page.Turn.{Turn}
+use Rattle.score.specs.declared.refusals.Refusal.{Refusal}
 
 -- what meets the promise of a page is that page
 pub pages_leaf : {page leaf : Leaf} → Pages page leaf.answer leaf.buffers → leaf ≡ page
-pages_leaf p = ap₂ (λ (x : Page) (l : Lent). record { answer = x; buffers = l }) p.answers p.writes
+pages_leaf p = ap₂ (λ (x : Result Turn Refusal) (l : Lent). record { answer = x; buffers = l }) p.answers p.writes
 
 module _ (cells : List ℕ) (h : ℕ) (theme : List ℕ) (a : Accepted most_notes cells h theme) (r : ℕ) (room : 1 ≤ r) where
   abbrev score : List (List ℕ)
@@ -100,6 +101,6 @@ module _ (cells : List ℕ) (h : ℕ) (theme : List ℕ) (a : Accepted most_note
         (le_trans (quick_looks_less cells h theme way word_bits (theme_table word_bits theme) (sets score)) (all_looks_le cells h theme (Moved way)))
 
     -- with the sets that a preparation left
-    pub own_call : {lent after : List ℕ} {s : Summary} {call : Bookmark → Lent → Leaf} → Prepares cells h lent (Prepared s) after → QuickCall cells h theme way after call
+    pub own_call : {lent after : List ℕ} {s : Summary} {call : Bookmark → Lent → Leaf} → Prepares cells h lent (Ok s) after → QuickCall cells h theme way after call
         → QuickCall cells h theme way (sets score) call
     own_call {call = call} p q = subst (λ (s : List ℕ). QuickCall cells h theme way s call) (own_sets_left p) q

@@ -2,40 +2,37 @@
 // come in the order of their numbers from the first note on, and the first that has the fewest changes is kept.
 
 use crate::paths::{Best, Path, changes_of, track_byte};
-use crate::spots::{Held, spot};
-use second::totals::{byte, less_one, more, product, put_byte, size};
+use crate::spots::Held;
+use second::totals::{get_or, less_one, more, product};
 
 // How many routes there are, held or not: one of h tracks for each of m notes; 0 where there are very many.
 pub fn routes_over(h: usize, m: usize) -> usize {
-    let mut many: usize = 1;
-    for i in 0..m {
-        many = product(many, h);
-    }
-    many
+    (0..m).fold(1, |many, _| product(many, h))
 }
 
 // The next route: the last note goes to the next track; where it is in the last one, it begins anew and the note before it goes
 // on.
 fn turn_on(path: &mut Path, h: usize, m: usize) {
-    for down in 0..m {
-        let i = less_one(m - down);
-        let track = size(byte(path, i));
+    let Some(wheels) = path.get_mut(..m) else {
+        return;
+    };
+    for wheel in wheels.iter_mut().rev() {
+        let track = usize::from(*wheel);
         if track < h {
-            put_byte(path, i, track_byte(more(track, 1)));
+            *wheel = track_byte(more(track, 1));
             return;
         }
-        put_byte(path, i, 1);
+        *wheel = 1;
     }
 }
 
 // Whether the track of each note holds it.
 fn all_held(held: &Held, path: &Path, m: usize) -> bool {
-    for i in 0..m {
-        if byte(held, spot(i, size(byte(path, i)))) != 1 {
-            return false;
-        }
-    }
-    true
+    path.iter().zip(held).take(m).all(|(&track, row)| get_or(
+        row,
+        less_one(usize::from(track)),
+        false,
+    ))
 }
 
 // The better of a route and the best of those before it, which is kept where they are alike.
@@ -44,29 +41,29 @@ fn better(held: &Held, path: Path, m: usize, best: Best) -> Best {
         return best;
     }
     let changes = changes_of(&path, m);
-    let mut kept = best;
-    if changes == best.changes {
-        kept.alike = more(best.alike, 1);
-    }
     if changes < best.changes {
-        kept = Best {
+        return Best {
             path,
             changes,
             alike: 1,
         };
+    }
+    let mut kept = best;
+    if changes == best.changes {
+        kept.alike = more(best.alike, 1);
     }
     kept
 }
 
 // The best of all. Where no route is held there is none, and its changes are as many as the notes.
 pub fn by_every(held: &Held, h: usize, m: usize) -> Best {
-    let mut path = [1u8; 64];
+    let mut path = [1; 64];
     let mut best = Best {
         path,
         changes: m,
         alike: 0,
     };
-    for number in 0..routes_over(h, m) {
+    for _ in 0..routes_over(h, m) {
         best = better(held, path, m, best);
         turn_on(&mut path, h, m);
     }

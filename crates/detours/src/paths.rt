@@ -1,11 +1,12 @@
 // Routes as plain numbers.
 
-use second::totals::{byte, less_one, more};
+use second::totals::less_one;
 
 // A track for each note of a theme; what stands behind them plays no part.
 pub type Path = [u8; 64];
 
-// A route that was found: its changes, and how many routes have no more, 0 where they were not counted.
+// A route that was found: its changes, and how many routes have no more; it is the one that is known of where they were not
+// counted.
 #[derive(Clone, Copy)]
 pub struct Best {
     pub path: Path,
@@ -15,13 +16,11 @@ pub struct Best {
 
 // How many neighbours among so many notes are in different tracks.
 pub fn changes_of(path: &Path, m: usize) -> usize {
-    let mut changes: usize = 0;
-    for i in 1..m {
-        if byte(path, less_one(i)) != byte(path, i) {
-            changes = more(changes, 1);
-        }
-    }
-    changes
+    path.iter()
+        .zip(path.iter().skip(1))
+        .take(less_one(m))
+        .filter(|&(x, y)| *x != *y)
+        .count()
 }
 
 // A track as a byte.

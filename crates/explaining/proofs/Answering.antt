@@ -8,7 +8,6 @@ use lib.IntN.{ℤ}
 use lib.ListN.{length, get_or}
 use borrow.Author.Tests.{lt-ltb, le-ltb}
 use Rattle.score.specs.declared.quantities.Column.{Column}
-use Rattle.score.specs.declared.refusals.Verdict.TheVariants.{Accepted as Passed}
 use Rattle.score.specs.Score.{pitch, score_of, note}
 use Rattle.score.specs.Refusals.{verdict}
 use Rattle.ways.specs.declared.way.Way.{Way}
@@ -33,6 +32,7 @@ use Rattle.explaining.specs.Inner.{fit_by, column_by, ColumnsThere, SetsThere, f
 use Rattle.explaining.proofs.Fitting.{fits_placed, fit_by_is, columns_there, sets_there}
 use Rattle.explaining.proofs.Refusing.{passed_asks}
 use Rattle.explaining.proofs.Agreeing.{notes_agree, tracks_agree, columns_same, sifted_same}
+use Rattle.std.specs.Prelude.{Ok}
 
 -- ---- the shift comes first
 
@@ -84,7 +84,7 @@ module _ (way : Way) (score : List (List ℕ)) (theme : List ℕ) (pair : Pair) 
 
   -- one that does
   pub at_fits : length theme ≤ most_sought → fit ≡ Fits
-      → at_fit way pair.shift score theme sets (sought score pair.column) ≡ explained way score theme pair sets
+      → at_fit way pair.shift score theme (sought score pair.column) (sifted_by theme sets (sought score pair.column)) ≡ explained way score theme pair sets
   at_fits few e =
       let j = pair.column in
       let p = fits_placed score theme j e in
@@ -103,19 +103,19 @@ module _ (way : Way) (score : List (List ℕ)) (theme : List ℕ) (pair : Pair) 
 
 -- ---- at a column that fits, as the code goes
 
-module _ (way : Way) (shift : ℤ) (score : List (List ℕ)) (theme sets numbers : List ℕ) {sifted : Sifted} (s : sifted ≡ sifted_by theme sets numbers) where
-  pub fit_no_shift : no_shift way shift ≡ true → record { reason = NoShift; tracks = no_tracks; sifted = sifted } ≡ at_fit way shift score theme sets numbers
-  fit_no_shift e = rw (e, s)
+module _ (way : Way) (shift : ℤ) (score : List (List ℕ)) (theme numbers : List ℕ) (sifted : Sifted) where
+  pub fit_no_shift : no_shift way shift ≡ true → record { reason = NoShift; tracks = no_tracks; sifted = sifted } ≡ at_fit way shift score theme numbers sifted
+  fit_no_shift e = rw e
 
   pub fit_notes : no_shift way shift ≡ false → {code : ℕ} → code ≡ code_given way shift → {r : Explanation}
-      → r ≡ by_notes way code score theme numbers sifted → r ≡ at_fit way shift score theme sets numbers
+      → r ≡ by_notes way code score theme numbers sifted → r ≡ at_fit way shift score theme numbers sifted
   fit_notes e {code} c {r} f =
       let own : code ≡ code_of way shift = c ∙ code_of_shift way shift e in
-      f ∙ rw (e, s, own)
+      f ∙ rw (e, own)
 
 -- ---- an accepted call, as the code goes
 
-module _ (cells : List ℕ) (h : ℕ) (theme : List ℕ) (way : Way) (pair : Pair) (sets : List ℕ) (v : verdict (explain_rows cells h theme sets) ≡ Passed)
+module _ (cells : List ℕ) (h : ℕ) (theme : List ℕ) (way : Way) (pair : Pair) (sets : List ℕ) (v : verdict (explain_rows cells h theme sets) ≡ Ok tt)
     {numbers : List ℕ} (s : numbers ≡ sought (score_of cells h) pair.column) where
   abbrev score : List (List ℕ)
   score = score_of cells h
@@ -153,5 +153,10 @@ module _ (cells : List ℕ) (h : ℕ) (theme : List ℕ) (way : Way) (pair : Pai
         let t = sets_there cells h theme j few p fit_asked.0 accepted.columns_few sets (passed_asks cells h theme way pair sets v).1.one_less in
         (subst (ColumnsThere cells h theme) (sym s) c, subst (SetsThere theme sets) (sym s) t)
 
-    pub answer_fits : fit ≡ Fits → {r : Explanation} → r ≡ at_fit way pair.shift score theme sets numbers → r ≡ explained way score theme pair sets
-    answer_fits e a = a ∙ ap (at_fit way pair.shift score theme sets) s ∙ at_fits way score theme pair sets few (told e)
+    pub answer_fits : fit ≡ Fits → {sifted : Sifted} → sifted ≡ sifted_by theme sets numbers → {r : Explanation}
+        → r ≡ at_fit way pair.shift score theme numbers sifted → r ≡ explained way score theme pair sets
+    answer_fits e b a =
+        a
+        ∙ ap (at_fit way pair.shift score theme numbers) b
+        ∙ ap (λ (ns : List ℕ). at_fit way pair.shift score theme ns (sifted_by theme sets ns)) s
+        ∙ at_fits way score theme pair sets few (told e)

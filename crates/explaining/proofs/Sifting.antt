@@ -45,7 +45,7 @@ module _ (theme sets numbers : List ℕ) where
   sifting_within s = omega (arith, s.descended.within, count_length 1 (length theme - 1))
 
   module _ {i r : ℕ} (s : Sifting i r) (h : 0 < i) {d : Interval}
-      (e : d ≡ interval (pitch (get_or theme (i - 1) 0)) (pitch (get_or theme i 0))) where
+      (e : d ≡ interval (pitch (get_or theme (i - 1) 0)) (pitch (get_or theme (i - 1 + 1) 0))) where
     abbrev set : ℕ
     set = get_or sets (get_or numbers (i - 1) 0 - 1) 0
 
@@ -53,7 +53,7 @@ module _ (theme sets numbers : List ℕ) where
     place = count_at 1 (length theme - 1) (i - 1) 0 (omega (arith, sifting_within s)) ∙ omega arith
 
     own : theme_interval theme (i - 1) ≡ d
-    own = let next : i - 1 + 1 ≡ i = omega arith in interval_of theme (i - 1) ∙ rw next (sym e)
+    own = interval_of theme (i - 1) ∙ sym e
 
     tells : lacks theme sets numbers (get_or (count 1 (length theme - 1)) (i - 1) 0) ≡ eqb (bit_and (set / 2 ^ d.0) 1) 1
     tells =

@@ -1,11 +1,12 @@
 -- Why a pair is listed or not: `explanation`, the whole answer of the call. The reason is the first that is true, in this order:
 -- the shift (`no_shift` of `ways`), the column (`fit_of`), the notes (`notes_say`). Beside it stands what the lent sets make of a
--- column that fits (`sifted_by`), which rests on no shift. Refusals 1 to 7. Assumes nothing.
-use Rattle.std.specs.Prelude.{◌≡◌, Bool, true, false, cond, not, ◌||◌, List, [], ◌∷◌, map, ◌++◌, ℕ, ◌+◌, ◌-◌, ◌≤◌, ltb, eqb, length, get_or, replicate}
+-- column that fits (`sifted_by`), which rests on no shift. Or a refusal, 1 to 7. Assumes nothing.
+use Rattle.std.specs.Prelude.{◌≡◌, Bool, true, false, cond, not, ◌||◌, List, [], ◌∷◌, map, ◌++◌, ℕ, ◌+◌, ◌-◌, ◌≤◌, ltb, eqb, length, get_or, replicate, Result, Ok, Err}
 use Rattle.theory.specs.Bits.{bit}
 use Rattle.theory.specs.Lists.{over, count, first}
 use Rattle.score.specs.declared.quantities.Pitch.{Pitch}
 use Rattle.score.specs.declared.quantities.Column.{Column}
+use Rattle.score.specs.declared.refusals.Refusal.{Refusal}
 use Rattle.score.specs.Score.{column, score_of, heard, onward, note}
 use Rattle.score.specs.Refusals.{Row, row6, row7, judge}
 use Rattle.ways.specs.declared.way.Way.{Way}
@@ -21,7 +22,7 @@ use Rattle.seeking.specs.Sought.{column_sought, numbers_on}
 use Rattle.seeking.specs.Track.{lowest_track}
 use Rattle.explaining.specs.declared.answer.Explanation.{Explanation}
 use Rattle.explaining.specs.declared.answer.Reason.{Reason}
-use Rattle.explaining.specs.declared.answer.Reason.TheVariants.{Listed, NoShift, NoColumn, TooFew, Empty, Outside, Absent, Refused}
+use Rattle.explaining.specs.declared.answer.Reason.TheVariants.{Listed, NoShift, NoColumn, TooFew, Empty, Outside, Absent}
 use Rattle.explaining.specs.declared.answer.Sifted.{Sifted}
 use Rattle.explaining.specs.declared.answer.Sifted.TheVariants.{Unasked, Kept, Dismissed}
 use Rattle.explaining.specs.declared.fits.Fit.{Fit}
@@ -139,6 +140,6 @@ module _ (way : Way) (score : List (List ℕ)) (theme : List ℕ) (pair : Pair) 
 abbrev pub explain_rows : (cells : List ℕ) (h : ℕ) (theme sets : List ℕ) → List Row
 explain_rows cells h theme sets = request_rows most_notes cells h theme ++ row6 cells h sets ∷ row7 sets ∷ []
 
-unfoldable pub explanation : (cells : List ℕ) (h : ℕ) (theme : List ℕ) → Way → Pair → (sets : List ℕ) → Explanation
+unfoldable pub explanation : (cells : List ℕ) (h : ℕ) (theme : List ℕ) → Way → Pair → (sets : List ℕ) → Result Explanation Refusal
 explanation cells h theme way pair sets =
-    judge (explain_rows cells h theme sets) (λ r. bare (Refused r)) (explained way (score_of cells h) theme pair sets)
+    judge (explain_rows cells h theme sets) Err (Ok (explained way (score_of cells h) theme pair sets))

@@ -14,7 +14,7 @@ use Rattle.explaining.specs.declared.answer.Reason.TheVariants.{NoShift}
 use Rattle.explaining.specs.declared.answer.Sifted.{Sifted}
 use Rattle.explaining.specs.declared.fits.Fit.{Fit}
 use Rattle.explaining.specs.declared.fits.Fit.TheVariants.{Zero, Short, NoPitch, Fits}
-use Rattle.explaining.specs.Explaining.{no_tracks, notes_say, notes_tracks, sifted_by}
+use Rattle.explaining.specs.Explaining.{no_tracks, notes_say, notes_tracks}
 
 -- a column of number 0 is none
 abbrev pub fit_by : (numbers : List ℕ) (m : ℕ) → Column → Fit
@@ -55,8 +55,8 @@ by_notes way code score theme numbers sifted =
     record { reason = notes_say way code theme at; tracks = notes_tracks way code theme at; sifted = sifted }
 
 -- at a column that fits
-abbrev pub at_fit : Way → ℤ → (score : List (List ℕ)) (theme sets numbers : List ℕ) → Explanation
-at_fit way shift score theme sets numbers =
+abbrev pub at_fit : Way → ℤ → (score : List (List ℕ)) (theme numbers : List ℕ) → Sifted → Explanation
+at_fit way shift score theme numbers sifted =
     cond (no_shift way shift)
-    (record { reason = NoShift; tracks = no_tracks; sifted = sifted_by theme sets numbers })
-    (by_notes way (code_of way shift) score theme numbers (sifted_by theme sets numbers))
+    (record { reason = NoShift; tracks = no_tracks; sifted = sifted })
+    (by_notes way (code_of way shift) score theme numbers sifted)

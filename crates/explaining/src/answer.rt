@@ -1,12 +1,12 @@
 // What is answered: the reason, the tracks, and what the lent sets make of the column.
 
-use score::{Interval, Refusal};
+use score::Interval;
 use seeking::MOST_SOUGHT;
 
 // Whether the pair is listed, and if not, the first of the reasons against it that is true. The shift is none of the way's. The
-// column is 0. From it on there are fewer columns with a pitch than the theme has notes, as from one above n. The column itself has
-// no pitch. A note is not held, the first such one, named by its number from 1: moved, it lies outside 0 to 127, or it is absent
-// from its column. A refused call has its refusal for a reason.
+// column is 0. From it on there are fewer columns with a pitch than the theme has notes, as from one above n. The column itself
+// has no pitch. A note is not held, the first such one, named by its number from 1: moved, it lies outside 0 to 127, or it is
+// absent from its column.
 #[derive(Clone, Copy)]
 pub enum Reason {
     Listed,
@@ -16,7 +16,6 @@ pub enum Reason {
     Empty,
     Outside(u8),
     Absent(u8),
-    Refused(Refusal),
 }
 
 // An interval of the theme: its number, from 1 for the one between the first two notes, and its size, 0 to 11.

@@ -1,17 +1,17 @@
 // The explainer: why a pair is listed or not, in exact or octave.
 
-ghost use Rattle.std.specs.Prelude.{◌≡◌};
+ghost use Rattle.std.specs.Prelude.{Ok, ◌≡◌};
 ghost use Rattle.score.specs.Score.{score_of};
 ghost use Rattle.score.specs.Refusals.{verdict};
 ghost use Rattle.explaining.specs.Explaining.{bare, explained, explain_rows, explanation};
-ghost use Rattle.explaining.specs.Inner.{ColumnsThere, SetsThere, first_of, by_notes, at_fit};
+ghost use Rattle.explaining.specs.Inner.{first_of, by_notes, at_fit};
 
 use crate::answer::{Explanation, Reason, Sifted};
 use crate::fits::{Fit, fit_by};
-use crate::intervals::sift;
-use crate::notes::{failed, first_failing, tracks_of};
+use crate::intervals::Sieve;
+use crate::notes::{Placed, failed};
 use asking::{MOST_NOTES, check_request};
-use score::{Pitch, Verdict, check_sets};
+use score::{Pitch, Refusal, check_sets};
 use search::{Pair, Way};
 use seeking::{MOST_SOUGHT, sought};
 use ways::{code_of, no_shift};
@@ -25,22 +25,18 @@ pub fn explain(
     way: Way,
     pair: Pair,
     sets: &[u16],
-) -> Explanation
+) -> Result<Explanation, Refusal>
     ensures { result ≡ explanation cells.now tracks theme.now way pair sets.now }
 {
-    if let Verdict::Refused(e) = check_explained(cells, tracks, theme, sets) {
-        return bare(Reason::Refused(e));
-    }
-    explained(cells, tracks, theme, way, pair, sets)
+    check_explained(cells, tracks, theme, sets)?;
+    Ok(explained(cells, tracks, theme, way, pair, sets))
 }
 
 // Refusals 1 to 7, for a score and a theme with lent sets.
-fn check_explained(cells: &[u8], tracks: usize, theme: &[u8], sets: &[u16]) -> Verdict
+fn check_explained(cells: &[u8], tracks: usize, theme: &[u8], sets: &[u16]) -> Result<(), Refusal>
     ensures { result ≡ verdict (explain_rows cells.now tracks theme.now sets.now) }
 {
-    if let Verdict::Refused(e) = check_request(cells, tracks, theme, MOST_NOTES) {
-        return Verdict::Refused(e);
-    }
+    check_request(cells, tracks, theme, MOST_NOTES)?;
     check_sets(cells, tracks, sets)
 }
 
@@ -64,7 +60,7 @@ fn explained(
     pair: Pair,
     sets: &[u16],
 ) -> Explanation
-    requires { verdict (explain_rows cells.now tracks theme.now sets.now) ≡ Verdict.Accepted }
+    requires { verdict (explain_rows cells.now tracks theme.now sets.now) ≡ Ok tt }
     ensures { result ≡ explained way (score_of cells.now tracks) theme.now pair sets.now }
 {
     let column = pair.column;
@@ -75,7 +71,21 @@ fn explained(
         Fit::Zero => bare(first_of(way, shift, Reason::NoColumn)),
         Fit::Short => bare(first_of(way, shift, Reason::TooFew)),
         Fit::NoPitch => bare(first_of(way, shift, Reason::Empty)),
-        Fit::Fits => at_fit(cells, tracks, theme, way, shift, sets, &numbers),
+        Fit::Fits => {
+            let numbers = &numbers[..];
+            let sieve = Sieve {
+                theme,
+                sets,
+                numbers,
+            };
+            let placed = Placed {
+                cells,
+                tracks,
+                theme,
+                numbers,
+            };
+            at_fit(&placed, way, shift, sieve.sift())
+        }
     }
 }
 
@@ -90,19 +100,10 @@ fn first_of(way: Way, shift: i16, otherwise: Reason) -> Reason
 }
 
 // At a column that fits: what the sets make of it rests on the column alone.
-fn at_fit(
-    cells: &[u8],
-    tracks: usize,
-    theme: &[u8],
-    way: Way,
-    shift: i16,
-    sets: &[u16],
-    numbers: &[usize],
-) -> Explanation
-    requires { ColumnsThere cells.now tracks theme.now numbers.now × SetsThere theme.now sets.now numbers.now }
-    ensures { result ≡ at_fit way shift (score_of cells.now tracks) theme.now sets.now numbers.now }
+fn at_fit(placed: &Placed, way: Way, shift: i16, by_sets: Sifted) -> Explanation
+    ensures { result ≡ at_fit way shift (score_of placed.now.cells.now placed.now.tracks)
+        placed.now.theme.now placed.now.numbers.now by_sets }
 {
-    let by_sets = sift(theme, sets, numbers);
     if no_shift(way, shift) {
         return Explanation {
             reason: Reason::NoShift,
@@ -110,33 +111,17 @@ fn at_fit(
             sifted: by_sets,
         };
     }
-    by_notes(
-        cells,
-        tracks,
-        theme,
-        way,
-        code_of(way, shift),
-        numbers,
-        by_sets,
-    )
+    by_notes(placed, way, code_of(way, shift), by_sets)
 }
 
 // And with a shift of the way: by the notes.
-fn by_notes(
-    cells: &[u8],
-    tracks: usize,
-    theme: &[u8],
-    way: Way,
-    code: u16,
-    numbers: &[usize],
-    sifted: Sifted,
-) -> Explanation
-    requires { ColumnsThere cells.now tracks theme.now numbers.now }
-    ensures { result ≡ by_notes way code (score_of cells.now tracks) theme.now numbers.now sifted }
+fn by_notes(placed: &Placed, way: Way, code: u16, sifted: Sifted) -> Explanation
+    ensures { result ≡ by_notes way code (score_of placed.now.cells.now placed.now.tracks)
+        placed.now.theme.now placed.now.numbers.now sifted }
 {
-    let k = first_failing(cells, tracks, theme, way, code, numbers);
-    if k < theme.len() {
-        let reason = failed(way, code, Pitch(theme[k]), (k + 1) as u8);
+    let k = placed.first_failing(way, code);
+    if k < placed.theme.len() {
+        let reason = failed(way, code, Pitch(placed.theme[k]), (k + 1) as u8);
         return Explanation {
             reason,
             tracks: [0; MOST_SOUGHT],
@@ -145,7 +130,7 @@ fn by_notes(
     }
     Explanation {
         reason: Reason::Listed,
-        tracks: tracks_of(cells, tracks, theme, way, code, numbers),
+        tracks: placed.tracks_of(way, code),
         sifted,
     }
 }

@@ -2,4 +2,5 @@
 -- `Unique` (each contract settles its call).
 pub mod Words
 mod LowestInterval
+pub mod Neighbours
 pub mod Unique

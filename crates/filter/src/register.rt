@@ -11,11 +11,11 @@ use crate::limits::WORD_BITS;
 pub fn step(register: u32, word: u32) -> u32
     ensures { result ≡ Register.step word_bits register word }
 {
-    std::num::wrapping_add_u32(register, register) | word
+    register.wrapping_add(register) | word
 }
 
-// Whether the register marks a column: its bit `top` is zero. For candidates of a theme of m notes that is bit m - 2, for the tune
-// as it is written bit m - 1. Bits go round: bit 32 is bit 0.
+// Whether the register marks a column: its bit `top` is zero. For candidates of a theme of m notes that is bit m - 2, for the
+// tune as it is written bit m - 1. Bits go round: bit 32 is bit 0.
 pub fn marks(register: u32, top: u32) -> bool
     ensures { result ≡ (bit register (top % word_bits) == 0) }
 {

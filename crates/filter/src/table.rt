@@ -16,17 +16,12 @@ use score::{HIGHEST_SET, Pitch, TABLE_WORDS, interval_of};
 fn interval_words(theme: &[u8]) -> [u32; 12]
     ensures { result ≡ interval_words word_bits theme.now }
 {
-    let mut words = [0xffff_ffff; 12];
+    let mut words = [u32::MAX; 12];
     let mut mark: u32 = 1;
-    let mut i = 0;
-    while i + 1 < theme.len() {
-        let note = theme[i];
-        let next = theme[i + 1];
-        let d = interval_of(Pitch(note), Pitch(next));
-        let at = d.0 as usize;
-        words[at] = words[at] & !mark;
-        mark = mark << 1;
-        i += 1;
+    for notes in theme.windows(2) {
+        let d = interval_of(Pitch(notes[0]), Pitch(notes[1]));
+        words[d.0 as usize] &= !mark;
+        mark <<= 1;
     }
     words
 }
@@ -36,7 +31,7 @@ fn lowest_interval(set: usize) -> usize
     requires { set < highest_set }
     ensures { LowestInterval set result }
 {
-    usize::trailing_zeros(!set) as usize
+    (!set).trailing_zeros() as usize
 }
 
 // The whole table of a theme, whatever it held. Of a theme with more than 33 notes a word has the first 32 intervals. A theme
@@ -60,19 +55,16 @@ fn lowest_interval(set: usize) -> usize
 pub fn fill_table(theme: &[u8], table: &mut [u32])
     ensures { table.new ≡ table_after word_bits theme.now table.old }
 {
-    if theme.len() == 0 {
-        return;
-    }
-    if table.len() != TABLE_WORDS {
+    if theme.is_empty() || table.len() != TABLE_WORDS {
         return;
     }
     let words = interval_words(theme);
     // 4095 has no interval, and 4094 has the interval 0 alone
-    let mut even = HIGHEST_SET as usize - 1;
-    table[even + 1] = 0xffff_ffff;
-    table[even] = words[0];
-    while 0 < even {
-        even -= 2;
+    let last = HIGHEST_SET as usize;
+    table[last] = u32::MAX;
+    table[last - 1] = words[0];
+    for half in (0..last / 2).rev() {
+        let even = 2 * half;
         let odd = even + 1;
         table[odd] = table[odd | (odd + 1)] & words[lowest_interval(odd)];
         table[even] = table[odd] & words[0];

@@ -15,9 +15,8 @@ use Rattle.theory.specs.Lists.{count}
 use Rattle.theory.proofs.Lists.{some_first, count_length}
 use Rattle.theory.proofs.Pages.{hits_le, page_le}
 use Rattle.score.specs.Limits.{most_tracks, most_columns, most_cells}
+use Rattle.score.specs.declared.refusals.Rule.{Rule}
 use Rattle.score.specs.declared.refusals.Refusal.{Refusal}
-use Rattle.score.specs.declared.refusals.Verdict.{Verdict}
-use Rattle.score.specs.declared.refusals.Verdict.TheVariants.{Accepted as Passed, Refused as Away}
 use Rattle.score.specs.Score.{columns_in, score_of, heard_of, note}
 use Rattle.score.specs.Refusals.{Row, judge, verdict, row1, row2, row3, row6, row7, bad_cell, bad_set}
 use Rattle.score.specs.declared.quantities.Column.{Column}
@@ -26,9 +25,7 @@ use Rattle.score.proofs.Columns.{columns_whole, score_length}
 use Rattle.score.proofs.Judged.{Clear}
 use Rattle.summing.specs.declared.summary.Summary.{Summary}
 use Rattle.summing.specs.Summary.{summary_of}
-use Rattle.preparing.specs.declared.sets.Preparation.TheVariants.{Prepared, Refused as Unprepared}
 use Rattle.preparing.specs.Preparing.{Filled, prepare_rows, prepared}
-use Rattle.updating.specs.declared.changes.Change.TheVariants.{Updated, Refused as Unchanged}
 use Rattle.updating.specs.Updating.{Renewed, row19, update_rows, updated_sets, renewed}
 use Rattle.ways.specs.declared.way.Way.{Way}
 use Rattle.ways.specs.declared.way.AnyWay.{AnyWay}
@@ -52,20 +49,16 @@ use Rattle.search.specs.Pairs.{plain_search, quick_search, search_as}
 use Rattle.search.specs.Page.{rows_of_plain, rows_of_quick, plain_page, quick_page}
 use Rattle.search.proofs.Numbers.{heard_few}
 use Rattle.search.proofs.WholeLists.{most_fits, plain_page_le, quick_page_le}
-use Rattle.occurring.specs.declared.question.Occurrence.{Occurrence}
-use Rattle.occurring.specs.declared.question.Occurrence.TheVariants.{Refused as Unanswered}
 use Rattle.occurring.specs.Occurring.{row12, occurs_rows, quick_list, by_list}
 use Rattle.explaining.specs.declared.answer.Explanation.{Explanation}
 use Rattle.explaining.specs.declared.answer.Reason.{Reason}
-use Rattle.explaining.specs.declared.answer.Reason.TheVariants.{Listed, NoShift, Outside, Absent, Refused as Unexplained}
 use Rattle.explaining.specs.declared.fits.Fit.{Fit}
 use Rattle.explaining.specs.declared.fits.Fit.TheVariants.{Zero, Short, NoPitch, Fits}
 use Rattle.explaining.specs.Explaining.{note_outside, failed, held, column_of, reason_at, fit_of, bare, explained, explain_rows, explanation}
-use Rattle.routing.specs.declared.answer.Routed.{Routed}
 use Rattle.routing.specs.Routing.{pair_rows, route_rows, Routes}
-use Rattle.finder_c.specs.Singles.{of_preparation, of_occurrence, of_change, of_routed}
-use Rattle.finder_c.specs.Reasons.{of_reason}
-use Rattle.finder_c.specs.Small.{SmallPlace, SmallSingle, SmallPage, SmallReason}
+use Rattle.finder_c.specs.Singles.{of_summary, of_occurrence, of_routed}
+use Rattle.finder_c.specs.Small.{SmallPlace, SmallSingle, SmallPage, SmallExplanation}
+use Rattle.std.specs.Prelude.{Result, Ok, Err}
 
 -- ---- rows
 
@@ -84,7 +77,7 @@ judge_small P refused accepted f (r ∷ rows) s x = step r.applies refl (λ e. j
     step false e more = more e
 
 -- a row that names no place
-nowhere : {number : ℕ} → SmallPlace (record { number = number; place = 0 })
+nowhere : {k : Rule} → SmallPlace (record { rule = k; place = 0 })
 nowhere = record { place = omega arith }
 
 -- ---- rows that name one
@@ -123,80 +116,62 @@ list_small [] = tt {0}
 list_small (pair ∷ list) = tt {0}
 
 module _ (cells : List ℕ) (h : ℕ) (sets : List ℕ) where
-  pub prepared_small : SmallSingle (of_preparation (prepared cells h sets).answer)
+  pub prepared_small : SmallSingle (of_summary (prepared cells h sets).answer)
   prepared_small =
       let all = setsOf (score_of cells h) in
-      judge_small (λ (f : Filled). SmallSingle (of_preparation f.answer)) (λ r. record { answer = Unprepared r; sets = sets })
-      (record { answer = Prepared (summary_of all); sets = all }) (λ r s. s) (prepare_rows cells h sets)
+      judge_small (λ (f : Filled). SmallSingle (of_summary f.answer)) (λ r. record { answer = Err r; sets = sets })
+      (record { answer = Ok (summary_of all); sets = all }) (λ r s. s) (prepare_rows cells h sets)
       (score_small cells h (row6 cells h sets ∷ []) (λ b. (λ e. nowhere, λ d. tt {0}))) (λ c. tt {0})
 
-  pub renewed_small : (c : Column) → SmallSingle (of_change (renewed cells h c sets).answer)
+  pub renewed_small : (c : Column) → SmallSingle (of_summary (renewed cells h c sets).answer)
   renewed_small c =
       let after = updated_sets (score_of cells h) c sets in
       let last = row19 (columns_in cells h) c ∷ [] in
-      judge_small (λ (f : Renewed). SmallSingle (of_change f.answer)) (λ r. record { answer = Unchanged r; sets = sets })
-      (record { answer = Updated (summary_of after); sets = after }) (λ r s. s) (update_rows cells h c sets)
+      judge_small (λ (f : Renewed). SmallSingle (of_summary f.answer)) (λ r. record { answer = Err r; sets = sets })
+      (record { answer = Ok (summary_of after); sets = after }) (λ r s. s) (update_rows cells h c sets)
       (score_small cells h (row6 cells h sets ∷ row7 sets ∷ last) (λ b. sets_small cells h sets last b (λ e. nowhere, λ d. tt {0}))) (λ c. tt {0})
 
   pub occurrence_small : (theme : List ℕ) (way : Way) (summary : Summary) (table : List ℕ)
-      → SmallSingle (of_occurrence (judge (occurs_rows cells h theme sets summary table) Unanswered (by_list (quick_list way (score_of cells h) theme sets))))
+      → SmallSingle (of_occurrence (judge (occurs_rows cells h theme sets summary table) Err (by_list (quick_list way (score_of cells h) theme sets))))
   occurrence_small theme way summary table =
       let list = quick_list way (score_of cells h) theme sets in
       let last = row8 (length table) ∷ row12 sets summary ∷ [] in
       let rows = row6 cells h sets ∷ row7 sets ∷ last in
-      judge_small (λ (o : Occurrence). SmallSingle (of_occurrence o)) Unanswered (by_list list) (λ r s. s) (occurs_rows cells h theme sets summary table)
+      judge_small (λ (o : Result Bool Refusal). SmallSingle (of_occurrence o)) Err (by_list list) (λ r s. s) (occurs_rows cells h theme sets summary table)
       (score_small cells h (row4 most_notes theme ∷ row5 theme ∷ rows)
       (λ b. theme_small theme rows (sets_small cells h sets last b (λ e. nowhere, λ d. (λ e. nowhere, λ d. tt {0}))))) (λ c. list_small list)
 
 -- the verdict of rows, and so what a route says
-abbrev SmallVerdict : Verdict → Type 0
-SmallVerdict Passed = Unit {0}
-SmallVerdict (Away r) = SmallPlace r
+abbrev SmallVerdict : Result (Unit {0}) Refusal → Type 0
+SmallVerdict (Ok tt) = Unit {0}
+SmallVerdict (Err r) = SmallPlace r
 
-pub routed_small : (cells : List ℕ) (h : ℕ) (theme : List ℕ) (way : AnyWay) (pair : Pair) (lent : List ℕ) {said : Routed} {after : List ℕ}
+pub routed_small : (cells : List ℕ) (h : ℕ) (theme : List ℕ) (way : AnyWay) (pair : Pair) (lent : List ℕ) {said : Result ℕ Refusal} {after : List ℕ}
     → Routes cells h theme way pair lent said after → SmallSingle (of_routed said)
 routed_small cells h theme way pair lent {said} a = step (verdict (route_rows cells h theme way pair lent)) refl small
   where
     small : SmallVerdict (verdict (route_rows cells h theme way pair lent))
     small =
         let last = pair_rows way (score_of cells h) theme pair lent in
-        judge_small SmallVerdict Away Passed (λ r s. s) (route_rows cells h theme way pair lent)
+        judge_small SmallVerdict Err (Ok tt) (λ r s. s) (route_rows cells h theme way pair lent)
         (score_small cells h (row4 most_notes theme ∷ row5 theme ∷ last)
         (λ b. theme_small theme last (λ e. nowhere, λ d. (λ e. nowhere, λ d. tt {0})))) (λ c. tt {0})
 
-    step : (v : Verdict) → verdict (route_rows cells h theme way pair lent) ≡ v → SmallVerdict v → SmallSingle (of_routed said)
-    step Passed e s = rw (a.accepted e).counted (tt {0})
-    step (Away r) e s = rw (a.refused r e).0 s
+    step : (v : Result (Unit {0}) Refusal) → verdict (route_rows cells h theme way pair lent) ≡ v → SmallVerdict v → SmallSingle (of_routed said)
+    step (Ok _) e s = rw (a.accepted e).counted (tt {0})
+    step (Err r) e s = rw (a.refused r e).0 s
 
--- ---- the explanation: no reason is a refusal but that of a row
-
-either_small : (b : Bool) (x y : Reason) → SmallReason (of_reason x) → SmallReason (of_reason y) → SmallReason (of_reason (cond b x y))
-either_small true x y s t = s
-either_small false x y s t = t
-
-module _ (way : Way) (score : List (List ℕ)) (theme : List ℕ) (pair : Pair) (sets : List ℕ) where
-  at_small : (fit : Fit) → SmallReason (of_reason (reason_at way score theme pair sets fit))
-  at_small Zero = tt {0}
-  at_small Short = tt {0}
-  at_small NoPitch = tt {0}
-  at_small Fits =
-      let code = code_of way pair.shift in
-      let i = held way code theme (column_of way score theme pair sets) in
-      let p = note theme (i + 1) in
-      either_small (ltb i (length theme)) (failed way code p (i + 1)) Listed
-      (either_small (note_outside way code p) (Outside (i + 1)) (Absent (i + 1)) (tt {0}) (tt {0})) (tt {0})
+-- ---- the explanation: it is a refusal on a row alone
 
 pub explanation_small : (cells : List ℕ) (h : ℕ) (theme : List ℕ) (way : Way) (pair : Pair) (sets : List ℕ)
-    → SmallReason (of_reason (explanation cells h theme way pair sets).reason)
+    → SmallExplanation (explanation cells h theme way pair sets)
 unfolding explanation
 explanation_small cells h theme way pair sets =
-    let score = score_of cells h in
     let rows = row6 cells h sets ∷ row7 sets ∷ [] in
-    let fit = fit_of score theme pair.column in
-    judge_small (λ (e : Explanation). SmallReason (of_reason e.reason)) (λ r. bare (Unexplained r)) (explained way score theme pair sets) (λ r s. s)
+    judge_small SmallExplanation Err (Ok (explained way (score_of cells h) theme pair sets)) (λ r s. s)
     (explain_rows cells h theme sets)
     (score_small cells h (row4 most_notes theme ∷ row5 theme ∷ rows) (λ b. theme_small theme rows (sets_small cells h sets [] b (tt {0}))))
-    (λ c. either_small (no_shift way pair.shift) NoShift (reason_at way score theme pair sets fit) (tt {0}) (at_small way score theme pair sets fit))
+    (λ c. tt {0})
 
 -- ---- a page: each pair costs a look at least
 

@@ -10,7 +10,6 @@ use Rattle.theory.specs.Settled.{Settles}
 use Rattle.theory.proofs.Unique.{◌beside◌}
 use Rattle.paging.specs.Lent.{Lent}
 use Rattle.paging.proofs.Buffers.{same_columns, same_shifts}
-use Rattle.routing.specs.declared.answer.Routed.{Routed}
 use Rattle.routing.proofs.RouteAnswers.{routes_unique}
 use Rattle.finder_c.specs.Limits.{written, one_number}
 use Rattle.finder_c.specs.Singles.{of_routed}
@@ -23,6 +22,8 @@ use Rattle.finder_c.proofs.calls.finder_plain_page
 use Rattle.finder_c.proofs.calls.finder_quick_page
 use Rattle.finder_c.proofs.calls.finder_explain
 use Rattle.finder_c.proofs.calls.finder_route
+use Rattle.std.specs.Prelude.{Result, Ok, Err}
+use Rattle.score.specs.declared.refusals.Refusal.{Refusal}
 
 c_leaves_unique : {Buffers : Type 0} {none : Bool} {buffers : Buffers} {answer : List ℤ} {left : CLeft Buffers} {r r' : ℤ} {b b' : Buffers} {a a' : List ℤ}
     → CLeaves none buffers answer left r b a → CLeaves none buffers answer left r' b' a' → (r ≡ r') × (b ≡ b') × (a ≡ a')
@@ -65,7 +66,7 @@ pub c_routes_unique : {cells : List ℕ} {h : ℕ} {theme : List ℕ} {way colum
     → CRoutes cells h theme way column shift places answer r' p' a' → (r ≡ r') × (p ≡ p') × (a ≡ a')
 c_routes_unique {way = way} {places = places} {answer = answer} {r = r} {p = p} {a = a} x y =
     let (said, after) = routes_unique _ _ _ _ _ _ x.routes y.routes in
-    let both = ap₂ (λ (s : Routed) (l : List ℕ). single_left (of_routed s) l answer) said after in
+    let both = ap₂ (λ (s : Result ℕ Refusal) (l : List ℕ). single_left (of_routed s) l answer) said after in
     let none = no_call written way one_number (length answer) in
     c_leaves_unique (subst (λ (left : CLeft (List ℕ)). CLeaves none places answer left r p a) both x.leaves) y.leaves
 

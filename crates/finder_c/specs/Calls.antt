@@ -1,7 +1,7 @@
 -- What each exported call leaves: its result, and every lent buffer. All is said by the definitions of the crates that answer, by
 -- `Numbers` and by `Reasons`; there is one answer. Where there is no call, everything is as it was.
 -- Assumes nothing.
-use Rattle.std.specs.Prelude.{◌≡◌, Bool, cond, List, ℕ, ℤ, pos, length}
+use Rattle.std.specs.Prelude.{◌≡◌, Bool, cond, List, ℕ, ℤ, pos, length, Result, Ok, Err, true, false}
 use Rattle.score.specs.Score.{column_at, score_of}
 use Rattle.score.specs.Refusals.{judge}
 use Rattle.summing.specs.declared.summary.Summary.{Summary}
@@ -14,18 +14,15 @@ use Rattle.filter.specs.Table.{theme_table}
 use Rattle.paging.specs.Lent.{Lent}
 use Rattle.paging.specs.Page.{Leaf}
 use Rattle.search.specs.Page.{plain_page, quick_page, quick_table}
-use Rattle.occurring.specs.declared.question.Occurrence.{Occurrence}
-use Rattle.occurring.specs.declared.question.Occurrence.TheVariants.{Refused}
 use Rattle.occurring.specs.Occurring.{occurs_rows, quick_list, by_list}
 use Rattle.explaining.specs.declared.answer.Explanation.{Explanation}
 use Rattle.explaining.specs.Explaining.{explanation}
-use Rattle.routing.specs.declared.answer.Routed.{Routed}
 use Rattle.routing.specs.Routing.{Routes}
-use Rattle.finder_c.specs.declared.single.Single.{Single}
 use Rattle.finder_c.specs.Limits.{octave, written, answer_numbers, one_number, explain_numbers, not_called}
-use Rattle.finder_c.specs.Singles.{of_preparation, of_occurrence, of_change, of_routed}
+use Rattle.finder_c.specs.Singles.{of_summary, of_occurrence, of_routed}
 use Rattle.finder_c.specs.Numbers.{way_of, any_way_of, no_answer, no_call, single_number, single_numbers, page_number, page_numbers}
 use Rattle.finder_c.specs.Reasons.{explanation_number, explanation_numbers}
+use Rattle.score.specs.declared.refusals.Refusal.{Refusal}
 
 -- a call's result, and what it leaves in the lent buffers, of whatever kind they are, and in the lent answer
 pub record CLeft (Buffers : Type 0) : Type 0 where
@@ -43,19 +40,19 @@ pub record CLeaves {Buffers : Type 0} (none : Bool) (buffers : Buffers) (answer 
 -- ---- calls that say one number; each is lent one buffer beside the answer, the sets or the table
 
 -- the number or the refusal, told, and that buffer after the call
-abbrev pub single_left : Single → (after : List ℕ) (answer : List ℤ) → CLeft (List ℕ)
+abbrev pub single_left : Result ℕ Refusal → (after : List ℕ) (answer : List ℤ) → CLeft (List ℕ)
 single_left s after answer = record { result = single_number s; buffers = after; answer = single_numbers s answer }
 
 pub record CPrepares (cells : List ℕ) (h : ℕ) (sets : List ℕ) (answer : List ℤ)
     (result : ℤ) (sets' : List ℕ) (answer' : List ℤ) : Type 0 where
   pub leaves : CLeaves (no_answer one_number (length answer)) sets answer
-      (single_left (of_preparation (prepared cells h sets).answer) (prepared cells h sets).sets answer)
+      (single_left (of_summary (prepared cells h sets).answer) (prepared cells h sets).sets answer)
       result sets' answer'
 
 pub record CUpdates (cells : List ℕ) (h column : ℕ) (sets : List ℕ) (answer : List ℤ)
     (result : ℤ) (sets' : List ℕ) (answer' : List ℤ) : Type 0 where
   pub leaves : CLeaves (no_answer one_number (length answer)) sets answer
-      (single_left (of_change (renewed cells h (column_at column) sets).answer)
+      (single_left (of_summary (renewed cells h (column_at column) sets).answer)
       (renewed cells h (column_at column) sets).sets answer)
       result sets' answer'
 
@@ -64,9 +61,9 @@ summary_at summary = record { 0 = summary }
 
 -- what the question says, and the table that it leaves
 abbrev pub occurrence : (cells : List ℕ) (h : ℕ) (theme : List ℕ) (way : ℕ) (sets : List ℕ) (summary : ℕ) (table : List ℕ)
-    → Occurrence
+    → Result Bool Refusal
 occurrence cells h theme way sets summary table =
-    judge (occurs_rows cells h theme sets (summary_at summary) table) Refused
+    judge (occurs_rows cells h theme sets (summary_at summary) table) Err
     (by_list (quick_list (way_of way) (score_of cells h) theme sets))
 
 abbrev pub table_left : (cells : List ℕ) (h : ℕ) (theme sets : List ℕ) (summary : ℕ) (table : List ℕ) → List ℕ
@@ -108,7 +105,7 @@ pub record CQuickPages (cells : List ℕ) (h : ℕ) (theme : List ℕ) (way colu
 abbrev pub pair_told : (column : ℕ) (shift : ℤ) → Pair
 pair_told column shift = record { column = column_at column; shift = shift }
 
-abbrev pub explanation_left : Explanation → (answer : List ℤ) → CLeft (Unit {0})
+abbrev pub explanation_left : Result Explanation Refusal → (answer : List ℤ) → CLeft (Unit {0})
 explanation_left e answer = record { result = explanation_number e; buffers = tt {0}; answer = explanation_numbers e answer }
 
 pub record CExplains (cells : List ℕ) (h : ℕ) (theme : List ℕ) (way column : ℕ) (shift : ℤ) (sets : List ℕ) (answer : List ℤ)
@@ -121,7 +118,7 @@ pub record CExplains (cells : List ℕ) (h : ℕ) (theme : List ℕ) (way column
 
 pub record CRoutes (cells : List ℕ) (h : ℕ) (theme : List ℕ) (way column : ℕ) (shift : ℤ) (places : List ℕ) (answer : List ℤ)
     (result : ℤ) (places' : List ℕ) (answer' : List ℤ) : Type 0 where
-  pub said : Routed
+  pub said : Result ℕ Refusal
   pub after : List ℕ
   pub routes : Routes cells h theme (any_way_of way) (pair_told column shift) places said after
   pub leaves : CLeaves (no_call written way one_number (length answer)) places answer (single_left (of_routed said) after answer)

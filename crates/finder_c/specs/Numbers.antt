@@ -1,17 +1,14 @@
 -- Answers in numbers: a way is 0, 1 or 2, an accepted call is 0, and a refusal is its number + 256 * its place. The definitions
 -- that matter are `single_numbers`, the one place of an answer of one number, and `page_numbers`, the five places of a page's.
 -- Assumes nothing.
-use Rattle.std.specs.Prelude.{Bool, cond, not, ◌||◌, List, [], ◌∷◌, ℕ, ◌+◌, ◌*◌, eqb, ltb, ℤ, pos}
+use Rattle.std.specs.Prelude.{Bool, cond, not, ◌||◌, List, [], ◌∷◌, ℕ, ◌+◌, ◌*◌, eqb, ltb, ℤ, pos, Result, Ok, Err}
 use Rattle.score.specs.declared.refusals.Refusal.{Refusal}
+use Rattle.score.specs.Refusals.{number_of}
 use Rattle.ways.specs.declared.way.Way.{Way}
 use Rattle.ways.specs.declared.way.AnyWay.{AnyWay}
 use Rattle.ways.specs.declared.way.AnyWay.TheVariants.{Moved, Written}
 use Rattle.ways.specs.declared.way.Way.TheVariants.{Exact, Octave}
 use Rattle.paging.specs.declared.page.Turn.{Turn}
-use Rattle.paging.specs.declared.page.Page.{Page}
-use Rattle.paging.specs.declared.page.Page.TheVariants.{Turned, Refused}
-use Rattle.finder_c.specs.declared.single.Single.{Single}
-use Rattle.finder_c.specs.declared.single.Single.TheVariants as single
 use Rattle.finder_c.specs.Limits.{written, place_weight}
 
 -- 0 exact, 1 octave
@@ -31,30 +28,30 @@ abbrev pub no_call : (highest way numbers len : ℕ) → Bool
 no_call highest way numbers len = ltb highest way || no_answer numbers len
 
 abbrev pub refusal_number : Refusal → ℤ
-refusal_number r = pos (r.number + place_weight * r.place)
+refusal_number r = pos (number_of r.rule + place_weight * r.place)
 
 -- ---- an answer of one number
 
-abbrev pub single_number : Single → ℤ
-single_number (single.Said n) = pos 0
-single_number (single.Refused r) = refusal_number r
+abbrev pub single_number : Result ℕ Refusal → ℤ
+single_number (Ok n) = pos 0
+single_number (Err r) = refusal_number r
 
 -- what the lent answer holds after a call: a refused one writes nothing
-abbrev pub single_numbers : Single → (answer : List ℤ) → List ℤ
-single_numbers (single.Said n) answer = pos n ∷ []
-single_numbers (single.Refused r) answer = answer
+abbrev pub single_numbers : Result ℕ Refusal → (answer : List ℤ) → List ℤ
+single_numbers (Ok n) answer = pos n ∷ []
+single_numbers (Err r) answer = answer
 
 -- ---- a page
 
-abbrev pub page_number : Page → ℤ
-page_number (Turned t) = pos 0
-page_number (Refused r) = refusal_number r
+abbrev pub page_number : Result Turn Refusal → ℤ
+page_number (Ok t) = pos 0
+page_number (Err r) = refusal_number r
 
 -- written, next column, next shift, finished (0 or 1), looks
 abbrev pub turn_numbers : Turn → List ℤ
 turn_numbers t = pos t.written ∷ pos t.next.column.0 ∷ t.next.shift ∷ pos (cond t.finished 1 0) ∷ pos t.looks ∷ []
 
 -- and the same of a page
-abbrev pub page_numbers : Page → (answer : List ℤ) → List ℤ
-page_numbers (Turned t) answer = turn_numbers t
-page_numbers (Refused r) answer = answer
+abbrev pub page_numbers : Result Turn Refusal → (answer : List ℤ) → List ℤ
+page_numbers (Ok t) answer = turn_numbers t
+page_numbers (Err r) answer = answer

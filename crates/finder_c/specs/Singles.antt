@@ -1,33 +1,20 @@
--- Answers of one number: what a preparation, the question, an update and a route say, each as a `Single`. A refusal stays what it is.
--- Assumes nothing.
-use Rattle.preparing.specs.declared.sets.Preparation.{Preparation}
-use Rattle.preparing.specs.declared.sets.Preparation.TheVariants as preparation
-use Rattle.updating.specs.declared.changes.Change.{Change}
-use Rattle.updating.specs.declared.changes.Change.TheVariants as change
-use Rattle.occurring.specs.declared.question.Occurrence.{Occurrence}
-use Rattle.occurring.specs.declared.question.Occurrence.TheVariants as occurrence
-use Rattle.routing.specs.declared.answer.Routed.{Routed}
-use Rattle.routing.specs.declared.answer.Routed.TheVariants as routed
-use Rattle.finder_c.specs.declared.single.Single.{Single}
-use Rattle.finder_c.specs.declared.single.Single.TheVariants.{Said, Refused}
+-- Answers of one number: what a preparation, the question, an update and a route say. A refusal stays what it is. Assumes nothing.
+use Rattle.std.specs.Prelude.{Bool, true, false, ℕ, Result, Ok, Err}
+use Rattle.score.specs.declared.refusals.Refusal.{Refusal}
+use Rattle.summing.specs.declared.summary.Summary.{Summary}
 
--- the summary of the sets
-abbrev pub of_preparation : Preparation → Single
-of_preparation (preparation.Prepared s) = Said s.0
-of_preparation (preparation.Refused r) = Refused r
+-- the summary of the sets, as they are prepared, or as they are after an update
+abbrev pub of_summary : Result Summary Refusal → Result ℕ Refusal
+of_summary (Ok s) = Ok s.0
+of_summary (Err r) = Err r
 
 -- 1 for yes, 0 for no
-abbrev pub of_occurrence : Occurrence → Single
-of_occurrence occurrence.Somewhere = Said 1
-of_occurrence occurrence.Nowhere = Said 0
-of_occurrence (occurrence.Refused r) = Refused r
-
--- the summary of the sets as they then are
-abbrev pub of_change : Change → Single
-of_change (change.Updated s) = Said s.0
-of_change (change.Refused r) = Refused r
+abbrev pub of_occurrence : Result Bool Refusal → Result ℕ Refusal
+of_occurrence (Ok true) = Ok 1
+of_occurrence (Ok false) = Ok 0
+of_occurrence (Err r) = Err r
 
 -- the changes of the route
-abbrev pub of_routed : Routed → Single
-of_routed (routed.Changes n) = Said n
-of_routed (routed.Refused r) = Refused r
+abbrev pub of_routed : Result ℕ Refusal → Result ℕ Refusal
+of_routed (Ok n) = Ok n
+of_routed (Err r) = Err r

@@ -6,7 +6,7 @@ ghost use Rattle.finder_c.specs.Calls.{CPrepares, CUpdates, COccurs, CPlainPages
 
 use crate::limits::{ANSWER_NUMBERS, EXPLAIN_NUMBERS, NOT_CALLED, OCTAVE, ONE_NUMBER, WRITTEN};
 use crate::reasons::told_explanation;
-use crate::single::{of_change, of_occurrence, of_preparation, of_routed};
+use crate::single::{of_occurrence, of_routed, of_summary};
 use crate::told::{any_way_of, no_answer, no_call, told_page, told_single, way_of};
 use explaining::explain;
 use occurring::occurs;
@@ -32,7 +32,7 @@ pub extern "C" fn finder_prepare(
         return NOT_CALLED;
     }
     let p = prepare(cells, tracks, sets);
-    told_single(of_preparation(p), answer)
+    told_single(of_summary(p), answer)
 }
 
 // Brings the sets up to date after `column` of the score was changed: 0, and their summary in `answer`. Otherwise the refusal, 1,
@@ -51,7 +51,7 @@ pub extern "C" fn finder_update(
         return NOT_CALLED;
     }
     let c = update(cells, tracks, Column(column), sets);
-    told_single(of_change(c), answer)
+    told_single(of_summary(c), answer)
 }
 
 // Whether the theme stands anywhere, in exact or octave, with the prepared sets of the score and their summary: 0, and 1 or 0 for
@@ -182,9 +182,9 @@ pub extern "C" fn finder_explain(
     told_explanation(e, answer)
 }
 
-// The route of the pair (column, shift), in exact, octave or written: 0, the number of its changes in `answer`, and over the front
-// of `places`, which the header calls `route`, a track from 1 for each note; the places behind keep what they hold. Otherwise the
-// refusal, 1 to 5, 13 or 14, as number + 256 * place; or 255 where `way` is above 2 or `answer` is not 1 long.
+// The route of the pair (column, shift), in exact, octave or written: 0, the number of its changes in `answer`, and over the
+// front of `places`, which the header calls `route`, a track from 1 for each note; the places behind keep what they hold.
+// Otherwise the refusal, 1 to 5, 13 or 14, as number + 256 * place; or 255 where `way` is above 2 or `answer` is not 1 long.
 #[unsafe(no_mangle)]
 pub extern "C" fn finder_route(
     cells: &[u8],

@@ -2,58 +2,28 @@
 // Each is the number that an accepted call says, or a refusal, and so one function tells them all.
 
 ghost use Rattle.std.specs.Prelude.{◌≡◌};
-ghost use Rattle.finder_c.specs.Singles.{of_preparation, of_occurrence, of_change, of_routed};
+ghost use Rattle.finder_c.specs.Singles.{of_summary, of_occurrence, of_routed};
 
-use occurring::Occurrence;
-use preparing::Preparation;
-use routing::Routed;
 use score::Refusal;
-use updating::Change;
+use summing::Summary;
 
-// The number that an accepted call says, or a refusal.
-#[derive(Clone, Copy)]
-pub enum Single {
-    Said(u16),
-    Refused(Refusal),
-}
-
-// A preparation says its summary.
-pub fn of_preparation(p: Preparation) -> Single
-    ensures { result ≡ of_preparation p }
+// A preparation says its summary, and an update that of the sets as they then are.
+pub fn of_summary(s: Result<Summary, Refusal>) -> Result<u16, Refusal>
+    ensures { result ≡ of_summary s }
 {
-    match p {
-        Preparation::Prepared(s) => Single::Said(s.0),
-        Preparation::Refused(e) => Single::Refused(e),
-    }
+    s.map(|s| s.0)
 }
 
 // The question says 1 for yes and 0 for no.
-pub fn of_occurrence(o: Occurrence) -> Single
+pub fn of_occurrence(o: Result<bool, Refusal>) -> Result<u16, Refusal>
     ensures { result ≡ of_occurrence o }
 {
-    match o {
-        Occurrence::Somewhere => Single::Said(1),
-        Occurrence::Nowhere => Single::Said(0),
-        Occurrence::Refused(e) => Single::Refused(e),
-    }
-}
-
-// An update says the summary of the sets as they then are.
-pub fn of_change(c: Change) -> Single
-    ensures { result ≡ of_change c }
-{
-    match c {
-        Change::Updated(s) => Single::Said(s.0),
-        Change::Refused(e) => Single::Refused(e),
-    }
+    o.map(|yes| if yes { 1 } else { 0 })
 }
 
 // A route says how often its track changes.
-pub fn of_routed(a: Routed) -> Single
+pub fn of_routed(a: Result<u8, Refusal>) -> Result<u16, Refusal>
     ensures { result ≡ of_routed a }
 {
-    match a {
-        Routed::Changes(n) => Single::Said(n as u16),
-        Routed::Refused(e) => Single::Refused(e),
-    }
+    a.map(u16::from)
 }

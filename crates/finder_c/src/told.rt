@@ -7,9 +7,8 @@ ghost use Rattle.finder_c.specs.Numbers.{single_number, single_numbers, page_num
 ghost use Rattle.finder_c.specs.Small.{SmallPlace, SmallSingle, SmallPage, SmallTurn};
 
 use crate::limits::{PLACE_WEIGHT, WRITTEN};
-use crate::single::Single;
 use score::Refusal;
-use search::{AnyWay, Page, Turn, Way};
+use search::{AnyWay, Turn, Way};
 
 // The way of a number that is one: 0 exact, 1 octave.
 pub fn way_of(way: u8) -> Way
@@ -23,9 +22,10 @@ pub fn any_way_of(way: u8) -> AnyWay
     ensures { result ≡ any_way_of way }
 {
     if way < WRITTEN {
-        return AnyWay::Moved(way_of(way));
+        AnyWay::Moved(way_of(way))
+    } else {
+        AnyWay::Written
     }
-    AnyWay::Written
 }
 
 // Whether the answer has not as many places as a call writes numbers.
@@ -39,7 +39,7 @@ pub fn no_answer(numbers: usize, len: usize) -> bool
 pub fn no_call(highest: u8, way: u8, numbers: usize, len: usize) -> bool
     ensures { result ≡ no_call highest way numbers len }
 {
-    (highest < way) | no_answer(numbers, len)
+    highest < way || no_answer(numbers, len)
 }
 
 // A refusal's number + 256 * its place.
@@ -47,19 +47,19 @@ pub fn refusal_number(e: Refusal) -> i64
     requires { SmallPlace e }
     ensures { result ≡ refusal_number e }
 {
-    (e.number as usize + PLACE_WEIGHT * e.place) as i64
+    (e.rule.number() as usize + PLACE_WEIGHT * e.place) as i64
 }
 
 // The result of a call that says one number, with that number written; a refused call writes nothing.
-pub fn told_single(s: Single, answer: &mut [i64]) -> i64
+pub fn told_single(s: Result<u16, Refusal>, answer: &mut [i64]) -> i64
     requires small_single { SmallSingle s }
     requires answer_len { length answer.old ≡ one_number }
     ensures value { result ≡ single_number s }
     ensures answer_after { answer.new ≡ single_numbers s answer.old }
 {
     match s {
-        Single::Refused(e) => refusal_number(e),
-        Single::Said(n) => {
+        Err(e) => refusal_number(e),
+        Ok(n) => {
             answer[0] = n as i64;
             0
         }
@@ -71,11 +71,7 @@ pub fn put_five(answer: &mut [i64], a: i64, b: i64, c: i64, d: i64, e: i64)
     requires { length answer.old ≡ answer_numbers }
     ensures { answer.new ≡ a ∷ b ∷ c ∷ d ∷ e ∷ [] }
 {
-    answer[0] = a;
-    answer[1] = b;
-    answer[2] = c;
-    answer[3] = d;
-    answer[4] = e;
+    answer.copy_from_slice(&[a, b, c, d, e]);
 }
 
 // A shift as a number of 64 bits.
@@ -106,15 +102,15 @@ fn write_turn(t: Turn, answer: &mut [i64])
 }
 
 // The result of a page call, with the five numbers of a page written; a refused call writes nothing.
-pub fn told_page(p: Page, answer: &mut [i64]) -> i64
+pub fn told_page(p: Result<Turn, Refusal>, answer: &mut [i64]) -> i64
     requires small_page { SmallPage p }
     requires answer_len { length answer.old ≡ answer_numbers }
     ensures value { result ≡ page_number p }
     ensures answer_after { answer.new ≡ page_numbers p answer.old }
 {
     match p {
-        Page::Refused(e) => refusal_number(e),
-        Page::Turned(t) => {
+        Err(e) => refusal_number(e),
+        Ok(t) => {
             write_turn(t, answer);
             0
         }

@@ -6,90 +6,45 @@
 ghost use Rattle.std.specs.Prelude.{◌<◌};
 
 use crate::gaps::notes_of;
-use jobs::changes::{Change, What, at, none};
-use jobs::job::{Head, Job, Source};
-use jobs::shapes::{ask_of, room_of, way_of};
+use jobs::changes::{Change, What, at};
+use jobs::job::{Job, Source};
+use jobs::shapes::{ask_of, pages_in, room_of, way_of};
 use second::asks::Call;
 use second::totals::more;
-use second::ways::{Way, counted, lowest, shift_at, span};
+use second::ways::{Way, lowest, shift_at, span};
 
 // The themes, among the twelve over 12 and 127: 127 twice and three times, and the same with 12 as the last note.
-fn theme_at(k: usize) -> usize {
-    match k {
-        0 => 3,
-        1 => 1,
-        2 => 7,
-        _ => 11,
-    }
-}
+const THEMES: [usize; 4] = [3, 1, 7, 11];
 
-// Of the 2,728 scores with their sets the first 8 have two columns, then come those of three, four, five and six.
-fn columns_in(w: usize) -> usize {
-    match w {
-        0..=7 => 2,
-        8..=39 => 3,
-        40..=167 => 4,
-        168..=679 => 5,
-        _ => 6,
-    }
-}
-
-// The number of a score and its sets among those of its size: the score has a bit for each column, the sets one for each set.
-fn number_of(w: usize) -> usize {
-    match w {
-        0..=7 => w,
-        8..=39 => w - 8,
-        40..=167 => w - 40,
-        168..=679 => w - 168,
-        _ => rest_of(w, 680),
-    }
-}
-
-fn rest_of(w: usize, n: usize) -> usize {
-    if n <= w { w - n } else { 0 }
-}
-
-// How many scores of so many columns there are.
-fn scores_of(n: usize) -> usize
-    ensures { 0 < result }
+// The columns of score w, how many scores of so many columns there are, and its number among those of its size with their sets:
+// the score has a bit for each column, the sets one for each set. Of the 2,728 scores with their sets the first 8 have two
+// columns, then come those of three, four, five and six.
+fn sized(w: usize) -> (usize, usize, usize)
+    ensures { 0 < result.1 }
 {
-    match n {
-        2 => 4,
-        3 => 8,
-        4 => 16,
-        5 => 32,
-        _ => 64,
+    match w {
+        0..=7 => (2, 4, w),
+        8..=39 => (3, 8, w - 8),
+        40..=167 => (4, 16, w - 40),
+        168..=679 => (5, 32, w - 168),
+        _ => (6, 64, w.saturating_sub(680)),
     }
 }
 
 // A quick list by sets of 0 and 4095: each score, with each choice of them, and four themes, in exact and octave.
 pub fn lent_job(k: usize) -> Job {
     let w = k / 8;
-    let n = columns_in(w);
-    let scores = scores_of(n);
-    let x = number_of(w) % scores;
-    let theme = theme_at(k / 2 % 4);
+    let (n, scores, x) = sized(w);
+    let theme = THEMES[k / 2 % 4];
     let a = ask_of(1, n, notes_of(theme), way_of(k % 2), room_of(more(w, k)));
     Job {
-        tried: true,
-        source: Source::Beats,
-        sets_of: x,
-        score: x,
-        theme,
-        a,
-        c: Change {
+        c: Some(Change {
             what: What::EachSet,
             place: 0,
-            value: (number_of(w) / scores % 65536) as u16,
-        },
-        d: none(),
-        call: Call::Quick,
+            value: (x / scores % 65536) as u16,
+        }),
         whole: true,
-        deep: false,
-        loud: false,
-        head: Head::Quiet,
-        low: 0,
-        high: 0,
+        ..Job::quiet(Source::Beats, x % scores, theme, a, Call::Quick)
     }
 }
 
@@ -106,62 +61,25 @@ fn shift_of(way: Way, s: usize) -> i16 {
 // shifts, in all ways.
 pub fn mark_job(k: usize) -> Job {
     let x = k / 252;
-    let theme = theme_at(k / 63 % 4);
+    let theme = THEMES[k / 63 % 4];
     let column = (k / 9 % 7) as u16;
     let way = way_of(k % 3);
     let a = ask_of(1, 6, notes_of(theme), way, room_of(more(x, k / 9)));
-    let c = none();
-    Job {
-        tried: true,
-        source: Source::Beats,
-        sets_of: x,
-        score: x,
-        theme,
-        a: at(a, 1 + column, shift_of(way, k / 3 % 3)),
-        c,
-        d: c,
-        call: call_in(way),
-        whole: false,
-        deep: false,
-        loud: false,
-        head: Head::Quiet,
-        low: 0,
-        high: 0,
-    }
+    let marked = at(a, 1 + column, shift_of(way, k / 3 % 3));
+    Job::quiet(Source::Beats, x, theme, marked, pages_in(way))
 }
 
 // A quick page with a number over 4095 for one set: each score of six columns, each place, and both ends of those numbers.
 pub fn wrong_set_job(k: usize) -> Job {
-    let x = k / 10;
-    let theme = theme_at(0);
+    let theme = THEMES[0];
     let a = ask_of(1, 6, notes_of(theme), Way::Exact, room_of(k));
     Job {
-        tried: true,
-        source: Source::Beats,
-        sets_of: x,
-        score: x,
-        theme,
-        a,
-        c: Change {
+        c: Some(Change {
             what: What::Set,
             place: k / 2 % 5,
             value: if k % 2 == 0 { 4096 } else { 65535 },
-        },
-        d: none(),
-        call: Call::Quick,
-        whole: false,
+        }),
         deep: true,
-        loud: false,
-        head: Head::Quiet,
-        low: 0,
-        high: 0,
-    }
-}
-
-fn call_in(way: Way) -> Call {
-    if counted(way) {
-        Call::Both
-    } else {
-        Call::Plain
+        ..Job::quiet(Source::Beats, k / 10, theme, a, Call::Quick)
     }
 }

@@ -3,8 +3,9 @@
 
 use crate::drawing::{draw, fill, note_of, start_in};
 use second::asks::{Ask, columns_of};
-use second::finder::{heard_columns, next_heard, starts_among};
-use second::totals::{byte, more, put_byte};
+use second::finder::starts_among;
+use second::score::score_of;
+use second::totals::more;
 
 // Whether a column is emptied, by the number of the score.
 fn emptied(round: usize, column: usize) -> bool {
@@ -16,41 +17,28 @@ fn emptied(round: usize, column: usize) -> bool {
     }
 }
 
-// A cell after that: a rest, or what it was.
-fn left_in(round: usize, column: usize, x: u8) -> u8 {
-    if emptied(round, column) { 255 } else { x }
-}
-
 pub fn fill_sparse(cells: &mut [u8], many: usize, h: usize, round: usize) {
     fill(cells, many, round);
-    for i in 0..many {
-        let x = byte(cells, i);
-        put_byte(cells, i, left_in(round, columns_of(i, h), x));
+    for (i, cell) in cells.iter_mut().enumerate().take(many) {
+        if emptied(round, columns_of(i, h)) {
+            *cell = 255;
+        }
     }
-}
-
-// The k-th column with a pitch, from 1; one behind the last of n where there are fewer.
-fn nth_heard(cells: &[u8], h: usize, n: usize, k: usize) -> usize {
-    let mut j: usize = 0;
-    for i in 0..k {
-        j = next_heard(cells, h, n, j);
-    }
-    j
 }
 
 // A column with a pitch, at which the theme has room where it has any.
 fn column_in(cells: &[u8], a: Ask, round: usize) -> usize {
-    let n = columns_of(a.cells, a.h);
-    let starts = starts_among(heard_columns(cells, a.h, n), a.notes);
-    nth_heard(cells, a.h, n, start_in(starts, round))
+    let score = score_of(cells, a);
+    let starts = starts_among(score.heard_from(1), a.notes);
+    score.onward(0, start_in(starts, round))
 }
 
 // A round's theme, from a column on: each note about the next column with a pitch.
 pub fn fill_sparse_theme(cells: &[u8], theme: &mut [u8], a: Ask, round: usize) {
-    let n = columns_of(a.cells, a.h);
+    let score = score_of(cells, a);
     let mut j = column_in(cells, a, round);
-    for i in 0..a.notes {
-        put_byte(theme, i, note_of(cells, a.h, j, a.notes, round, i));
-        j = next_heard(cells, a.h, n, j);
+    for (i, note) in theme.iter_mut().enumerate().take(a.notes) {
+        *note = note_of(cells, a, j, round, i);
+        j = score.next_heard(j);
     }
 }

@@ -3,26 +3,40 @@
 
 ghost use Rattle.std.specs.Prelude.{◌<◌};
 
-use jobs::changes::{at, none};
-use jobs::job::{Head, Job, Source};
-use jobs::shapes::{ask_of, room_of, way_of};
-use second::asks::{Ask, Call};
-use second::totals::{less_one, more, product, put_byte};
+use jobs::buffers::fill_by;
+use jobs::changes::at;
+use jobs::job::{Job, Source};
+use jobs::shapes::{ask_of, pages_in, room_of, way_of};
+use second::asks::Ask;
+use second::totals::{less_one, more, product};
 use second::ways::{lowest, shift_at, span};
 
-// There is at least one track.
-fn tracks_of(e: usize) -> usize
+// One track or the most, by turns.
+pub fn tracks_by(k: usize) -> usize
     ensures { 0 < result }
 {
-    if e / 2 % 2 == 0 { 1 } else { 16 }
+    if k % 2 == 0 { 1 } else { 16 }
 }
 
-fn notes_of(e: usize) -> usize {
-    match e / 4 % 3 {
+// The fewest notes or about the most, by turns.
+pub fn notes_by(k: usize) -> usize
+    ensures { 0 < result }
+{
+    match k % 3 {
         0 => 2,
         1 => 31,
         _ => 32,
     }
+}
+
+fn tracks_of(e: usize) -> usize
+    ensures { 0 < result }
+{
+    tracks_by(e / 2)
+}
+
+fn notes_of(e: usize) -> usize {
+    notes_by(e / 4)
 }
 
 // How far each note is behind the one before: the empty columns between them, and one.
@@ -67,46 +81,37 @@ fn spread_note(i: usize) -> u8 {
 }
 
 // The same as it stands in the score: of the spoilt ones the last is too high. Behind the theme there are rests.
+// That of `cases::edges` has no rests behind and other notes: one for both would take all it says from its callers.
 fn standing_note(e: usize, i: usize) -> u8 {
-    if notes_of(e) <= i {
+    let m = notes_of(e);
+    if m <= i {
         return 255;
     }
-    if e % 2 == 1 {
-        if more(i, 1) == notes_of(e) {
-            return spread_note(more(i, 1));
-        }
-    }
-    spread_note(i)
+    let spoilt = e % 2 == 1 && more(i, 1) == m;
+    spread_note(if spoilt { more(i, 1) } else { i })
 }
 
 // The cell of a column and a track, both from 0.
 fn cell_at(e: usize, column: usize, track: usize) -> u8 {
-    let first = before(e);
-    if column < first {
+    let Some(after) = column.checked_sub(before(e)) else {
         return 255;
-    }
+    };
     let stride = stride_of(e);
-    let i = (column - first) / stride;
-    if (column - first) % stride != 0 {
-        return 255;
+    let i = after / stride;
+    if after % stride == 0 && i % tracks_of(e) == track {
+        standing_note(e, i)
+    } else {
+        255
     }
-    if i % tracks_of(e) == track {
-        return standing_note(e, i);
-    }
-    255
 }
 
 pub fn fill_spread(cells: &mut [u8], many: usize, e: usize) {
     let h = tracks_of(e);
-    for i in 0..many {
-        put_byte(cells, i, cell_at(e, i / h, i % h));
-    }
+    fill_by(cells, many, |i| cell_at(e, i / h, i % h));
 }
 
 pub fn fill_spread_theme(theme: &mut [u8]) {
-    for i in 0..32 {
-        put_byte(theme, i, spread_note(i));
-    }
+    fill_by(theme, 32, spread_note);
 }
 
 // From the p-th bookmark: the first; the theme's first column, from its lowest shift and from one above its highest; the column
@@ -124,45 +129,18 @@ fn from_mark(a: Ask, p: usize, e: usize) -> Ask {
     }
 }
 
-// Where the theme stands in the first column there is none before it.
-fn tried_at(p: usize, e: usize) -> bool {
-    if p == 3 {
-        return 0 < before(e);
-    }
-    true
-}
-
-// Each of 324 scores in all ways: the whole list, and a page from each other bookmark.
-pub fn spread_job(k: usize) -> Job {
+// Each of 324 scores in all ways: the whole list, and a page from each other bookmark. Where the theme stands in the first column
+// there is none before it.
+pub fn spread_job(k: usize) -> Option<Job> {
     let e = k / 15;
     let p = k / 3 % 5;
-    let a = ask_of(
-        tracks_of(e),
-        columns_in(e),
-        notes_of(e),
-        way_of(k % 3),
-        room_of(e),
-    );
-    let c = none();
-    Job {
-        tried: tried_at(p, e),
-        source: Source::Spread,
-        sets_of: e,
-        score: e,
-        theme: e,
-        a: from_mark(a, p, e),
-        c,
-        d: c,
-        call: call_in(k % 3),
-        whole: p == 0,
-        deep: false,
-        loud: false,
-        head: Head::Quiet,
-        low: 0,
-        high: 0,
+    if p == 3 && before(e) == 0 {
+        return None;
     }
-}
-
-fn call_in(way: usize) -> Call {
-    if way == 2 { Call::Plain } else { Call::Both }
+    let way = way_of(k % 3);
+    let a = ask_of(tracks_of(e), columns_in(e), notes_of(e), way, room_of(e));
+    Some(Job {
+        whole: p == 0,
+        ..Job::quiet(Source::Spread, e, e, from_mark(a, p, e), pages_in(way))
+    })
 }

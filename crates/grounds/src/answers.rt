@@ -1,86 +1,70 @@
 // An explanation as plain numbers, the tracks aside.
 
+ghost use Rattle.std.specs.Prelude.{◌≡◌};
+ghost use Rattle.grounds.specs.Notes.{note_of};
+
 use second::away::Away;
+use std::fmt;
 
-// The reasons by their numbers; the first that holds is given. The last is that of a call that is refused.
-pub const LISTED: u8 = 0;
-
-pub const NO_SHIFT: u8 = 1;
-
-pub const NO_COLUMN: u8 = 2;
-
-pub const TOO_FEW: u8 = 3;
-
-pub const EMPTY: u8 = 4;
-
-pub const OUTSIDE: u8 = 5;
-
-pub const ABSENT: u8 = 6;
-
-pub const REFUSED: u8 = 7;
-
-// A reason, and the note that fails; 0 where the reason names none.
-#[derive(Clone, Copy)]
-pub struct Why {
-    pub reason: u8,
-    pub note: usize,
+// Why a pair is listed or not, with the note that fails where the reason names one; the first that holds is given.
+#[derive(Clone, Copy, PartialEq, Eq)]
+pub enum Why {
+    Listed,
+    NoShift,
+    NoColumn,
+    TooFew,
+    Empty,
+    Outside(usize),
+    Absent(usize),
 }
 
-// A reason that names no note.
-pub fn bare(reason: u8) -> Why {
-    Why { reason, note: 0 }
-}
-
-// What the sets make of a column.
-pub const UNASKED: u8 = 0;
-
-pub const KEPT: u8 = 1;
-
-pub const DISMISSED: u8 = 2;
-
-// The same with the interval of the theme by which they dismiss it, its number and its size; 0 and 0 where they do not.
-#[derive(Clone, Copy)]
-pub struct Screened {
-    pub verdict: u8,
-    pub interval: usize,
-    pub size: u8,
-}
-
-// A verdict that names no interval.
-pub fn unnamed(verdict: u8) -> Screened {
-    Screened {
-        verdict,
-        interval: 0,
-        size: 0,
+impl Why {
+    // The note that fails, where the reason names one.
+    pub fn note(self) -> Option<usize>
+        ensures { result ≡ note_of self }
+    {
+        match self {
+            Why::Outside(note) | Why::Absent(note) => Some(note),
+            _ => None,
+        }
     }
 }
 
-// An answer: the refusal's number and place, 0 and 0 where there is none; the reason and its note; and what the sets make of the
-// column, with the interval.
-#[derive(Clone, Copy)]
+impl fmt::Display for Why {
+    fn fmt<W: fmt::Write>(&self, f: &mut fmt::Formatter<W>) -> fmt::Result {
+        f.write_str(match self {
+            Why::Listed => "listed",
+            Why::NoShift => "no-shift",
+            Why::NoColumn => "column-0",
+            Why::TooFew => "too-few",
+            Why::Empty => "empty",
+            Why::Outside(_) => "outside",
+            Why::Absent(_) => "absent",
+        })
+    }
+}
+
+// What the sets make of a column, with the interval of the theme by which they dismiss it, its number and its size.
+#[derive(Clone, Copy, PartialEq, Eq)]
+pub enum Screened {
+    Unasked,
+    Kept,
+    Dismissed { interval: usize, size: u8 },
+}
+
+impl fmt::Display for Screened {
+    fn fmt<W: fmt::Write>(&self, f: &mut fmt::Formatter<W>) -> fmt::Result {
+        f.write_str(match self {
+            Screened::Unasked => "unasked",
+            Screened::Kept => "kept",
+            Screened::Dismissed { .. } => "dismissed",
+        })
+    }
+}
+
+// An answer: the reason, or what is turned away, and what the sets make of the column.
+#[derive(Clone, Copy, PartialEq, Eq)]
 pub struct Answer {
-    pub number: u8,
-    pub place: usize,
-    pub reason: u8,
-    pub note: usize,
-    pub verdict: u8,
-    pub interval: usize,
-    pub size: u8,
-}
-
-pub fn joined(away: Away, why: Why, screened: Screened) -> Answer {
-    Answer {
-        number: away.number,
-        place: away.place,
-        reason: why.reason,
-        note: why.note,
-        verdict: screened.verdict,
-        interval: screened.interval,
-        size: screened.size,
-    }
-}
-
-// A refusal has no more to say.
-pub fn turned_away(away: Away) -> Answer {
-    joined(away, bare(REFUSED), unnamed(UNASKED))
+    pub why: Result<Why, Away>,
+    pub screened: Screened,
 }

@@ -1,42 +1,27 @@
 // The pair's column by itself, and the columns in which the notes of a theme are sought from there on.
 
-use crate::answers::{EMPTY, LISTED, NO_COLUMN, TOO_FEW};
-use second::asks::{Ask, columns_of};
-use second::finder::{heard, next_heard};
-use second::totals::{more, size16};
+use crate::answers::Why;
+use second::asks::Ask;
+use second::score::score_of;
+use second::totals::less_one;
 
-// How many of n columns hold a pitch, from column j on.
-fn heard_from(cells: &[u8], h: usize, n: usize, j: usize) -> usize {
-    let mut q: usize = 0;
-    for k in j..more(n, 1) {
-        if heard(cells, h, k) {
-            q = more(q, 1);
-        }
-    }
-    q
-}
-
-// What speaks against the column, LISTED where nothing does. Behind the last column there are none to count.
-pub fn against_column(cells: &[u8], a: Ask) -> u8 {
-    let j = size16(a.column);
+// What speaks against the column. Behind the last column there are none to count.
+pub fn against_column(cells: &[u8], a: Ask) -> Option<Why> {
+    let score = score_of(cells, a);
+    let j = usize::from(a.column);
     if j == 0 {
-        return NO_COLUMN;
+        return Some(Why::NoColumn);
     }
-    if heard_from(cells, a.h, columns_of(a.cells, a.h), j) < a.notes {
-        return TOO_FEW;
+    if score.heard_from(j) < a.notes {
+        return Some(Why::TooFew);
     }
-    if !heard(cells, a.h, j) {
-        return EMPTY;
+    if !score.heard(j) {
+        return Some(Why::Empty);
     }
-    LISTED
+    None
 }
 
-// The column of note i: the pair's own, and for each further note the next one with a pitch.
+// The column of note i, from 1: the pair's own, and for each further note the next one with a pitch.
 pub fn column_of(cells: &[u8], a: Ask, i: usize) -> usize {
-    let n = columns_of(a.cells, a.h);
-    let mut k = size16(a.column);
-    for step in 1..i {
-        k = next_heard(cells, a.h, n, k);
-    }
-    k
+    score_of(cells, a).onward(usize::from(a.column), less_one(i))
 }

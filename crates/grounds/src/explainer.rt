@@ -1,82 +1,53 @@
 // The second explainer's answer. The pair is the column and the shift of what is asked.
 
-use crate::answers::{
-    Answer, LISTED, NO_SHIFT, Screened, UNASKED, Why, bare, joined, turned_away, unnamed,
-};
+use crate::answers::{Answer, Screened, Why};
 use crate::columns::against_column;
 use crate::intervals::by_intervals;
-use crate::notes::by_notes;
-use second::asks::{Ask, columns_of};
+use crate::notes::against_notes;
+use second::asks::{Ask, Case};
 use second::away::{Away, of_length, of_score, of_sets, of_theme};
-use second::ways::Way;
-
-// Rows 6 and 7.
-fn of_lent(sets: &[u16], a: Ask) -> Away {
-    let length = of_length(columns_of(a.cells, a.h), a.sets);
-    if length.number != 0 {
-        return length;
-    }
-    of_sets(sets, a.sets)
-}
+use second::ways::has_shift;
 
 // What an explanation is to be turned away with: 1 to 7.
-fn refusal(cells: &[u8], theme: &[u8], sets: &[u16], a: Ask) -> Away {
-    let score = of_score(cells, a.cells, a.h);
-    if score.number != 0 {
-        return score;
-    }
-    let notes = of_theme(theme, a.notes);
-    if notes.number != 0 {
-        return notes;
-    }
-    of_lent(sets, a)
+fn refusal(case: Case<'_>, a: Ask) -> Result<(), Away> {
+    of_score(case.cells, a.cells, a.h)?;
+    of_theme(case.theme, a.notes)?;
+    of_length(a)?;
+    of_sets(case.sets, a.sets)
 }
 
-fn between(c: i16, low: i16, high: i16) -> bool {
-    if c < low {
-        return false;
+// Why the pair is listed or not, by what speaks against the column: the shift comes first, then the column, then the notes.
+fn reason_for(case: Case<'_>, a: Ask, column: Option<Why>) -> Why {
+    if !has_shift(a.way, a.shift) {
+        return Why::NoShift;
     }
-    c <= high
-}
-
-// Whether a shift is one of the way's.
-fn has_shift(way: Way, c: i16) -> bool {
-    match way {
-        Way::Exact => between(c, -127, 127),
-        Way::Octave => between(c, 0, 11),
-        Way::Written => c == 0,
+    match column {
+        Some(why) => why,
+        None => against_notes(case.cells, case.theme, a).unwrap_or(Why::Listed),
     }
-}
-
-// Why the pair is listed or not: the shift comes first, then the column, then the notes.
-fn reason_for(cells: &[u8], theme: &[u8], a: Ask) -> Why {
-    let way = a.way;
-    if !has_shift(way, a.shift) {
-        return bare(NO_SHIFT);
-    }
-    let column = against_column(cells, a);
-    if column != LISTED {
-        return bare(column);
-    }
-    by_notes(cells, theme, a)
 }
 
 // What the lent sets make of the pair's column. The shift plays no part.
-fn screen(cells: &[u8], theme: &[u8], sets: &[u16], a: Ask) -> Screened {
-    if against_column(cells, a) != LISTED {
-        return unnamed(UNASKED);
+fn screen(case: Case<'_>, a: Ask, column: Option<Why>) -> Screened {
+    if column.is_some() {
+        Screened::Unasked
+    } else {
+        by_intervals(case, a)
     }
-    by_intervals(cells, theme, sets, a)
 }
 
-pub fn second_explanation(cells: &[u8], theme: &[u8], sets: &[u16], a: Ask) -> Answer {
-    let away = refusal(cells, theme, sets, a);
-    if away.number != 0 {
-        return turned_away(away);
+pub fn second_explanation(case: Case<'_>, a: Ask) -> Answer {
+    match refusal(case, a) {
+        Err(away) => Answer {
+            why: Err(away),
+            screened: Screened::Unasked,
+        },
+        Ok(()) => {
+            let column = against_column(case.cells, a);
+            Answer {
+                why: Ok(reason_for(case, a, column)),
+                screened: screen(case, a, column),
+            }
+        }
     }
-    joined(
-        away,
-        reason_for(cells, theme, a),
-        screen(cells, theme, sets, a),
-    )
 }

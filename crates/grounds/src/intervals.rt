@@ -1,22 +1,25 @@
 // The intervals of a theme beside the lent sets.
 
-use crate::answers::{DISMISSED, KEPT, Screened, unnamed};
+use crate::answers::Screened;
 use crate::columns::column_of;
-use second::asks::Ask;
+use second::asks::{Ask, Case};
 use second::finder::{bit, interval};
-use second::totals::{byte, less_one, set};
+use second::totals::{get_or, less_one, more};
 
 // Each interval beside the set of the column in which it begins: the first whose bit is 1 is not there.
-pub fn by_intervals(cells: &[u8], theme: &[u8], sets: &[u16], a: Ask) -> Screened {
-    for i in 1..a.notes {
-        let d = interval(byte(theme, less_one(i)), byte(theme, i));
-        if bit(set(sets, less_one(column_of(cells, a, i))), d) {
-            return Screened {
-                verdict: DISMISSED,
-                interval: i,
-                size: d,
+pub fn by_intervals(case: Case<'_>, a: Ask) -> Screened {
+    let theme = case.theme;
+    let steps = theme.iter().zip(theme.iter().skip(1));
+    for (before, (&x, &y)) in steps.take(less_one(a.notes)).enumerate() {
+        let number = more(before, 1);
+        let size = interval(x, y);
+        let set = get_or(case.sets, less_one(column_of(case.cells, a, number)), 0);
+        if bit(usize::from(set), size) {
+            return Screened::Dismissed {
+                interval: number,
+                size,
             };
         }
     }
-    unnamed(KEPT)
+    Screened::Kept
 }

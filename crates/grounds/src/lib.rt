@@ -3,7 +3,8 @@
 //
 // `answers` are explanations as plain numbers. `columns` looks at the pair's column by itself, and says in which column each note
 // is sought; `notes` goes through the notes and `intervals` through the lent sets; `explainer` puts them together, behind what is
-// turned away. Columns, notes, intervals and tracks count from 1. The functions promise only to be safe and to end, on purpose.
+// turned away. Columns, notes, intervals and tracks count from 1. A reason promises which note it names; all else promises only
+// to be safe and to end, on purpose.
 
 #![tactic(auto)]
 

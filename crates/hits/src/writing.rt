@@ -15,10 +15,7 @@ use ways::{HIGHEST_CODE, Way, shift_of};
 fn has_room(length: usize, from: usize, hits: usize) -> bool
     ensures { result ≡ leb (from + hits) length }
 {
-    if length < from {
-        return false;
-    }
-    hits <= length - from
+    from <= length && hits <= length - from
 }
 
 // Writes the codes that a half of a word marks, from a place on, and gives the place behind them.
@@ -36,11 +33,12 @@ fn put_marked(
 {
     let mut left = half;
     let mut at = from;
+    // a bit a turn, the lowest first
     while left != 0 {
-        let i = u64::trailing_zeros(left);
+        let i = left.trailing_zeros();
         columns[at] = column.0;
         shifts[at] = shift_of(way, first + i as u16);
-        left = left - (1 << i);
+        left -= 1 << i;
         at += 1;
     }
     at
@@ -52,7 +50,7 @@ fn low_code(way: Way, first: Pitch) -> u16
     ensures { result ≡ low_code way first }
 {
     match way {
-        Way::Exact => (HIGHEST_PITCH - first.0) as u16,
+        Way::Exact => u16::from(HIGHEST_PITCH - first.0),
         Way::Octave => 0,
     }
 }
@@ -70,8 +68,7 @@ pub fn put_hits(
 ) -> usize
     ensures { Puts way column.0 (fitting (word_codes way first (value word.low word.high)) from columns.old shifts.old) from columns.old shifts.old result columns.new shifts.new }
 {
-    let low = word.low;
-    let high = word.high;
+    let Word { low, high } = word;
     // most columns have none
     if (low | high) == 0 {
         return from;
@@ -79,8 +76,9 @@ pub fn put_hits(
     if HIGHEST_PITCH < first.0 {
         return from;
     }
-    let hits = (u64::count_ones(low) + u64::count_ones(high)) as usize;
-    if !(has_room(columns.len(), from, hits) & has_room(shifts.len(), from, hits)) {
+    let hits = (low.count_ones() + high.count_ones()) as usize;
+    // both buffers need room for all of them
+    if !has_room(columns.len().min(shifts.len()), from, hits) {
         return from;
     }
     let code = low_code(way, first);
@@ -101,16 +99,7 @@ pub fn keep(
 ) -> usize
     ensures { Puts way column.0 (fitting (start_codes hit code) at columns.old shifts.old) at columns.old shifts.old result columns.new shifts.new }
 {
-    if !hit {
-        return at;
-    }
-    if HIGHEST_CODE < code {
-        return at;
-    }
-    if columns.len() <= at {
-        return at;
-    }
-    if shifts.len() <= at {
+    if !hit || HIGHEST_CODE < code || columns.len() <= at || shifts.len() <= at {
         return at;
     }
     columns[at] = column.0;

@@ -12,10 +12,11 @@ fn code_between(way: Way, p: Pitch, t: Pitch) -> u16
     requires { (p.0 ≤ 127) × (t.0 ≤ 127) }
     ensures { result ≡ code_between way p t }
 {
-    let high = t.0 as u16 + 132;
+    let from = u16::from(p.0);
+    let to = u16::from(t.0);
     match way {
-        Way::Exact => high - 5 - p.0 as u16,
-        Way::Octave => (high - p.0 as u16) % 12,
+        Way::Exact => to + 127 - from,
+        Way::Octave => (to + 132 - from) % 12,
     }
 }
 
@@ -28,13 +29,7 @@ fn lowered(way: Way, p: Pitch, x: u16, best: u16, cell: u8) -> u16
         return best;
     }
     let code = code_between(way, p, Pitch(cell));
-    if code < x {
-        return best;
-    }
-    if code < best {
-        return code;
-    }
-    best
+    if code < x { best } else { best.min(code) }
 }
 
 // The first code from x on at which the column holds the pitch p; the way's span where there is none.
@@ -43,25 +38,21 @@ fn lowest_code(column: &[u8], way: Way, p: Pitch, x: u16) -> u16
     ensures { result ≡ next_code way p column.now x }
 {
     let mut best = span_of(way);
-    let mut i: usize = 0;
-    while i < column.len() {
-        best = lowered(way, p, x, best, column[i]);
-        i += 1;
+    for &cell in column {
+        best = lowered(way, p, x, best, cell);
     }
     best
 }
 
-// The first code from x on at which the column holds the note p; the way's span where there is none, where p is no pitch, and where
-// x is past the span.
+// The first code from x on at which the column holds the note p; the way's span where there is none, where p is no pitch, and
+// where x is past the span.
 pub fn next_code(column: &[u8], way: Way, p: Pitch, x: u16) -> u16
     ensures { result ≡ next_given way p column.now x }
 {
     let end = span_of(way);
-    if HIGHEST_PITCH < p.0 {
-        return end;
+    if HIGHEST_PITCH < p.0 || end < x {
+        end
+    } else {
+        lowest_code(column, way, p, x)
     }
-    if end < x {
-        return end;
-    }
-    lowest_code(column, way, p, x)
 }

@@ -2,13 +2,14 @@
 
 use crate::buffers::{Cells, Sets, Theme};
 use second::asks::Ask;
-use second::totals::{less_one, product, put_byte, put_set, size16};
+use second::totals::{less_one, product, put};
+use std::fmt;
 
 // What can be changed. Where it is the tracks, there are three columns of them; where it is the columns, their sets change with
-// them; where it is each set, the bits of the number say what they become.
-#[derive(Clone, Copy)]
+// them; where it is each set, the bits of the number say what they become. The summary and the changed column are of questions
+// and updates alone; a summary's number says how it is wrong.
+#[derive(Clone, Copy, PartialEq, Eq)]
 pub enum What {
-    Nothing,
     Tracks,
     Columns,
     Cells,
@@ -24,27 +25,8 @@ pub enum What {
     ShiftRoom,
     Column,
     Shift,
-}
-
-// What is changed, by its number in a table of changes.
-pub fn what_of(number: u16) -> What {
-    match number {
-        1 => What::Tracks,
-        2 => What::Columns,
-        3 => What::Cells,
-        4 => What::Cell,
-        5 => What::Notes,
-        6 => What::Note,
-        7 => What::Sets,
-        8 => What::Set,
-        9 => What::Table,
-        10 => What::Room,
-        11 => What::ColumnRoom,
-        12 => What::ShiftRoom,
-        13 => What::Column,
-        14 => What::Shift,
-        _ => What::Nothing,
-    }
+    Summary,
+    ChangedColumn,
 }
 
 // What is changed, at which place, and the number that it gets.
@@ -55,31 +37,12 @@ pub struct Change {
     pub value: u16,
 }
 
-// No change.
-pub fn none() -> Change {
-    Change {
-        what: What::Nothing,
-        place: 0,
-        value: 0,
-    }
-}
+// The shifts at the ends of the ranges, but the highest number.
+const END_SHIFTS: [i16; 11] = [-128, -127, 128, 129, -1, 0, 12, 13, 1, 2, -32768];
 
 // A shift at the end of a range, by its number.
 pub fn end_shift(k: u16) -> i16 {
-    match k {
-        0 => -128,
-        1 => -127,
-        2 => 128,
-        3 => 129,
-        4 => -1,
-        5 => 0,
-        6 => 12,
-        7 => 13,
-        8 => 1,
-        9 => 2,
-        10 => -32768,
-        _ => 32767,
-    }
+    END_SHIFTS.get(usize::from(k)).copied().unwrap_or(32767)
 }
 
 // A byte, cut to its width.
@@ -87,141 +50,114 @@ fn low(x: u16) -> u8 {
     (x % 256) as u8
 }
 
-// The sizes of the score, changed.
-fn sized(a: Ask, what: What, x: usize) -> Ask {
-    let mut b = a;
-    match what {
-        What::Tracks => {
-            b.h = x;
-            b.cells = product(x, 3);
-            b.sets = 2;
-        }
-        What::Columns => {
-            b.cells = product(x, 2);
-            b.sets = less_one(x);
-        }
-        What::Cells => {
-            b.cells = x;
-        }
-        What::Notes => {
-            b.notes = x;
-        }
-        What::Sets => {
-            b.sets = x;
-        }
-        What::Table => {
-            b.table = x;
-        }
-        _ => {}
-    }
-    b
-}
-
-// The room and the bookmark, changed.
-fn turned_to(a: Ask, what: What, x: usize, value: u16) -> Ask {
-    let mut b = a;
-    match what {
-        What::Room => {
-            b.columns = x;
-            b.shifts = x;
-        }
-        What::ColumnRoom => {
-            b.columns = x;
-        }
-        What::ShiftRoom => {
-            b.shifts = x;
-        }
-        What::Column => {
-            b.column = value;
-        }
-        What::Shift => {
-            b.shift = end_shift(value);
-        }
-        _ => {}
-    }
-    b
-}
-
 // What is asked after a change.
-pub fn changed(a: Ask, c: Change) -> Ask {
-    let what = c.what;
-    let x = size16(c.value);
-    turned_to(sized(a, what, x), what, x, c.value)
+pub fn changed(a: Ask, c: Option<Change>) -> Ask {
+    let Some(Change { what, value, .. }) = c else {
+        return a;
+    };
+    let x = usize::from(value);
+    match what {
+        What::Tracks => Ask {
+            h: x,
+            cells: product(x, 3),
+            sets: 2,
+            ..a
+        },
+        What::Columns => Ask {
+            cells: product(x, 2),
+            sets: less_one(x),
+            ..a
+        },
+        What::Cells => Ask { cells: x, ..a },
+        What::Notes => Ask { notes: x, ..a },
+        What::Sets => Ask { sets: x, ..a },
+        What::Table => Ask { table: x, ..a },
+        What::Room => Ask {
+            columns: x,
+            shifts: x,
+            ..a
+        },
+        What::ColumnRoom => Ask { columns: x, ..a },
+        What::ShiftRoom => Ask { shifts: x, ..a },
+        What::Column => Ask { column: value, ..a },
+        What::Shift => Ask {
+            shift: end_shift(value),
+            ..a
+        },
+        _ => a,
+    }
 }
 
 // The same at another bookmark.
 pub fn at(a: Ask, column: u16, shift: i16) -> Ask {
-    let mut b = a;
-    b.column = column;
-    b.shift = shift;
-    b
+    Ask { column, shift, ..a }
 }
 
-// The score and the theme after a change.
-pub fn change_bytes(cells: &mut Cells, theme: &mut Theme, c: Change) {
-    let what = c.what;
-    match what {
-        What::Cell => put_byte(cells, c.place, low(c.value)),
-        What::Note => put_byte(theme, c.place, low(c.value)),
-        _ => {}
+// The score and the theme after a change. They stay two parameters: the sets change in another call.
+pub fn change_bytes(cells: &mut Cells, theme: &mut Theme, c: Option<Change>) {
+    if let Some(Change { what, place, value }) = c {
+        match what {
+            What::Cell => put(cells, place, low(value)),
+            What::Note => put(theme, place, low(value)),
+            _ => {}
+        }
     }
 }
 
 // Each of the first 16 sets by its bit of a number: 4095, with no interval, where it is 1, and 0, with every one, where it is 0.
 fn put_each(sets: &mut Sets, bits: u16) {
-    let mut rest = bits;
-    for i in 0..16 {
-        put_set(sets, i, set_of(rest % 2));
-        rest = rest / 2;
+    for (i, set) in sets.iter_mut().enumerate().take(16) {
+        *set = if (bits >> i) % 2 == 1 { 4095 } else { 0 };
     }
-}
-
-fn set_of(bit: u16) -> u16 {
-    if bit == 1 { 4095 } else { 0 }
 }
 
 // The sets after a change.
-pub fn change_sets(sets: &mut Sets, c: Change) {
-    let what = c.what;
-    match what {
-        What::Set => put_set(sets, c.place, c.value),
-        What::EachSet => put_each(sets, c.value),
-        _ => {}
+pub fn change_sets(sets: &mut Sets, c: Option<Change>) {
+    if let Some(Change { what, place, value }) = c {
+        match what {
+            What::Set => put(sets, place, value),
+            What::EachSet => put_each(sets, value),
+            _ => {}
+        }
     }
 }
 
-// Whether it has a p-th place: a cell, a note and a set have a first, a middle and a last one, all else one.
-pub fn placed(what: What, p: u8) -> bool {
-    if p == 0 {
-        return true;
-    }
-    match what {
-        What::Cell | What::Note | What::Set => true,
-        _ => false,
-    }
+// Whether it has a p-th place.
+pub fn placed(what: What, p: usize) -> bool {
+    place_of(what, p).is_some()
 }
 
-// The p-th place, of ten cells, three notes and four sets.
-pub fn place_of(what: What, p: u8) -> usize {
-    if p == 0 {
-        return 0;
-    }
-    if p == 1 {
-        return middle_of(what);
-    }
-    match what {
-        What::Cell => 9,
-        What::Note => 2,
-        What::Set => 3,
-        _ => 0,
-    }
+// The p-th place, where it has one: of ten cells, three notes and four sets a first, a middle and a last one, of all else one.
+pub fn place_of(what: What, p: usize) -> Option<usize> {
+    let places: &[usize] = match what {
+        What::Cell => &[0, 5, 9],
+        What::Note => &[0, 1, 2],
+        What::Set => &[0, 2, 3],
+        _ => &[0],
+    };
+    places.get(p).copied()
 }
 
-fn middle_of(what: What) -> usize {
-    match what {
-        What::Cell => 5,
-        What::Note => 1,
-        What::Set => 2,
-        _ => 0,
+impl fmt::Display for What {
+    fn fmt<W: fmt::Write>(&self, f: &mut fmt::Formatter<W>) -> fmt::Result {
+        f.write_str(match self {
+            What::Tracks => "tracks",
+            What::Columns => "columns",
+            What::Cells => "cells",
+            What::Cell => "cell",
+            What::Notes => "notes",
+            What::Note => "note",
+            What::Sets => "sets",
+            What::Set => "set",
+            What::EachSet => "each-set",
+            What::Table => "table",
+            What::Room => "room",
+            What::ColumnRoom => "room-of-columns",
+            What::ShiftRoom => "room-of-shifts",
+            What::Column => "bookmark-column",
+            What::Shift => "bookmark-shift",
+            What::Summary => "summary",
+            What::ChangedColumn => "changed-column",
+        })
     }
 }

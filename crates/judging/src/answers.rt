@@ -1,94 +1,116 @@
 // The library's answers as plain numbers, and its preparation, on the part of the lent buffers that is asked for.
 
-ghost use Rattle.std.specs.Prelude.{◌≤◌};
+ghost use Rattle.std.specs.Prelude.{◌≡◌, ◌≤◌, ◌↔◌, IfErr, IfOk, IsNone, IsOk, length, take};
 
-use preparing::{Preparation, prepare};
-use second::asks::Ask;
+use preparing::prepare;
+use score::Refusal;
+use second::asks::{Ask, Pair};
+use second::away::Away;
 
-// An answer: the refusal's number and place, or 0 and the page.
+// A page: how many pairs were written, where the list goes on, whether it is over, and the looks.
 #[derive(Clone, Copy)]
-pub struct Got {
-    pub number: u8,
-    pub place: usize,
+pub struct Page {
     pub written: usize,
-    pub column: u16,
-    pub shift: i16,
+    pub next: Pair,
     pub finished: bool,
-    pub looks: u32,
+    pub looks: usize,
 }
 
-// A refusal, or 0 and no page.
-pub fn refused(number: u8, place: usize) -> Got {
-    Got {
-        number,
-        place,
-        written: 0,
+// A page on which there is nothing.
+pub const NO_PAGE: Page = Page {
+    written: 0,
+    next: Pair {
         column: 0,
         shift: 0,
-        finished: false,
-        looks: 0,
+    },
+    finished: false,
+    looks: 0,
+};
+
+// Why there is no answer: the buffers are too short for what is asked, so that no call was made; or it was turned away.
+#[derive(Clone, Copy, PartialEq, Eq)]
+pub enum Denied {
+    Unasked,
+    Away(Away),
+}
+
+impl Denied {
+    // The refusal's number, 99 where no call was made.
+    pub fn number(self) -> u8
+        ensures unasked { self ≡ Denied.Unasked → result ≡ 99 }
+        ensures away { (w : _) → self ≡ Denied.Away w → result ≡ w.number }
+    {
+        match self {
+            Denied::Unasked => 99,
+            Denied::Away(away) => away.number,
+        }
+    }
+
+    pub fn place(self) -> usize
+        ensures unasked { self ≡ Denied.Unasked → result ≡ 0 }
+        ensures away { (w : _) → self ≡ Denied.Away w → result ≡ w.place }
+    {
+        match self {
+            Denied::Unasked => 0,
+            Denied::Away(away) => away.place,
+        }
     }
 }
 
-// No call: the buffers are too short for what is asked.
-pub fn unasked() -> Got {
-    refused(99, 0)
-}
-
-// How much of each buffer is lent. Of a buffer that a call is not lent it is what is asked.
-#[derive(Clone, Copy)]
-pub struct Lengths {
-    pub cells: usize,
-    pub theme: usize,
-    pub sets: usize,
-    pub table: usize,
-    pub columns: usize,
-    pub shifts: usize,
-}
-
-// What is asked of a buffer, or its length where that is less.
-pub fn part(asked: usize, length: usize) -> usize
-    ensures { result ≤ length }
+// Its number among the refusals that are due.
+pub fn number_in(denied: Option<Denied>) -> Option<usize>
+    ensures { IsNone result ↔ IsNone denied }
 {
-    if asked < length { asked } else { length }
+    denied.map(|denied| usize::from(denied.number()))
 }
 
-// Whether less is lent of some buffer than is asked.
-pub fn too_short(l: Lengths, a: Ask) -> bool {
-    if l.cells < a.cells {
-        return true;
+// A refusal of the library.
+pub fn away_in(r: Refusal) -> Away
+    ensures { result.place ≡ r.place }
+{
+    Away {
+        number: r.rule.number(),
+        place: r.place,
     }
-    if l.theme < a.notes {
-        return true;
-    }
-    if l.sets < a.sets {
-        return true;
-    }
-    if l.table < a.table {
-        return true;
-    }
-    if l.columns < a.columns {
-        return true;
-    }
-    l.shifts < a.shifts
 }
 
-pub fn ask_prepare(cells: &[u8], sets: &mut [u16], a: Ask) -> Got {
-    let many = part(a.cells, cells.len());
-    let last = part(a.sets, sets.len());
-    let lent = Lengths {
-        cells: many,
-        theme: a.notes,
-        sets: last,
-        table: a.table,
-        columns: a.columns,
-        shifts: a.shifts,
-    };
-    if too_short(lent, a) {
-        return unasked();
+impl From<Refusal> for Denied {
+    fn from(r: Refusal) -> Denied {
+        Denied::Away(away_in(r))
     }
-    match prepare(&cells[..many], a.h, &mut sets[..last]) {
-        Preparation::Prepared(_) => refused(0, 0),
-        Preparation::Refused(r) => refused(r.number, r.place),
+}
+
+// The first so many items of a buffer, or all of a shorter one.
+pub fn up_to<T>(s: &[T], many: usize) -> &[T]
+    ensures { result.now ≡ take many s.now }
+{
+    s.get(..many).unwrap_or(s)
+}
+
+// The first so many items of a buffer, where it has as many.
+pub fn first<T>(s: &[T], many: usize) -> Result<&[T], Denied>
+    ensures ok { IsOk result ↔ (many ≤ length s.now) }
+    ensures front { IfOk result (λ front. front.now ≡ take many s.now) }
+    ensures err { IfErr result (λ denied. denied ≡ Denied.Unasked) }
+{
+    s.get(..many).ok_or(Denied::Unasked)
+}
+
+pub fn first_mut<T>(s: &mut [T], many: usize) -> Result<&mut [T], Denied>
+    ensures ok { IsOk result ↔ (many ≤ length s.old) }
+    ensures front { IfOk result (λ front. front.now ≡ take many s.old) }
+    ensures err { IfErr result (λ denied. denied ≡ Denied.Unasked) }
+{
+    match s.get_mut(..many) {
+        Some(first) => Ok(first),
+        None => Err(Denied::Unasked),
     }
+}
+
+// The summary of the sets, or the refusal.
+pub fn ask_prepare(cells: &[u8], sets: &mut [u16], a: Ask) -> Result<u16, Denied> {
+    let cells = first(cells, a.cells)?;
+    let sets = first_mut(sets, a.sets)?;
+    let summary = prepare(cells, a.h, sets)?;
+    Ok(summary.0)
 }

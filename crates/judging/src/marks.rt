@@ -1,67 +1,60 @@
 // Marks: what a lent buffer holds before a call, a number for each place, so that a place that should be untouched shows it.
 
-use second::totals::{put_set, put_shift, put_word, set, shift, size16, size32, word};
+ghost use Rattle.std.specs.Prelude.{◌≡◌, ◌≤◌, IsTrue, drop};
 
-// No set, no column.
-fn set_mark(i: usize) -> u16 {
-    40000 + (i % 1009) as u16
+pub trait Mark: Copy + PartialEq {
+    fn mark(i: usize) -> Self;
 }
 
-fn word_mark(i: usize) -> u32 {
-    2000000000 + (i % 1009) as u32
+// No set, no column.
+impl Mark for u16 {
+    fn mark(i: usize) -> u16 {
+        40000 + (i % 1009) as u16
+    }
+}
+
+impl Mark for u32 {
+    fn mark(i: usize) -> u32 {
+        2000000000 + (i % 1009) as u32
+    }
 }
 
 // No shift, and no next one.
-fn shift_mark(i: usize) -> i16 {
-    match i % 4 {
-        0 => 9000,
-        1 => -9001,
-        2 => 9002,
-        _ => -9003,
-    }
-}
-
-pub fn mark_sets(s: &mut [u16], many: usize) {
-    for i in 0..many {
-        put_set(s, i, set_mark(i));
-    }
-}
-
-pub fn mark_words(s: &mut [u32], from: usize, to: usize) {
-    for i in from..to {
-        put_word(s, i, word_mark(i));
-    }
-}
-
-pub fn mark_shifts(s: &mut [i16], many: usize) {
-    for i in 0..many {
-        put_shift(s, i, shift_mark(i));
-    }
-}
-
-pub fn sets_kept(s: &[u16], from: usize, to: usize) -> bool {
-    for i in from..to {
-        if set(s, i) != size16(set_mark(i)) {
-            return false;
+impl Mark for i16 {
+    fn mark(i: usize) -> i16 {
+        match i % 4 {
+            0 => 9000,
+            1 => -9001,
+            2 => 9002,
+            _ => -9003,
         }
     }
-    true
 }
 
-pub fn words_kept(s: &[u32], from: usize, to: usize) -> bool {
-    for i in from..to {
-        if word(s, i) != size32(word_mark(i)) {
-            return false;
-        }
+// No track.
+impl Mark for u8 {
+    fn mark(i: usize) -> u8 {
+        200 + (i % 50) as u8
     }
-    true
 }
 
-pub fn shifts_kept(s: &[i16], from: usize, to: usize) -> bool {
-    for i in from..to {
-        if shift(s, i) != shift_mark(i) {
-            return false;
-        }
+// Marks the places from one to another.
+pub fn put_marks<T: Mark>(s: &mut [T], from: usize, to: usize)
+    ensures { drop to s.new ≡ drop to s.old }
+{
+    let end = to.min(s.len());
+    for (i, x) in s[..end].iter_mut().enumerate().skip(from) {
+        *x = T::mark(i);
     }
-    true
+}
+
+// Whether they have their marks.
+pub fn kept<T: Mark>(s: &[T], from: usize, to: usize) -> bool
+    ensures { to ≤ from → IsTrue result }
+{
+    s.iter()
+        .enumerate()
+        .take(to)
+        .skip(from)
+        .all(|(i, &x)| x == T::mark(i))
 }

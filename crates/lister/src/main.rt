@@ -7,7 +7,7 @@
 
 ghost use Rattle.std.specs.Prelude.{◌≤◌, IfOk, length};
 
-use listing::{INPUT_ROOM, Listing, ROOM, list};
+use listing::{INPUT_ROOM, ROOM, list};
 use std::io;
 use std::io::Read;
 
@@ -21,7 +21,7 @@ fn main(rt: HostRuntime) -> io::Result<()> {
 fn run(rt: &(impl Input + Print), input: &mut [u8], out: &mut [u8]) -> io::Result<()> {
     let mut reader = rt.reader();
     let got = read_full(&mut reader, input)?;
-    if let Listing::Written(n) = list(&input[..got], out) {
+    if let Ok(n) = list(&input[..got], out) {
         rt.write_all(&out[..n])?;
     }
     Ok(())

@@ -2,16 +2,18 @@
 use mathlib.Core.Path.{◌≡◌, sym, ap, ◌∙◌}
 use mathlib.Core.List.{List, [], ◌∷◌}
 use Prim.Native.Nat.{ℕ, ◌-◌, ◌*◌, ◌≤◌}
-use native.Mathlib.Nat.{sub-zero, mul-le-mul}
+use native.Mathlib.Nat.{mul-le-mul}
 use native.Mathlib.Omega.{arith}
 use lib.ListN.{length, take, drop, length-append}
 use lib.Seq.{take_at}
+use Rattle.std.specs.Prelude.{Result, Err}
 use Rattle.theory.specs.Lists.{over, join}
 use Rattle.asking.specs.Limits.{most_notes}
 use Rattle.score.specs.Limits.{most_tracks, most_columns, most_cells}
 use Rattle.ways.specs.declared.way.AnyWay.{AnyWay}
 use Rattle.reading.specs.declared.request.Reading.{Reading}
-use Rattle.reading.specs.declared.request.Reading.TheVariants.{Bad}
+use Rattle.reading.specs.declared.request.ReadError.{ReadError}
+use Rattle.reading.specs.declared.request.ReadError.TheVariants.{Bad}
 use Rattle.reading.specs.Request.{Meaning}
 use Rattle.reading.specs.Taking.{tracks_of, Takes}
 use Rattle.reading.proofs.Takings.{Took, took_bad}
@@ -24,8 +26,9 @@ use Rattle.listing.proofs.Outputs.{meaning_right, cells_long, right_score, right
 
 -- ---- a refused line
 
-pub out_bad : {input theme cells : List ℕ} {r : Reading} {theme' cells' : List ℕ} → Takes input theme cells r theme' cells' → most_notes ≤ length theme → most_cells ≤ length cells
-    → {line : ℕ} → r ≡ Bad line → output input ≡ refused_line line
+pub out_bad : {input theme cells : List ℕ} {r : Result Reading ReadError} {theme' cells' : List ℕ}
+    → Takes input theme cells r theme' cells' → most_notes ≤ length theme → most_cells ≤ length cells
+    → {line : ℕ} → r ≡ Err (Bad line) → output input ≡ refused_line line
 unfolding output
 out_bad t few many e = ap answer (took_bad t few many e)
 
@@ -77,11 +80,9 @@ module _ {input theme cells : List ℕ} {way : AnyWay} {notes tracks columns : �
       ∙ ap (λ (m : Meaning). told (answer m) out) (sym t.is)
 
   -- as the parts of the buffers are lent
-  pub out_told : (out : List ℕ) → search_told (take (columns * tracks - 0) cells') tracks (take (notes - 0) theme') way out ≡ told (output input) out
+  pub out_told : (out : List ℕ) → search_told (take (columns * tracks) cells') tracks (take notes theme') way out ≡ told (output input) out
   out_told out =
       rw (
-        sub-zero (columns * tracks),
-        sub-zero notes,
         t.cells_are,
         t.theme_is,
         over_front cells (join t.request.columns) (columns * tracks) long_is,

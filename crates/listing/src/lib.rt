@@ -8,5 +8,5 @@ pub mod limits;
 pub mod output;
 
 pub use limits::INPUT_ROOM;
-pub use output::{Listing, list};
+pub use output::{TooShort, list};
 pub use telling::ROOM;

@@ -8,52 +8,45 @@ ghost use Rattle.listing.specs.Answer.{output};
 ghost use Rattle.listing.specs.Listing.{Lists};
 
 use asking::MOST_NOTES;
-use reading::{Reading, read};
+use reading::{ReadError, read};
 use score::MOST_CELLS;
-use telling::{ROOM, Telling, refuse, tell};
+use telling::{ROOM, TellError, refuse, tell};
 
-// How many bytes were written; or the output buffer is too short for some inputs, and nothing was written.
-#[derive(Clone, Copy)]
-pub enum Listing {
-    Written(usize),
-    Short,
-}
+// The output buffer is too short for some inputs, and nothing was written.
+#[derive(Clone, Copy, Debug, PartialEq, Eq)]
+pub struct TooShort;
 
-// Writes the whole output of the input from the front of a buffer of 458,546 bytes or more, and keeps what stands behind it.
-// No input needs more room. A shorter buffer is turned away, whatever the input is.
+// Writes the whole output of the input from the front of a buffer of 458,546 bytes or more, and keeps what stands behind it;
+// gives how many bytes it wrote. No input needs more room. A shorter buffer is turned away, whatever the input is.
 #[tactic(auto, using(crate::proofs::Listings::list_short))]
-pub fn list(input: &[u8], out: &mut [u8]) -> Listing
+pub fn list(input: &[u8], out: &mut [u8]) -> Result<usize, TooShort>
     ensures { Lists input.now out.old result out.new }
 {
     if out.len() < ROOM {
-        return Listing::Short;
+        return Err(TooShort);
     }
     let mut theme = [0u8; MOST_NOTES];
     let mut cells = [0u8; MOST_CELLS];
     // there is room, and what is read right is accepted: it is always told
-    match answer(input, &mut theme, &mut cells, out) {
-        Telling::Told(n) => Listing::Written(n),
-        Telling::Refused(_) => Listing::Short,
-        Telling::Short => Listing::Short,
-    }
+    answer(input, &mut theme, &mut cells, out).map_err(|_| TooShort)
 }
 
 // The output, by way of room for a theme and for cells.
-fn answer(input: &[u8], theme: &mut [u8], cells: &mut [u8], out: &mut [u8]) -> Telling
+fn answer(
+    input: &[u8],
+    theme: &mut [u8],
+    cells: &mut [u8],
+    out: &mut [u8],
+) -> Result<usize, TellError>
     requires { (most_notes ≤ length theme.old) × (most_cells ≤ length cells.old) }
     ensures { Tells (told (output input.now) out.old) result out.new }
 {
     match read(input, theme, cells) {
-        Reading::Right {
-            way,
-            notes,
-            tracks,
-            columns,
-        } => {
-            let long = columns * tracks;
-            tell(&cells[0..long], tracks, &theme[0..notes], way, out)
+        Ok(r) => {
+            let long = r.columns * r.tracks;
+            tell(&cells[..long], r.tracks, &theme[..r.notes], r.way, out)
         }
-        Reading::Bad { line } => refuse(line, out),
-        Reading::Short => Telling::Short, // there is room for every input
+        Err(ReadError::Bad { line }) => refuse(line, out),
+        Err(ReadError::Short) => Err(TellError::Short), // there is room for every input
     }
 }

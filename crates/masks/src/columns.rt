@@ -20,16 +20,13 @@ fn pitch_word(column: &[u8]) -> Word
 {
     let mut low: u64 = 0;
     let mut high: u64 = 0;
-    let mut i = 0;
-    while i < column.len() {
-        let cell = column[i];
+    for &cell in column {
         let bit = bit_of(cell);
         if cell < 64 {
-            low = low | bit;
+            low |= bit;
         } else if cell < 128 {
-            high = high | bit;
+            high |= bit;
         }
-        i += 1;
     }
     Word { low, high }
 }
@@ -41,7 +38,7 @@ pub fn word_of(way: Way, column: &[u8]) -> Word
     match way {
         Way::Exact => pitch_word(column),
         Way::Octave => Word {
-            low: classes_of(column) as u64,
+            low: u64::from(classes_of(column)),
             high: 0,
         },
     }

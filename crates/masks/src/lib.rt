@@ -1,7 +1,7 @@
 // A column as a word of bits, and the starts at which it holds a note.
 //
-// A `word` is 128 bits in two halves of 64. `columns` makes the word of a column, and `moving` moves it by a note, so that its bits
-// are the starts at which the column holds that note.
+// A `word` is 128 bits in two halves of 64. `columns` makes the word of a column, and `moving` moves it by a note, so that its
+// bits are the starts at which the column holds that note.
 
 #![tactic(auto)]
 

@@ -3,7 +3,7 @@
 ghost use Rattle.std.specs.Prelude.{◌≡◌, ◌*◌, ◌/◌, ◌%◌, ◌^◌, ◌<◌};
 ghost use Rattle.masks.specs.Masks.{value, turned_word, moved_word};
 
-use crate::word::Word;
+use crate::word::{ALL_CLASSES, Word};
 use score::{Class, Distance, Pitch, class_of};
 use ways::Way;
 
@@ -11,21 +11,20 @@ use ways::Way;
 fn down(w: Word, distance: Distance) -> Word
     ensures { value result.low result.high ≡ value w.low w.high / 2 ^ distance.0 }
 {
+    let Word { low, high } = w;
     let d = distance.0;
-    let low = w.low;
-    let high = w.high;
-    if 64 <= d {
-        if 128 <= d {
-            return Word { low: 0, high: 0 };
+    if d < 64 {
+        Word {
+            low: (low >> d) | ((high << 1) << (63 - d)),
+            high: high >> d,
         }
-        return Word {
+    } else if d < 128 {
+        Word {
             low: high >> (d - 64),
             high: 0,
-        };
-    }
-    Word {
-        low: (low >> d) | ((high << 1) << (63 - d)),
-        high: high >> d,
+        }
+    } else {
+        Word { low: 0, high: 0 }
     }
 }
 
@@ -33,21 +32,20 @@ fn down(w: Word, distance: Distance) -> Word
 fn up(w: Word, distance: Distance) -> Word
     ensures { value result.low result.high ≡ value w.low w.high * 2 ^ distance.0 % 2 ^ 128 }
 {
+    let Word { low, high } = w;
     let d = distance.0;
-    let low = w.low;
-    let high = w.high;
-    if 64 <= d {
-        if 128 <= d {
-            return Word { low: 0, high: 0 };
+    if d < 64 {
+        Word {
+            low: low << d,
+            high: (high << d) | ((low >> 1) >> (63 - d)),
         }
-        return Word {
+    } else if d < 128 {
+        Word {
             low: 0,
             high: low << (d - 64),
-        };
-    }
-    Word {
-        low: low << d,
-        high: (high << d) | ((low >> 1) >> (63 - d)),
+        }
+    } else {
+        Word { low: 0, high: 0 }
     }
 }
 
@@ -57,7 +55,7 @@ fn turned(low: u64, class: Class) -> u64
     ensures { result ≡ turned_word class.0 low }
 {
     let d = class.0;
-    ((low >> d) | (low << (12 - d))) & 4095
+    ((low >> d) | (low << (12 - d))) & ALL_CLASSES
 }
 
 // The word moved by the note p, for a theme that begins with `first`: of the word of a column, the starts at which it holds p.
@@ -68,9 +66,10 @@ pub fn moved(way: Way, w: Word, first: Pitch, p: Pitch) -> Word
     match way {
         Way::Exact => {
             if first.0 <= p.0 {
-                return down(w, Distance(p.0 - first.0));
+                down(w, Distance(p.0 - first.0))
+            } else {
+                up(w, Distance(first.0 - p.0))
             }
-            up(w, Distance(first.0 - p.0))
         }
         Way::Octave => Word {
             low: turned(w.low, class_of(p)),

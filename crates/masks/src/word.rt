@@ -5,6 +5,9 @@ ghost use Rattle.masks.specs.Masks.{value, width, all_starts};
 
 use ways::Way;
 
+// The twelve bits of octave, one for each class.
+pub(crate) const ALL_CLASSES: u64 = 0xfff;
+
 // The lower 64 bits, and those above.
 #[derive(Clone, Copy)]
 pub struct Word {
@@ -18,10 +21,13 @@ pub fn all_starts(way: Way) -> Word
 {
     match way {
         Way::Exact => Word {
-            low: 0xffff_ffff_ffff_ffff,
-            high: 0xffff_ffff_ffff_ffff,
+            low: u64::MAX,
+            high: u64::MAX,
         },
-        Way::Octave => Word { low: 4095, high: 0 },
+        Way::Octave => Word {
+            low: ALL_CLASSES,
+            high: 0,
+        },
     }
 }
 

@@ -3,7 +3,7 @@
 
 use crate::edit::{Edit, Kind, lent_of};
 use gapped::drawing::draw;
-use second::totals::{byte, more, place};
+use second::totals::more;
 
 fn columns_in(round: usize) -> usize {
     if round % 32 == 0 {
@@ -42,21 +42,11 @@ fn own_cell(round: usize, track: usize) -> u8 {
 }
 
 // What becomes of a cell of the changed column: all are emptied; all are drawn anew; one is; or each stays as it is.
-pub fn drawn_change(cells: &[u8], e: Edit, track: usize) -> u8 {
-    let old = byte(cells, place(e.column, e.h, track));
-    let into = e.into;
-    match into {
+pub fn drawn_change(e: Edit, track: usize, old: u8) -> u8 {
+    match e.into {
         0 => 255,
         1 => own_cell(e.score, track),
-        2 => one_anew(e, track, old),
+        2 if track == draw(e.score, 14, e.h as u64) => own_cell(e.score, track),
         _ => old,
-    }
-}
-
-fn one_anew(e: Edit, track: usize, old: u8) -> u8 {
-    if track == draw(e.score, 14, e.h as u64) {
-        own_cell(e.score, track)
-    } else {
-        old
     }
 }

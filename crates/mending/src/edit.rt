@@ -24,14 +24,15 @@ pub struct Edit {
     pub kind: Kind,
     pub h: usize,
     pub n: usize,
-    // the score before the change, the changed column from 1, and what it becomes, by its number
+    // the score before the change, the changed column from 1, and what it becomes, by its number: each kind of edit counts or
+    // draws it and reads it in one place, so that an enum would be a second match
     pub score: usize,
     pub column: usize,
     pub into: usize,
     pub lent: Lent,
 }
 
-// The lent sets by a number.
+// The lent sets by a number, which stays one: edits are counted by turns and drawn by it.
 pub fn lent_of(k: usize) -> Lent {
     match k {
         0 => Lent::Right,

@@ -6,31 +6,25 @@ use crate::far::far_edit;
 use crate::small::small_edit;
 use crate::worked::{ROWS, worked_edit};
 
-// How many edits of each family there are, after those that are worked by hand: 22,500 of small scores, and 1,575 of far ones,
-// each by four kinds of sets; and the rounds.
-const SMALL: usize = 90000;
+// The first edit of each family after those that are worked by hand: of 22,500 of small scores, and of 1,575 of far ones, each by
+// four kinds of sets; and of the rounds.
+const SMALL: usize = ROWS;
 
-const FAR: usize = 6300;
+const FAR: usize = SMALL + 90000;
 
-const DRAWN: usize = 12000;
+const DRAWN: usize = FAR + 6300;
 
-const EDITS: usize = ROWS + SMALL + FAR + DRAWN;
+const EDITS: usize = DRAWN + 12000;
 
 pub fn number_of_edits() -> usize {
     EDITS
 }
 
 pub fn edit(k: usize) -> Edit {
-    if k < ROWS {
-        return worked_edit(k);
+    match k {
+        0..SMALL => worked_edit(k),
+        SMALL..FAR => small_edit(k - SMALL),
+        FAR..DRAWN => far_edit(k - FAR),
+        _ => drawn_edit(k.saturating_sub(DRAWN)),
     }
-    let from_small = k - ROWS;
-    if from_small < SMALL {
-        return small_edit(from_small);
-    }
-    let from_far = from_small - SMALL;
-    if from_far < FAR {
-        return far_edit(from_far);
-    }
-    drawn_edit(from_far - FAR)
 }

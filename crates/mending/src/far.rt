@@ -26,19 +26,11 @@ fn columns_in(k: usize) -> usize {
 fn column_in(k: usize, n: usize) -> usize {
     match k {
         0 => 1,
-        1 => second_of(n),
+        1 => n.min(2),
         2 => more(n / 2, 1),
-        3 => before_last(n),
+        3 => less_one(n).max(1),
         _ => n,
     }
-}
-
-fn second_of(n: usize) -> usize {
-    if n < 2 { n } else { 2 }
-}
-
-fn before_last(n: usize) -> usize {
-    if n < 2 { n } else { n - 1 }
 }
 
 // Each of three numbers of tracks, five of columns and seven patterns, with five columns, each becoming three others, by right
@@ -58,24 +50,17 @@ pub fn far_edit(k: usize) -> Edit {
 }
 
 // Whether column j of n holds a pitch, by the pattern: none; the first; the second; the first and the last; the last; those
-// beside one in the middle; or all.
+// beside one in the middle; or all. The pattern is counted, and read here alone: an enum would be a second match.
 fn sounding(pattern: usize, j: usize, n: usize) -> bool {
     match pattern {
         0 => false,
         1 => j == 1,
         2 => j == 2,
-        3 => either(j, 1, n),
+        3 => j == 1 || j == n,
         4 => j == n,
-        5 => either(j, n / 2, more(n / 2, 2)),
+        5 => j == n / 2 || j == more(n / 2, 2),
         _ => true,
     }
-}
-
-fn either(j: usize, x: usize, y: usize) -> bool {
-    if j == x {
-        return true;
-    }
-    j == y
 }
 
 // A pitch of a column and a track.
@@ -85,28 +70,19 @@ fn tone(j: usize, track: usize) -> u8 {
 
 // The cell of column j in a track, from 0: a column with a pitch has one in the first track and one in the last.
 pub fn far_cell(e: Edit, j: usize, track: usize) -> u8 {
-    if !sounding(e.score, j, e.n) {
-        return 255;
+    if sounding(e.score, j, e.n) && (track == 0 || track == less_one(e.h)) {
+        tone(j, track)
+    } else {
+        255
     }
-    if track == 0 {
-        return tone(j, 0);
-    }
-    if track == less_one(e.h) {
-        return tone(j, track);
-    }
-    255
 }
 
 // The same of the changed column: it is emptied, or full, or has a pitch in its last track alone.
 pub fn far_change(e: Edit, track: usize) -> u8 {
-    let into = e.into;
-    match into {
+    match e.into {
         0 => 255,
         1 => tone(e.n, more(track, 3)),
-        _ => last_alone(e, track),
+        _ if track == less_one(e.h) => 77,
+        _ => 255,
     }
-}
-
-fn last_alone(e: Edit, track: usize) -> u8 {
-    if track == less_one(e.h) { 77 } else { 255 }
 }

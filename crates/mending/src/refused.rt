@@ -1,12 +1,11 @@
 // What is turned away of questions and updates: both ends of every range, each refusal alone, and each two together. Every one
 // is a call on twists to an accepted one: a question in exact, an update, and a question in octave.
 
-use crate::twists::{COLUMN, SUMMARY, Twist, change_of, untwisted};
-use jobs::changes::{changed, place_of, placed, what_of};
-use jobs::job::Head;
+use jobs::changes::{Change, What, changed};
+use jobs::job::{Due, Head};
+use jobs::refused::{End, Fault, end_in, fault_in};
 use jobs::shapes::ask_of;
 use second::asks::Ask;
-use second::totals::{more, product, size16};
 use second::ways::Way;
 
 // The two calls.
@@ -16,56 +15,89 @@ pub enum Asked {
     Update,
 }
 
-// A call on twists to an accepted one.
+// A call on two twists to an accepted one. Most twists are changes of what all calls are lent; two are of these calls alone: of
+// the summary, and of the changed column.
 #[derive(Clone, Copy)]
 pub struct Twisted {
-    // whether there is anything to try
-    pub tried: bool,
     pub asked: Asked,
     pub a: Ask,
-    pub c: Twist,
-    pub d: Twist,
+    pub c: Option<Change>,
+    pub d: Option<Change>,
     // what is written before, and whether the answer is written
     pub head: Head,
     pub loud: bool,
-    // two refusals of which the one that comes first is due, by their places in the order; 0 and 0 where that is not said
-    pub low: usize,
-    pub high: usize,
+    // two refusals of which the one that comes first is due, where that is said
+    pub due: Option<Due>,
 }
 
-// The ends of the ranges: what is changed, and four numbers that it gets.
-const ENDS: [[u16; 5]; 16] = [
-    [1, 0, 1, 16, 17],
-    [2, 0, 1, 2048, 2049],
-    [3, 9, 10, 11, 12],
-    [4, 127, 128, 254, 255],
-    [5, 1, 2, 32, 33],
-    [6, 0, 127, 128, 255],
-    [7, 0, 3, 4, 5],
-    [8, 0, 4095, 4096, 65535],
-    [9, 0, 4095, 4096, 4097],
-    [SUMMARY, 0, 1, 2, 3],
-    [SUMMARY, 4, 5, 6, 7],
-    [SUMMARY, 8, 9, 10, 11],
-    [SUMMARY, 12, 13, 14, 15],
-    [SUMMARY, 16, 17, 18, 19],
-    [COLUMN, 0, 1, 2, 4],
-    [COLUMN, 5, 6, 256, 65535],
+// The ends of the ranges.
+const ENDS: [End; 16] = [
+    (What::Tracks, [0, 1, 16, 17]),
+    (What::Columns, [0, 1, 2048, 2049]),
+    (What::Cells, [9, 10, 11, 12]),
+    (What::Cell, [127, 128, 254, 255]),
+    (What::Notes, [1, 2, 32, 33]),
+    (What::Note, [0, 127, 128, 255]),
+    (What::Sets, [0, 3, 4, 5]),
+    (What::Set, [0, 4095, 4096, 65535]),
+    (What::Table, [0, 4095, 4096, 4097]),
+    (What::Summary, [0, 1, 2, 3]),
+    (What::Summary, [4, 5, 6, 7]),
+    (What::Summary, [8, 9, 10, 11]),
+    (What::Summary, [12, 13, 14, 15]),
+    (What::Summary, [16, 17, 18, 19]),
+    (What::ChangedColumn, [0, 1, 2, 4]),
+    (What::ChangedColumn, [5, 6, 256, 65535]),
 ];
 
-// The refusals of both calls in their order: 1 to 8, 12 and 19. Each has three faults: what is changed, its place, and the
-// number.
-const FAULTS: [[u16; 9]; 10] = [
-    [1, 0, 0, 1, 0, 17, 1, 0, 255],
-    [3, 0, 9, 2, 0, 0, 2, 0, 2049],
-    [4, 0, 128, 4, 5, 200, 4, 9, 254],
-    [5, 0, 1, 5, 0, 33, 5, 0, 0],
-    [6, 0, 128, 6, 1, 255, 6, 2, 200],
-    [7, 0, 3, 7, 0, 5, 7, 0, 0],
-    [8, 0, 4096, 8, 1, 65535, 8, 3, 5000],
-    [9, 0, 4095, 9, 0, 4097, 9, 0, 0],
-    [SUMMARY, 0, 2, SUMMARY, 0, 16, SUMMARY, 0, 17],
-    [COLUMN, 0, 0, COLUMN, 0, 6, COLUMN, 0, 65535],
+// The refusals of both calls in their order: 1 to 8, 12 and 19. Each has three faults.
+const FAULTS: [[Fault; 3]; 10] = [
+    [
+        (What::Tracks, 0, 0),
+        (What::Tracks, 0, 17),
+        (What::Tracks, 0, 255),
+    ],
+    [
+        (What::Cells, 0, 9),
+        (What::Columns, 0, 0),
+        (What::Columns, 0, 2049),
+    ],
+    [
+        (What::Cell, 0, 128),
+        (What::Cell, 5, 200),
+        (What::Cell, 9, 254),
+    ],
+    [
+        (What::Notes, 0, 1),
+        (What::Notes, 0, 33),
+        (What::Notes, 0, 0),
+    ],
+    [
+        (What::Note, 0, 128),
+        (What::Note, 1, 255),
+        (What::Note, 2, 200),
+    ],
+    [(What::Sets, 0, 3), (What::Sets, 0, 5), (What::Sets, 0, 0)],
+    [
+        (What::Set, 0, 4096),
+        (What::Set, 1, 65535),
+        (What::Set, 3, 5000),
+    ],
+    [
+        (What::Table, 0, 4095),
+        (What::Table, 0, 4097),
+        (What::Table, 0, 0),
+    ],
+    [
+        (What::Summary, 0, 2),
+        (What::Summary, 0, 16),
+        (What::Summary, 0, 17),
+    ],
+    [
+        (What::ChangedColumn, 0, 0),
+        (What::ChangedColumn, 0, 6),
+        (What::ChangedColumn, 0, 65535),
+    ],
 ];
 
 // How many there are: 64 ends at three places, and 121 pairs of refusals by nine pairs of faults, each by three calls.
@@ -77,25 +109,7 @@ pub fn number_of_refused() -> usize {
     END_CALLS + DUE_CALLS
 }
 
-fn end_item(row: usize, i: usize) -> u16 {
-    if row < 16 {
-        if i < 5 {
-            return ENDS[row][i];
-        }
-    }
-    0
-}
-
-fn fault_item(row: usize, i: usize) -> u16 {
-    if row < 10 {
-        if i < 9 {
-            return FAULTS[row][i];
-        }
-    }
-    0
-}
-
-// The number of the refusal at a place in the order, from 1; 0 is none.
+// The number of the refusal at a place in the order, from 1.
 pub fn number_at(k: usize) -> usize {
     match k {
         9 => 12,
@@ -107,133 +121,68 @@ pub fn number_at(k: usize) -> usize {
 // Whether a call gives the refusal at a place in the order: the question 1 to 8 and 12, the update 1, 2, 3, 6, 7 and 19.
 fn gives(asked: Asked, k: usize) -> bool {
     match asked {
-        Asked::Question => match k {
-            1..=9 => true,
-            _ => false,
-        },
-        Asked::Update => match k {
-            1 | 2 | 3 | 6 | 7 | 10 => true,
-            _ => false,
-        },
+        Asked::Question => matches!(k, 1..=9),
+        Asked::Update => matches!(k, 1..=3 | 6 | 7 | 10),
     }
 }
 
-// The number of the first of two refusals that the call gives, 0 where it gives neither.
-pub fn due_first(asked: Asked, low: usize, high: usize) -> usize {
-    if gives(asked, low) {
-        return number_at(low);
-    }
-    if gives(asked, high) {
-        return number_at(high);
-    }
-    0
+// The number of the first of two refusals that the call gives, where it gives one.
+pub fn due_first(asked: Asked, d: Due) -> Option<usize> {
+    d.low
+        .into_iter()
+        .chain(Some(d.high))
+        .find(|&k| gives(asked, k))
+        .map(number_at)
 }
 
-// The k-th end, at its first, middle or last place.
-fn end(k: usize, p: u8) -> Twist {
-    let what = end_item(k / 4, 0);
-    Twist {
-        what,
-        place: place_of(what_of(what), p),
-        value: end_item(k / 4, more(k % 4, 1)),
+// The calls in turn.
+const CALLS: [(Asked, Way); 3] = [
+    (Asked::Question, Way::Exact),
+    (Asked::Update, Way::Exact),
+    (Asked::Question, Way::Octave),
+];
+
+// A call on twists to the k-th of them by turns. What is asked is of score K and theme 60 62 64. A head is written before the
+// calls in exact, and before the one in octave.
+fn call_on(k: usize, c: Option<Change>, d: Option<Change>, head: Head) -> Twisted {
+    let (asked, way) = CALLS[k % 3];
+    Twisted {
+        asked,
+        a: changed(changed(ask_of(2, 5, 3, way, 1), c), d),
+        c,
+        d,
+        head: if k % 3 == 1 { Head::Quiet } else { head },
+        loud: true,
+        due: None,
     }
-}
-
-// The fault of the refusal at a place in the order, 0 for none, by its variant.
-fn fault(k: usize, variant: usize) -> Twist {
-    if k == 0 {
-        return untwisted();
-    }
-    let at = product(variant, 3);
-    Twist {
-        what: fault_item(k - 1, at),
-        place: size16(fault_item(k - 1, more(at, 1))),
-        value: fault_item(k - 1, more(at, 2)),
-    }
-}
-
-// The calls in turn: a question in exact, an update, and a question in octave. What is asked is of score K and theme 60 62 64.
-fn asked_at(k: usize) -> Asked {
-    if k % 3 == 1 {
-        Asked::Update
-    } else {
-        Asked::Question
-    }
-}
-
-fn way_at(k: usize) -> Way {
-    if k % 3 == 2 { Way::Octave } else { Way::Exact }
-}
-
-fn ask_at(k: usize, c: Twist, d: Twist) -> Ask {
-    let a = ask_of(2, 5, 3, way_at(k), 1);
-    changed(changed(a, change_of(c)), change_of(d))
-}
-
-// A head is written before the calls in exact, and before the one in octave.
-fn head_at(k: usize, head: Head) -> Head {
-    if k % 3 == 1 { Head::Quiet } else { head }
 }
 
 // Both ends of every range, at each place.
-fn end_call(k: usize) -> Twisted {
+fn end_call(k: usize) -> Option<Twisted> {
     let e = k / 3;
-    let p = (e / 64 % 3) as u8;
-    let c = end(e % 64, p);
-    let d = untwisted();
-    Twisted {
-        tried: placed(what_of(c.what), p),
-        asked: asked_at(k),
-        a: ask_at(k, c, d),
-        c,
-        d,
-        head: head_at(k, Head::End),
-        loud: true,
-        low: 0,
-        high: 0,
-    }
+    let c = end_in(&ENDS, e % 64, e / 64 % 3)?;
+    Some(call_on(k, Some(c), None, Head::End(c)))
 }
 
 // Each refusal by itself, which stands here as a pair of twice the same, and each two together, each by each of its faults; the
 // first of nine is written out.
-fn due_call(k: usize) -> Twisted {
+fn due_call(k: usize) -> Option<Twisted> {
     let e = k / 3;
+    let due = Due::of(e / 99, e / 9 % 11)?;
     let variant = e % 9;
-    let low = e / 99;
-    let high = e / 9 % 11;
-    let c = fault(low, variant / 3);
-    let d = fault(high, variant % 3);
-    Twisted {
-        tried: ordered(low, high),
-        asked: asked_at(k),
-        a: ask_at(k, c, d),
-        c,
-        d,
-        head: due_head(k, variant),
-        loud: variant == 0,
-        low,
-        high,
-    }
+    let low = due.low.and_then(|low| fault_in(&FAULTS, low, variant / 3));
+    let high = fault_in(&FAULTS, due.high, variant % 3);
+    let loud = variant == 0;
+    let head = if loud { Head::Due(due) } else { Head::Quiet };
+    Some(Twisted {
+        loud,
+        due: Some(due),
+        ..call_on(k, low, high, head)
+    })
 }
 
-fn due_head(k: usize, variant: usize) -> Head {
-    if variant == 0 {
-        head_at(k, Head::Due)
-    } else {
-        Head::Quiet
-    }
-}
-
-// Whether the lower is not above the higher, and there is a higher one; 0 is none, so that each stands alone too.
-fn ordered(low: usize, high: usize) -> bool {
-    if high == 0 {
-        return false;
-    }
-    low <= high
-}
-
-// Every call by its number.
-pub fn refused_call(k: usize) -> Twisted {
+// Every call by its number, where there is anything to try.
+pub fn refused_call(k: usize) -> Option<Twisted> {
     if k < END_CALLS {
         return end_call(k);
     }

@@ -4,7 +4,8 @@
 ghost use Rattle.std.specs.Prelude.{◌<◌};
 
 use crate::edit::{Edit, Kind, lent_of};
-use second::totals::{more, put_byte};
+use gapped::spelling::spell;
+use second::totals::more;
 
 // How many columns of so many tracks there are.
 fn columns_over(h: usize) -> usize
@@ -13,46 +14,25 @@ fn columns_over(h: usize) -> usize
     if h == 1 { 3 } else { 9 }
 }
 
-// Of the 22,500 edits the first 1,278 are of one track, the others of two; the first of each are of one column, then of two,
-// and so on.
-fn tracks_of(w: usize) -> usize {
-    if w < 1278 { 1 } else { 2 }
-}
-
-fn columns_in(w: usize) -> usize
-    ensures { 0 < result }
+// The tracks and columns of edit w, and its number among those of its size: of the 22,500 edits the first 1,278 are of one
+// track, the others of two; the first of each are of one column, then of two, and so on.
+fn sized(w: usize) -> (usize, usize, usize)
+    ensures { 0 < result.1 }
 {
     match w {
-        0..=8 | 1278..=1358 => 1,
-        9..=62 | 1359..=2816 => 2,
-        306..=1277 => 4,
-        _ => 3,
+        0..=8 => (1, 1, w),
+        9..=62 => (1, 2, w - 9),
+        63..=305 => (1, 3, w - 63),
+        306..=1277 => (1, 4, w - 306),
+        1278..=1358 => (2, 1, w - 1278),
+        1359..=2816 => (2, 2, w - 1359),
+        _ => (2, 3, w.saturating_sub(2817)),
     }
-}
-
-// The number of an edit among those of its size.
-fn number_of(w: usize) -> usize {
-    match w {
-        0..=8 => w,
-        9..=62 => w - 9,
-        63..=305 => w - 63,
-        306..=1277 => w - 306,
-        1278..=1358 => w - 1278,
-        1359..=2816 => w - 1359,
-        _ => rest_of(w, 2817),
-    }
-}
-
-fn rest_of(w: usize, n: usize) -> usize {
-    if n <= w { w - n } else { 0 }
 }
 
 // Each edit four times, by right and by wrong sets.
 pub fn small_edit(k: usize) -> Edit {
-    let w = k / 4;
-    let h = tracks_of(w);
-    let n = columns_in(w);
-    let x = number_of(w);
+    let (h, n, x) = sized(k / 4);
     let all = columns_over(h);
     Edit {
         kind: Kind::Small,
@@ -65,19 +45,7 @@ pub fn small_edit(k: usize) -> Edit {
     }
 }
 
-fn small_cell(digit: usize) -> u8 {
-    match digit {
-        0 => 12,
-        1 => 127,
-        _ => 255,
-    }
-}
-
-// So many cells from a place on, by the digits of x.
-pub fn spell_small(cells: &mut [u8], from: usize, many: usize, x: usize) {
-    let mut rest = x;
-    for i in 0..many {
-        put_byte(cells, more(from, i), small_cell(rest % 3));
-        rest = rest / 3;
-    }
+// So many cells by the digits of x.
+pub fn spell_small(cells: &mut [u8], many: usize, x: usize) {
+    spell(cells, many, x, &[12, 127, 255]);
 }

@@ -1,51 +1,48 @@
 // Edits that can be checked by hand: of one track and up to five columns, each written out with the sets before and after.
 
-use crate::edit::{Edit, Kind, lent_of};
-use second::totals::{more, put_byte, size};
+use crate::edit::{Edit, Kind, Lent};
+use jobs::buffers::fill_by;
 
 // How many there are.
 pub const ROWS: usize = 10;
 
-// A row for each: how many columns, the changed one, what it becomes, the kind of lent sets; then the score.
-const EDITS: [[u8; 9]; 10] = [
-    [3, 2, 61, 0, 60, 255, 62, 0, 0],
-    [3, 2, 255, 0, 60, 61, 62, 0, 0],
-    [5, 5, 67, 0, 60, 255, 255, 255, 255],
-    [5, 5, 255, 0, 60, 255, 255, 255, 62],
-    [5, 1, 255, 0, 60, 62, 255, 64, 65],
-    [3, 1, 62, 0, 255, 255, 60, 0, 0],
-    [2, 2, 64, 0, 255, 62, 0, 0, 0],
-    [1, 1, 62, 0, 60, 0, 0, 0, 0],
-    [5, 3, 65, 2, 60, 62, 64, 66, 68],
-    [5, 3, 255, 3, 60, 62, 64, 66, 68],
+// An edit: the changed column, what it becomes, the lent sets, and the score.
+type Row = (usize, usize, Lent, &'static [u8]);
+
+const EDITS: [Row; ROWS] = [
+    (2, 61, Lent::Right, &[60, 255, 62]),
+    (2, 255, Lent::Right, &[60, 61, 62]),
+    (5, 67, Lent::Right, &[60, 255, 255, 255, 255]),
+    (5, 255, Lent::Right, &[60, 255, 255, 255, 62]),
+    (1, 255, Lent::Right, &[60, 62, 255, 64, 65]),
+    (1, 62, Lent::Right, &[255, 255, 60]),
+    (2, 64, Lent::Right, &[255, 62]),
+    (1, 62, Lent::Right, &[60]),
+    (3, 65, Lent::NoInterval, &[60, 62, 64, 66, 68]),
+    (3, 255, Lent::EveryInterval, &[60, 62, 64, 66, 68]),
 ];
 
-fn item(k: usize, i: usize) -> u8 {
-    if k < ROWS {
-        if i < 9 {
-            return EDITS[k][i];
-        }
-    }
-    0
+fn row(k: usize) -> Row {
+    EDITS[k % ROWS]
 }
 
 pub fn worked_edit(k: usize) -> Edit {
+    let (column, into, lent, score) = row(k);
     Edit {
         kind: Kind::Worked,
         h: 1,
-        n: size(item(k, 0)),
+        n: score.len(),
         score: k,
-        column: size(item(k, 1)),
-        into: size(item(k, 2)),
-        lent: lent_of(size(item(k, 3))),
+        column,
+        into,
+        lent,
     }
 }
 
-// Puts the score into the lent buffer.
+// Puts the score into the lent buffer; behind it there are cells of 0.
 pub fn load_worked(cells: &mut [u8], k: usize) {
-    for i in 0..5 {
-        put_byte(cells, i, item(k, more(i, 4)));
-    }
+    let (.., score) = row(k);
+    fill_by(cells, 5, |i| score.get(i).copied().unwrap_or(0));
 }
 
 // What the changed column becomes.

@@ -1,147 +1,96 @@
 // Counts what was tried, and writes out one that differs.
 
-use crate::answers::Judged;
-use crate::lines::{differing_question, differing_update};
-use jobs::buffers::Tally;
-use judging::compare::differs;
-use second::asks::Ask;
+use crate::answers::{Judged, occurs_in, summary_in};
+use crate::lines::{Mended, differing_question, differing_update};
+use second::asks::{Ask, Case};
 use second::questions::lacks;
-use second::totals::{add, count};
+use second::totals::add;
 use std::io;
 
-// The counts, by their places.
-pub const PREPARED: usize = 0;
-
-pub const SOMEWHERE: usize = 1;
-
-pub const NOWHERE: usize = 2;
-
-pub const LACKING: usize = 3;
-
-pub const UPDATES: usize = 4;
-
-pub const FRESH: usize = 5;
-
-pub const REFUSALS: usize = 6;
-
-pub const DIFFERED: usize = 7;
+// How much was tried, and how many differed.
+#[derive(Clone, Copy, Default)]
+pub struct Tally {
+    pub prepared: u64,
+    pub somewhere: u64,
+    pub nowhere: u64,
+    pub lacking: u64,
+    pub updates: u64,
+    pub fresh: u64,
+    pub refusals: u64,
+    pub differed: u64,
+}
 
 // How many differing cases are written out.
 const SHOWN: u64 = 8;
 
 // Counts a case that differs. Whether it is to be written out.
 fn shown(tally: &mut Tally) -> bool {
-    add(tally, DIFFERED, 1);
-    count(tally, DIFFERED) <= SHOWN
+    add(&mut tally.differed, 1);
+    tally.differed <= SHOWN
 }
 
-// Counts a call at its place, or as a refusal.
-fn counted_at(tally: &mut Tally, refusal: u8, place: usize) {
-    if refusal == 0 {
-        add(tally, place, 1);
-    } else {
-        add(tally, REFUSALS, 1);
-    }
-}
-
-// The place of an accepted question.
-fn answer_place(yes: bool) -> usize {
-    if yes { SOMEWHERE } else { NOWHERE }
-}
-
-// A question or a preparation, with the summary that was lent or given: counts it at a place, or writes out what differs.
-fn noted_at(
+// A preparation: counts it, or writes out what differs.
+pub fn noted_preparation(
     rt: &impl Print,
-    cells: &[u8],
-    theme: &[u8],
-    sets: &[u16],
+    case: Case<'_>,
     tally: &mut Tally,
     a: Ask,
-    summary: u16,
-    s: Judged,
-    place: usize,
+    j: Judged,
 ) -> io::Result<()> {
-    let fault = s.fault;
-    if differs(fault) {
-        if shown(tally) {
-            differing_question(rt, cells, theme, sets, a, summary, s)?;
+    match j.verdict {
+        Err(fault) => {
+            if shown(tally) {
+                differing_question(rt, case, a, summary_in(j.said), j, fault)?;
+            }
         }
-        return Ok(());
+        Ok(()) if j.said.is_ok() => add(&mut tally.prepared, 1),
+        Ok(()) => add(&mut tally.refusals, 1),
     }
-    counted_at(tally, s.said.number, place);
     Ok(())
 }
 
-pub fn noted_preparation(
-    rt: &impl Print,
-    cells: &[u8],
-    theme: &[u8],
-    sets: &[u16],
-    tally: &mut Tally,
-    a: Ask,
-    s: Judged,
-) -> io::Result<()> {
-    noted_at(
-        rt,
-        cells,
-        theme,
-        sets,
-        tally,
-        a,
-        s.said.summary,
-        s,
-        PREPARED,
-    )
-}
-
-// Of questions those that are accepted and that the summary alone settles are counted by themselves too.
+// A question, with the summary that was lent. Those that are accepted and that the summary alone settles are counted by
+// themselves too.
 pub fn noted_question(
     rt: &impl Print,
-    cells: &[u8],
-    theme: &[u8],
-    sets: &[u16],
+    case: Case<'_>,
     tally: &mut Tally,
     a: Ask,
     lent: u16,
-    s: Judged,
+    j: Judged,
 ) -> io::Result<()> {
-    noted_at(
-        rt,
-        cells,
-        theme,
-        sets,
-        tally,
-        a,
-        lent,
-        s,
-        answer_place(s.said.yes),
-    )?;
-    if s.said.number == 0 {
-        if lacks(theme, a.notes, lent) {
-            add(tally, LACKING, 1);
+    match j.verdict {
+        Err(fault) => {
+            if shown(tally) {
+                differing_question(rt, case, a, lent, j, fault)?;
+            }
         }
+        Ok(()) if j.said.is_err() => add(&mut tally.refusals, 1),
+        Ok(()) if occurs_in(j.said) => add(&mut tally.somewhere, 1),
+        Ok(()) => add(&mut tally.nowhere, 1),
+    }
+    if j.said.is_ok() && lacks(case.theme, a.notes, lent) {
+        add(&mut tally.lacking, 1);
     }
     Ok(())
 }
 
-// An update of the old sets.
+// An update.
 pub fn noted_update(
     rt: &impl Print,
-    cells: &[u8],
-    old: &[u16],
-    sets: &[u16],
+    m: Mended<'_>,
     tally: &mut Tally,
     a: Ask,
-    column: u16,
-    s: Judged,
+    j: Judged,
 ) -> io::Result<()> {
-    let fault = s.fault;
-    if differs(fault) {
-        if shown(tally) {
-            differing_update(rt, cells, old, sets, a, column, s)?;
+    match j.verdict {
+        Err(fault) => {
+            if shown(tally) {
+                differing_update(rt, m, a, j, fault)?;
+            }
         }
-        return Ok(());
+        Ok(()) if j.said.is_ok() => add(&mut tally.updates, 1),
+        Ok(()) => add(&mut tally.refusals, 1),
     }
-    counted_at(tally, s.said.number, UPDATES);
     Ok(())
 }

@@ -8,6 +8,7 @@ use lib.Dec.{eqb}
 use lib.ListN.{length}
 use borrow.Author.Tests.{eqb-true}
 use Rattle.theory.proofs.Either.{both_left}
+use Rattle.score.specs.declared.refusals.Rule.TheVariants as rule
 use Rattle.score.specs.declared.refusals.Refusal.{Refusal}
 use Rattle.score.specs.Score.{score_of}
 use Rattle.score.specs.Refusals.{Row, row, judge}
@@ -18,9 +19,8 @@ use Rattle.ways.specs.declared.way.Way.{Way}
 use Rattle.asking.specs.Refusals.{with_sets_rows}
 use Rattle.filter.specs.Limits.{word_bits}
 use Rattle.filter.specs.Table.{theme_table}
-use Rattle.occurring.specs.declared.question.Occurrence.{Occurrence}
-use Rattle.occurring.specs.declared.question.Occurrence.TheVariants.{Refused}
 use Rattle.occurring.specs.Occurring.{lacking, quick_list, by_list, row12, OccursBy, Occurs}
+use Rattle.std.specs.Prelude.{Result, Ok, Err}
 
 module _ (cells : List ℕ) (h : ℕ) (theme : List ℕ) (way : Way) (sets : List ℕ) (s : Summary) (table : List ℕ) where
   abbrev rows : List Row
@@ -28,12 +28,12 @@ module _ (cells : List ℕ) (h : ℕ) (theme : List ℕ) (way : Way) (sets : Lis
 
   module _ {right : Bool} (e : right ≡ eqb (summaryIn sets) s.0) where
     -- a row that does not apply may come last
-    pub by_page_occurs : (lacks : Bool) → (right && not lacks) ≡ true → {answer : Occurrence} {table' : List ℕ}
+    pub by_page_occurs : (lacks : Bool) → (right && not lacks) ≡ true → {answer : Result Bool Refusal} {table' : List ℕ}
         → OccursBy rows cells h theme way sets table answer table' → Occurs cells h theme way sets s table answer table'
     by_page_occurs lacks k a =
         let clear : (row12 sets s).applies ≡ false = ap not (sym e ∙ both_left right (not lacks) k) in
         record {
-          answers = a.answers ∙ last Refused (by_list (quick_list way (score_of cells h) theme sets)) clear;
+          answers = a.answers ∙ last Err (by_list (quick_list way (score_of cells h) theme sets)) clear;
           fills_table = a.fills_table ∙ last (λ r. table) (theme_table word_bits theme) clear;
         }
       where
@@ -50,8 +50,8 @@ module _ (cells : List ℕ) (h : ℕ) (theme : List ℕ) (way : Way) (sets : Lis
         step true z = refl
         step false z = absurd (true≢false z)
 
-    pub without_walk_occurs : {answer : Occurrence} {table' : List ℕ}
-        → ((w : Way) → OccursBy (rows ++ row 12 (not right) 0 ∷ []) cells h theme w sets table answer table')
+    pub without_walk_occurs : {answer : Result Bool Refusal} {table' : List ℕ}
+        → ((w : Way) → OccursBy (rows ++ row rule.Summary (not right) 0 ∷ []) cells h theme w sets table answer table')
         → Occurs cells h theme way sets s table answer table'
     without_walk_occurs {answer} {table'} a =
-        subst (λ (b : Bool). OccursBy (rows ++ row 12 (not b) 0 ∷ []) cells h theme way sets table answer table') e (a way)
+        subst (λ (b : Bool). OccursBy (rows ++ row rule.Summary (not b) 0 ∷ []) cells h theme way sets table answer table') e (a way)

@@ -1,5 +1,5 @@
--- How a lacking interval is looked for: after the notes up to the i-th, the flag says whether an interval between them is
--- lacking. Assumes nothing.
+-- How a lacking interval is looked for: after the first i intervals, the flag says whether one of them is lacking. Assumes
+-- nothing.
 use mathlib.Core.Path.{◌≡◌, sym, ap, ◌∙◌}
 use mathlib.Core.Bool.{Bool, false, ◌||◌}
 use mathlib.Core.List.{List}
@@ -32,28 +32,23 @@ module _ (theme : List ℕ) (set : ℕ) where
   abbrev places : List ℕ
   places = count 0 (length theme - 1)
 
-  -- i notes are passed
+  -- i intervals are passed
   pub record Looked (i : ℕ) (flag : Bool) : Type 0 where
-    pub from_first : 1 ≤ i
-    pub flagged : Flagged test places (i - 1) flag
+    pub flagged : Flagged test places i flag
 
-  pub looked_start : Looked 1 false
-  looked_start = record { from_first = omega arith; flagged = flagged_start test places }
+  pub looked_start : Looked 0 false
+  looked_start = record { flagged = flagged_start test places }
 
-  pub looked_more : {i : ℕ} {flag : Bool} {d : Interval} → Looked i flag → i < length theme
-      → d ≡ interval (pitch (get_or theme (i - 1) 0)) (pitch (get_or theme i 0)) → Looked (i + 1) (flag || eqb (bit_and (set / 2 ^ d.0) 1) 1)
+  pub looked_more : {i : ℕ} {flag : Bool} {d : Interval} → Looked i flag → i + 1 < length theme
+      → d ≡ interval (pitch (get_or theme i 0)) (pitch (get_or theme (i + 1) 0)) → Looked (i + 1) (flag || eqb (bit_and (set / 2 ^ d.0) 1) 1)
   looked_more {i} {flag} {d} l h e =
-      let next : i - 1 + 1 ≡ i + 1 - 1 = omega (arith, l.from_first) in
-      let at : get_or places (i - 1) 0 ≡ i - 1 = count_at 0 (length theme - 1) (i - 1) 0 (omega (arith, l.from_first)) ∙ omega arith in
-      let earlier : i - 1 + 1 - 1 ≡ i - 1 = omega arith in
-      let later : i - 1 + 2 - 1 ≡ i = omega (arith, l.from_first) in
-      let own : theme_interval theme (i - 1) ≡ d = rw (earlier, later) (sym e) in
-      let tested : eqb (bit_and (set / 2 ^ d.0) 1) 1 ≡ test (get_or places (i - 1) 0) =
+      let at : get_or places i 0 ≡ i = count_at 0 (length theme - 1) i 0 (omega arith) ∙ omega arith in
+      let earlier : i + 1 - 1 ≡ i = omega arith in
+      let later : i + 2 - 1 ≡ i + 1 = omega arith in
+      let own : theme_interval theme i ≡ d = rw (earlier, later) (sym e) in
+      let tested : eqb (bit_and (set / 2 ^ d.0) 1) 1 ≡ test (get_or places i 0) =
       ap (λ (x : ℕ). eqb x 1) (shr_and_one set d.0) ∙ ap (λ (x : Interval). eqb (bit set x.0) 1) (sym own) ∙ ap test (sym at) in
-      record {
-        from_first = omega arith;
-        flagged = rw next at (flagged_more test places 0 l.flagged (omega (arith, l.from_first, count_length 0 (length theme - 1))) tested);
-      }
+      record { flagged = flagged_more test places 0 l.flagged (omega (arith, count_length 0 (length theme - 1))) tested }
 
-  pub looked_end : {i : ℕ} {flag : Bool} → Looked i flag → length theme ≤ i → flag ≡ lacking theme set
+  pub looked_end : {i : ℕ} {flag : Bool} → Looked i flag → length theme ≤ i + 1 → flag ≡ lacking theme set
   looked_end l h = flagged_end test places l.flagged (omega (arith, count_length 0 (length theme - 1)))

@@ -10,7 +10,6 @@ use lib.ListN.{length}
 use borrow.Author.Tests.{eq-eqb, ne_eqb}
 use Rattle.score.specs.Limits.{table_words}
 use Rattle.score.specs.declared.refusals.Refusal.{Refusal}
-use Rattle.score.specs.declared.refusals.Verdict.TheVariants.{Accepted as Passed, Refused as Turned}
 use Rattle.score.specs.Score.{score_of}
 use Rattle.score.specs.Refusals.{Row, row, judge, verdict}
 use Rattle.score.proofs.Judging.{judge_here, judge_next, judge_refused, judge_accepted}
@@ -23,10 +22,9 @@ use Rattle.asking.specs.Asking.{Accepted, AcceptedSets}
 use Rattle.asking.proofs.Rows.{accepted_clear, sets_clear}
 use Rattle.filter.specs.Limits.{word_bits}
 use Rattle.filter.specs.Table.{theme_table, table_after}
-use Rattle.occurring.specs.declared.question.Occurrence.{Occurrence}
-use Rattle.occurring.specs.declared.question.Occurrence.TheVariants.{Nowhere, Refused}
 use Rattle.occurring.specs.Occurring.{lacking, quick_list, by_list, OccursBy}
 use Rattle.occurring.proofs.Absent.{lacking_none}
+use Rattle.std.specs.Prelude.{Result, Ok, Err}
 
 module _ (cells : List ℕ) (h : ℕ) (theme sets table : List ℕ) where
   abbrev rows : List Row
@@ -38,39 +36,39 @@ module _ (cells : List ℕ) (h : ℕ) (theme sets table : List ℕ) where
     pub with_sets : AcceptedSets cells h sets
     pub table_long : length table ≡ table_words
 
-  pub ready : verdict rows ≡ Passed → Ready
+  pub ready : verdict rows ≡ Ok tt → Ready
   ready e =
       let (request, lent) = clear_split (request_rows most_notes cells h theme) (sets_rows cells h sets (length table)) (verdict_clear rows e) in
       let (with_sets, long) = (sets_clear cells h sets table).1 lent in
       record { accepted = (accepted_clear most_notes cells h theme).1 request; with_sets = with_sets; table_long = long }
 
   module _ (more : Row) (way : Way) where
-    abbrev answer : Occurrence
+    abbrev answer : Result Bool Refusal
     answer = by_list (quick_list way (score_of cells h) theme sets)
 
     abbrev filled : List ℕ
     filled = theme_table word_bits theme
 
     -- one of the rows of what was prepared
-    pub away_answers : {r : Refusal} → verdict rows ≡ Turned r → OccursBy (rows ++ more ∷ []) cells h theme way sets table (Refused r) table
+    pub away_answers : {r : Refusal} → verdict rows ≡ Err r → OccursBy (rows ++ more ∷ []) cells h theme way sets table (Err r) table
     away_answers e =
         record {
-          answers = sym (judge_refused Refused answer rows (more ∷ []) e);
+          answers = sym (judge_refused Err answer rows (more ∷ []) e);
           fills_table = sym (judge_refused (λ r. table) (theme_table word_bits theme) rows (more ∷ []) e);
         }
 
-    module _ (e : verdict rows ≡ Passed) where
+    module _ (e : verdict rows ≡ Ok tt) where
       -- the row after them
-      pub more_answers : more.applies ≡ true → OccursBy (rows ++ more ∷ []) cells h theme way sets table (Refused more.given) table
+      pub more_answers : more.applies ≡ true → OccursBy (rows ++ more ∷ []) cells h theme way sets table (Err more.given) table
       more_answers k =
           record {
-            answers = sym (judge_accepted Refused answer rows (more ∷ []) e ∙ judge_here Refused answer more [] k);
+            answers = sym (judge_accepted Err answer rows (more ∷ []) e ∙ judge_here Err answer more [] k);
             fills_table =
                 sym (judge_accepted (λ r. table) filled rows (more ∷ []) e ∙ judge_here (λ r. table) filled more [] k);
           }
 
       -- no row: the theme's table is filled, and the answer is no
-      pub none_answers : {o : Occurrence} {table' : List ℕ} → more.applies ≡ false → lacking theme (summary sets) ≡ true → o ≡ Nowhere
+      pub none_answers : {o : Result Bool Refusal} {table' : List ℕ} → more.applies ≡ false → lacking theme (summary sets) ≡ true → o ≡ Ok false
           → table' ≡ table_after word_bits theme table → OccursBy (rows ++ more ∷ []) cells h theme way sets table o table'
       none_answers k l n f =
           let r = ready e in
@@ -80,7 +78,7 @@ module _ (cells : List ℕ) (h : ℕ) (theme sets table : List ℕ) where
           record {
             answers =
                 let none = lacking_none cells h theme way sets r.accepted r.with_sets l in
-                n ∙ sym (judge_accepted Refused answer rows (more ∷ []) e ∙ judge_next Refused answer more [] k ∙ ap by_list none);
+                n ∙ sym (judge_accepted Err answer rows (more ∷ []) e ∙ judge_next Err answer more [] k ∙ ap by_list none);
             fills_table =
                 f ∙ after ∙ sym (judge_accepted (λ r. table) filled rows (more ∷ []) e ∙ judge_next (λ r. table) filled more [] k);
           }

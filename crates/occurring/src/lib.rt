@@ -8,4 +8,4 @@
 mod lacking;
 pub mod question;
 
-pub use question::{Occurrence, occurs};
+pub use question::occurs;

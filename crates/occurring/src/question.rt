@@ -4,7 +4,7 @@
 // what is lent. Otherwise what is lent is checked here: a wrong summary is refused, and a right one that lacks an interval means
 // no, without a search.
 
-ghost use Rattle.std.specs.Prelude.{true, not, [], ◌∷◌, ◌++◌, ◌≡◌, eqb, length};
+ghost use Rattle.std.specs.Prelude.{Ok, true, false, not, [], ◌∷◌, ◌++◌, ◌≡◌, eqb, length};
 ghost use Rattle.score.specs.Refusals.{row};
 ghost use Rattle.ways.specs.declared.way.Way.{Way};
 ghost use Rattle.asking.specs.Refusals.{with_sets_rows};
@@ -16,22 +16,14 @@ ghost use Rattle.occurring.specs.Occurring.{lacking, OccursBy, Occurs};
 use crate::lacking::lacks;
 use asking::check_with_sets;
 use filter::fill_table;
-use score::{Refusal, Verdict};
-use search::{AnyWay, Bookmark, Page, Way, quick_page};
+use score::{Refusal, Rule};
+use search::{AnyWay, Bookmark, Way, quick_page};
 use summing::{Summary, summary_of};
 
-// The answer by the lent sets: the quick list has a pair, or it has none, or a refusal. With the score's own sets the theme then
-// stands somewhere, or nowhere; with others it may stand where they make no candidate.
-#[derive(Clone, Copy)]
-pub enum Occurrence {
-    Somewhere,
-    Nowhere,
-    Refused(Refusal),
-}
-
-// Whether the theme stands anywhere, in exact or octave, by the lent sets and their summary. Fills the theme's table, whatever it
-// held, also where the answer is no. Refuses 1 to 8, and 12 for a summary that is not that of the lent sets, and then writes
-// nothing.
+// Whether the theme stands anywhere, in exact or octave, by the lent sets and their summary: whether the quick list has a pair.
+// With the score's own sets that is whether the theme stands somewhere; with others it may stand where they make no candidate.
+// Fills the theme's table, whatever it held, also where the answer is no. Refuses 1 to 8, and 12 for a summary that is not that
+// of the lent sets, and then writes nothing.
 pub fn occurs(
     cells: &[u8],
     tracks: usize,
@@ -40,7 +32,7 @@ pub fn occurs(
     sets: &[u16],
     summary: Summary,
     table: &mut [u32],
-) -> Occurrence
+) -> Result<bool, Refusal>
     ensures { Occurs cells.now tracks theme.now way sets.now summary table.old result table.new }
 {
     let right = is_summary(sets, summary);
@@ -66,13 +58,13 @@ fn by_page(
     way: Way,
     sets: &[u16],
     table: &mut [u32],
-) -> Occurrence
+) -> Result<bool, Refusal>
     ensures { OccursBy (with_sets_rows cells.now tracks theme.now sets.now (length table.old)) cells.now tracks theme.now way sets.now table.old result table.new }
 {
     let mut columns = [0u16; 1];
     let mut shifts = [0i16; 1];
     let first = Bookmark::first(AnyWay::Moved(way));
-    let page = quick_page(
+    let t = quick_page(
         cells,
         tracks,
         theme,
@@ -82,17 +74,8 @@ fn by_page(
         table,
         &mut columns,
         &mut shifts,
-    );
-    match page {
-        Page::Turned(t) => {
-            if t.written == 0 {
-                Occurrence::Nowhere
-            } else {
-                Occurrence::Somewhere
-            }
-        }
-        Page::Refused(e) => Occurrence::Refused(e),
-    }
+    )?;
+    Ok(t.written != 0)
 }
 
 // The answer where the summary is not right, or lacks an interval of the theme: then neither exact nor octave lists a pair.
@@ -103,27 +86,22 @@ fn without_walk(
     sets: &[u16],
     right: bool,
     table: &mut [u32],
-) -> Occurrence
+) -> Result<bool, Refusal>
     requires { right ≡ true → lacking theme.now (summaryIn sets.now) ≡ true }
-    ensures { (way : Way) → OccursBy (with_sets_rows cells.now tracks theme.now sets.now (length table.old) ++ row 12 (not right) 0 ∷ []) cells.now tracks theme.now way sets.now table.old result table.new }
+    ensures { (way : Way) → OccursBy (with_sets_rows cells.now tracks theme.now sets.now (length table.old) ++ row Rule.Summary (not right) 0 ∷ []) cells.now tracks theme.now way sets.now table.old result table.new }
 {
-    if let Verdict::Refused(e) = check_with_sets(cells, tracks, theme, sets, table.len()) {
-        return Occurrence::Refused(e);
-    }
+    check_with_sets(cells, tracks, theme, sets, table.len())?;
     if !right {
-        return Occurrence::Refused(Refusal {
-            number: 12,
-            place: 0,
-        });
+        return Err(Refusal::new(Rule::Summary));
     }
     nowhere(theme, table)
 }
 
 // The answer is no, and the table is filled.
-fn nowhere(theme: &[u8], table: &mut [u32]) -> Occurrence
-    ensures value { result ≡ Occurrence.Nowhere }
+fn nowhere(theme: &[u8], table: &mut [u32]) -> Result<bool, Refusal>
+    ensures value { result ≡ Ok false }
     ensures table_after { table.new ≡ table_after word_bits theme.now table.old }
 {
     fill_table(theme, table);
-    Occurrence::Nowhere
+    Ok(false)
 }

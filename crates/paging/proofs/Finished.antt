@@ -14,13 +14,13 @@ use Rattle.ways.specs.declared.bookmark.Pair.{Pair}
 use Rattle.ways.specs.declared.bookmark.Bookmark.{Bookmark}
 use Rattle.ways.specs.Way.{Range}
 use Rattle.ways.specs.Bookmarks.{finished_bookmark}
-use Rattle.paging.specs.declared.page.Page.TheVariants.{Turned}
 use Rattle.paging.specs.Lent.{Lent, Room, written}
 use Rattle.paging.specs.Order.{Within, at_or_after}
 use Rattle.paging.specs.Search.{Search, left, found, spent}
 use Rattle.paging.specs.Page.{Leaf, turn}
 use Rattle.paging.proofs.Bookmarks.{finished_range}
 use Rattle.paging.proofs.Paging.{Calls, call_leaf}
+use Rattle.std.specs.Prelude.{Ok}
 
 -- no pair of the score stands there
 none_after : {range : Range} {n : ℕ} {pair : Pair} → n < 65535 → Within range n pair → at_or_after (finished_bookmark range (column_at n)) pair ≡ false
@@ -50,10 +50,10 @@ module _ {Start : Type 0} {S : Search Start} {r : ℕ} {call : Bookmark → Lent
       (λ s m. none_after calls.right.few (calls.right.each s m)) ∙ hits_none S.starts
 
   pub finished_again : (buffers : Lent) → Room r buffers
-      → call ended buffers ≡ record { answer = Turned (record { written = 0; next = ended; finished = true; looks = 0 }); buffers = buffers }
+      → call ended buffers ≡ record { answer = Ok (record { written = 0; next = ended; finished = true; looks = 0 }); buffers = buffers }
   finished_again buffers room =
       let f : found S r ended ≡ [] = ap (λ (l : List Start). map S.shown (page_hits S.hit r l)) none_left ∙ ap (map S.shown) (page_none S.hit r) in
       let g : spent S r ended ≡ 0 = ap (page_looks S.hit S.looks r) none_left ∙ looks_none S.hit S.looks r in
       call_leaf calls ended (finished_range calls.right.narrow S.columns calls.right.few) buffers room
-      ∙ ap₂ (λ (pairs : List Pair) (k : ℕ). record { answer = Turned (turn S.range S.columns r pairs k); buffers = written buffers pairs }) f g
+      ∙ ap₂ (λ (pairs : List Pair) (k : ℕ). record { answer = Ok (turn S.range S.columns r pairs k); buffers = written buffers pairs }) f g
       ∙ rw (lt-leb r 0 calls.some_room)

@@ -25,8 +25,6 @@ use Rattle.ways.specs.declared.bookmark.Bookmark.{Bookmark}
 use Rattle.ways.specs.Bookmarks.{first_bookmark, after_pair, finished_bookmark, key_of}
 use Rattle.asking.specs.Asking.{InRange}
 use Rattle.paging.specs.declared.page.Turn.{Turn}
-use Rattle.paging.specs.declared.page.Page.{Page}
-use Rattle.paging.specs.declared.page.Page.TheVariants.{Turned, Refused}
 use Rattle.paging.specs.Lent.{Lent, Room, written, read_pairs}
 use Rattle.paging.specs.Order.{Ordered, more, Within, at_or_after}
 use Rattle.paging.specs.Search.{Search, Right, left, found, spent}
@@ -35,14 +33,16 @@ use Rattle.paging.specs.Reading.{Turns}
 use Rattle.paging.proofs.Keys.{Near, pair_key, pair_order, before_key}
 use Rattle.paging.proofs.Bookmarks.{within_near, mark_below, mark_above, after_key, after_range, finished_range, after_first}
 use Rattle.paging.proofs.Buffers.{read_back}
+use Rattle.std.specs.Prelude.{Result, Ok, Err}
+use Rattle.score.specs.declared.refusals.Refusal.{Refusal}
 
 -- ---- a page that was turned tells its turn
 
-abbrev turn_of : Turn → Page → Turn
-turn_of d (Turned t) = t
-turn_of d (Refused r) = d
+abbrev turn_of : Turn → Result Turn Refusal → Turn
+turn_of d (Ok t) = t
+turn_of d (Err r) = d
 
-pub turned_same : {t u : Turn} → Turned t ≡ Turned u → t ≡ u
+pub turned_same : {t u : Turn} → ◌≡◌ {A = Result Turn Refusal} (Ok t) (Ok u) → t ≡ u
 turned_same {t} e = ap (turn_of t) e
 
 -- ---- along starts that show pairs in order their numbers rise
@@ -166,12 +166,12 @@ module _ {Start : Type 0} {S : Search Start} {r : ℕ} {call : Bookmark → Lent
   told = answer S calls.right r calls.some_room
 
   module _ (b : Bookmark) (i : InRange S.range S.columns b) (buffers : Lent) (room : Room r buffers) where
-    pub call_leaf : call b buffers ≡ record { answer = Turned (told b); buffers = written buffers (found S r b) }
+    pub call_leaf : call b buffers ≡ record { answer = Ok (told b); buffers = written buffers (found S r b) }
     call_leaf =
         calls.turns b buffers i room
-        ∙ ap (λ (k : ℕ). record { answer = Turned (turn S.range S.columns k (found S k b) (spent S k b)); buffers = written buffers (found S k b) }) room.of_columns
+        ∙ ap (λ (k : ℕ). record { answer = Ok (turn S.range S.columns k (found S k b) (spent S k b)); buffers = written buffers (found S k b) }) room.of_columns
 
-    pub call_answer : (call b buffers).answer ≡ Turned (told b)
+    pub call_answer : (call b buffers).answer ≡ Ok (told b)
     call_answer = ap (λ (l : Leaf). l.answer) call_leaf
 
     pub call_read : read_pairs (told b).written (call b buffers).buffers ≡ found S r b

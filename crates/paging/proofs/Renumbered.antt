@@ -22,7 +22,6 @@ use Rattle.ways.specs.declared.bookmark.Pair.{Pair}
 use Rattle.ways.specs.declared.bookmark.Bookmark.{Bookmark}
 use Rattle.ways.specs.Bookmarks.{finished_bookmark}
 use Rattle.paging.specs.declared.page.Turn.{Turn}
-use Rattle.paging.specs.declared.page.Page.TheVariants.{Turned}
 use Rattle.paging.specs.Lent.{Lent, lent}
 use Rattle.paging.specs.Order.{Before, Ordered, none, one, more, at_or_after, Within}
 use Rattle.paging.specs.Search.{Search, Right, left, found, spent, renamed, renumbered}
@@ -31,6 +30,7 @@ use Rattle.paging.specs.Turning.{read_turn}
 use Rattle.paging.proofs.Buffers.{same_columns, same_shifts}
 use Rattle.paging.proofs.Paging.{turned_same}
 use Rattle.paging.proofs.Turnings.{went_pages}
+use Rattle.std.specs.Prelude.{Ok}
 
 -- ---- numbers that rise
 
@@ -93,10 +93,10 @@ module _ {Start : Type 0} (n : ℕ) (number : ℕ → ℕ) (S : Search Start) (b
     (same : (s : Start) → In s S.starts → at_or_after b (renamed number (S.shown s)) ≡ at_or_after b' (S.shown s)) (rows : List Row) (columns : List ℕ) (shifts : List ℤ) where
   -- a page of the search was turned, its columns were renamed where they stand, and the answer was read off the buffers
   pub renumbered_pages : 1 ≤ length columns → length shifts ≡ length columns → Clear rows → {t u : Turn} {columns' columns'' : List ℕ} {shifts' : List ℤ}
-      → Pages (leaf S b' (lent columns shifts)) (Turned t) (lent columns' shifts')
+      → Pages (leaf S b' (lent columns shifts)) (Ok t) (lent columns' shifts')
       → columns'' ≡ over columns' (map number (take t.written columns'))
       → u ≡ read_turn (finished_bookmark S.range (column_at n)) t.written t.looks (lent columns'' shifts')
-      → Pages (paged rows (renumbered n number S) b (lent columns shifts)) (Turned u) (lent columns'' shifts')
+      → Pages (paged rows (renumbered n number S) b (lent columns shifts)) (Ok u) (lent columns'' shifts')
   renumbered_pages some room clear {t} {u} {columns'} {columns''} {shifts'} p e a =
       let r = length columns in
       let F : List Pair = found S r b' in

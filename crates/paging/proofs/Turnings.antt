@@ -23,13 +23,13 @@ use Rattle.ways.specs.declared.bookmark.Bookmark.{Bookmark}
 use Rattle.ways.specs.Way.{Range}
 use Rattle.ways.specs.Bookmarks.{finished_bookmark}
 use Rattle.paging.specs.declared.page.Turn.{Turn}
-use Rattle.paging.specs.declared.page.Page.TheVariants.{Turned, Refused}
 use Rattle.paging.specs.Lent.{Lent, Room, written}
 use Rattle.paging.specs.Search.{Search, left, found, spent}
 use Rattle.paging.specs.Page.{Leaf, turn, paged, away, Pages}
 use Rattle.paging.specs.Turning.{read_turn, unfilled}
 use Rattle.paging.proofs.Buffers.{written_room}
 use Rattle.paging.proofs.Answers.{paged_clear}
+use Rattle.std.specs.Prelude.{Ok, Err}
 
 -- the last entry written, where all places were
 last_read : {B : Type 0} (f : Pair → B) (d : List B) (z : B) (p : Pair) (ps : List Pair) (r : ℕ) → length ps ≡ r → 1 ≤ r
@@ -75,21 +75,21 @@ turned_page range n r buffers pairs looks some room few = pick (dec_lt (length p
 
 module _ {Start : Type 0} (rows : List Row) (S : Search Start) (b : Bookmark) (buffers : Lent) where
   -- turned away
-  pub away_pages : {r : Refusal} {after : Lent} → paged rows S b buffers ≡ away buffers r → after ≡ buffers → Pages (paged rows S b buffers) (Refused r) after
+  pub away_pages : {r : Refusal} {after : Lent} → paged rows S b buffers ≡ away buffers r → after ≡ buffers → Pages (paged rows S b buffers) (Err r) after
   away_pages p e = record { answers = sym (ap (λ (l : Leaf). l.answer) p); writes = e ∙ sym (ap (λ (l : Leaf). l.buffers) p) }
 
   -- it found the page's pairs, counted its looks and wrote the pairs, and the answer was read off the buffers
   pub went_pages : (r : ℕ) → 1 ≤ r → Room r buffers → Clear rows → {count looks : ℕ} {after : Lent} {t : Turn}
       → count ≡ length (found S r b) → looks ≡ spent S r b → after ≡ written buffers (found S r b)
       → t ≡ read_turn (finished_bookmark S.range (column_at S.columns)) count looks after
-      → Pages (paged rows S b buffers) (Turned t) after
+      → Pages (paged rows S b buffers) (Ok t) after
   went_pages r some room clear {count} {looks} {after} {t} c l w e =
       let few : length (found S r b) ≤ r = omega (arith, length-map (page_hits S.hit r (left S b)) S.shown, page_le S.hit r (left S b)) in
       let p : t ≡ turn S.range S.columns r (found S r b) (spent S r b) =
       e ∙ rw (c, l, w) (turned_page S.range S.columns r buffers (found S r b) (spent S r b) some room few) in
-      let q : record { answer = Turned t; buffers = after } ≡ paged rows S b buffers =
+      let q : record { answer = Ok t; buffers = after } ≡ paged rows S b buffers =
       rw (p, w)
       (sym
       (paged_clear rows S b buffers clear
-      ∙ ap (λ (k : ℕ). record { answer = Turned (turn S.range S.columns k (found S k b) (spent S k b)); buffers = written buffers (found S k b) }) room.of_columns)) in
+      ∙ ap (λ (k : ℕ). record { answer = Ok (turn S.range S.columns k (found S k b) (spent S k b)); buffers = written buffers (found S k b) }) room.of_columns)) in
       record { answers = ap (λ (x : Leaf). x.answer) q; writes = ap (λ (x : Leaf). x.buffers) q }

@@ -20,14 +20,13 @@ use Rattle.ways.specs.declared.bookmark.Bookmark.{Bookmark}
 use Rattle.ways.specs.Bookmarks.{first_bookmark}
 use Rattle.asking.specs.Asking.{InRange}
 use Rattle.paging.specs.declared.page.Turn.{Turn}
-use Rattle.paging.specs.declared.page.Page.{Page}
-use Rattle.paging.specs.declared.page.Page.TheVariants.{Turned, Refused}
 use Rattle.paging.specs.Lent.{Lent, Room, read_pairs}
 use Rattle.paging.specs.Search.{Search, Right, listed, all_looks, left, found}
 use Rattle.paging.specs.Page.{Leaf, Pages}
 use Rattle.paging.proofs.Answers.{turned_refused}
 use Rattle.paging.proofs.Bookmarks.{first_range}
 use Rattle.paging.proofs.Paging.{Calls, is_full, told, turned_same, finished_is, left_first, next_left, next_range, call_answer, call_read}
+use Rattle.std.specs.Prelude.{Result, Ok, Err}
 
 -- what is left of a search: all at the bookmark, or nothing where no page is left
 module _ {Start : Type 0} (S : Search Start) where
@@ -103,12 +102,12 @@ module _ {Start : Type 0} {S : Search Start} {r : ℕ} {call : Bookmark → Lent
       sym (rw (page_take S.hit r (left S b), rest_drop S.hit r (left S b)) (take-append-drop r (hits S.hit (left S b)))) in
       ap (map S.shown) e ∙ map-append S.shown (page_hits S.hit r (left S b)) (hits S.hit (rest S.hit r (left S b)))
 
-  module _ (buffers : Lent) (room : Room r buffers) {page : Page} {after : Lent} (q : Pages (call b buffers) page after) where
+  module _ (buffers : Lent) (room : Room r buffers) {page : Result Turn Refusal} {after : Lent} (q : Pages (call b buffers) page after) where
     -- it is never refused
-    pub page_accepted : {e : Refusal} → page ≡ Refused e → ⊥
+    pub page_accepted : {e : Refusal} → page ≡ Err e → ⊥
     page_accepted e = turned_refused (sym (q.answers ∙ call_answer calls b i buffers room) ∙ e)
 
-    module _ {t : Turn} (e : page ≡ Turned t) where
+    module _ {t : Turn} (e : page ≡ Ok t) where
       turn_is : t ≡ told calls b
       turn_is = turned_same (sym e ∙ q.answers ∙ call_answer calls b i buffers room)
 

@@ -1,13 +1,11 @@
 -- What a call comes to that turns the pages of a list: whatever buffers it is lent, page after page from a bookmark on it lists these pairs,
 -- in so many pages, with so many looks (`Lists`); and that one page is another with no more looks (`SamePage`). Assumes nothing.
-use Rattle.std.specs.Prelude.{◌≡◌, List, map, ℕ, suc, ◌+◌, ◌/◌, ◌≤◌, length}
+use Rattle.std.specs.Prelude.{◌≡◌, List, map, ℕ, suc, ◌+◌, ◌/◌, ◌≤◌, length, Result, Ok, Err}
 use Rattle.theory.specs.Lists.{sum, join}
 use Rattle.score.specs.declared.refusals.Refusal.{Refusal}
 use Rattle.ways.specs.declared.bookmark.Pair.{Pair}
 use Rattle.ways.specs.declared.bookmark.Bookmark.{Bookmark}
 use Rattle.paging.specs.declared.page.Turn.{Turn}
-use Rattle.paging.specs.declared.page.Page.{Page}
-use Rattle.paging.specs.declared.page.Page.TheVariants.{Turned, Refused}
 use Rattle.paging.specs.Lent.{Lent, Room}
 use Rattle.paging.specs.Page.{Leaf}
 use Rattle.paging.specs.Reading.{Reading, last, more}
@@ -15,10 +13,10 @@ use Rattle.paging.specs.Reading.{Reading, last, more}
 -- ---- one page and another
 
 -- the same answer, with no more looks; or the same refusal
-pub data NoDearer : Page → Page → Type 0 where
+pub data NoDearer : Result Turn Refusal → Result Turn Refusal → Type 0 where
   turned : {t u : Turn} → t.written ≡ u.written → t.next ≡ u.next → t.finished ≡ u.finished → t.looks ≤ u.looks
-      → NoDearer (Turned t) (Turned u)
-  refused : {r : Refusal} → NoDearer (Refused r) (Refused r)
+      → NoDearer (Ok t) (Ok u)
+  refused : {r : Refusal} → NoDearer (Err r) (Err r)
 
 pub record SamePage (a b : Leaf) : Type 0 where
   pub answers : NoDearer a.answer b.answer

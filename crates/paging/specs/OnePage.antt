@@ -1,13 +1,12 @@
 -- What one page is, said of the list of pairs and in the requirement's words: the first r pairs at or after the bookmark, what stays behind
 -- them, and where it goes on (`PageOf`). That the pages of `Page` are such pages is proved (`proofs/OnePages`). Assumes nothing.
-use Rattle.std.specs.Prelude.{◌≡◌, true, false, List, ℕ, ◌+◌, ◌<◌, pos, ◌+ℤ◌, length, take}
+use Rattle.std.specs.Prelude.{◌≡◌, true, false, List, ℕ, ◌+◌, ◌<◌, pos, ◌+ℤ◌, length, take, Ok}
 use Rattle.theory.specs.Pages.{hits}
 use Rattle.score.specs.Score.{column_at}
 use Rattle.ways.specs.declared.bookmark.Pair.{Pair}
 use Rattle.ways.specs.declared.bookmark.Bookmark.{Bookmark}
 use Rattle.ways.specs.Way.{Range}
 use Rattle.paging.specs.declared.page.Turn.{Turn}
-use Rattle.paging.specs.declared.page.Page.TheVariants.{Turned}
 use Rattle.paging.specs.Lent.{Lent, behind, read_pairs}
 use Rattle.paging.specs.Order.{at_or_after}
 use Rattle.paging.specs.Page.{Leaf, last_pair}
@@ -24,7 +23,7 @@ raised pair = record { column = pair.column; shift = pair.shift +ℤ pos 1 }
 -- looks are those of every start from the bookmark on, up to the one that fills the page (`spent` of a search)
 pub record PageOf (list : List Pair) (range : Range) (n looks : ℕ) (b : Bookmark) (buffers : Lent) (leaf : Leaf) : Type 0 where
   pub turn : Turn
-  pub answered : leaf.answer ≡ Turned turn
+  pub answered : leaf.answer ≡ Ok turn
   -- the pairs are written from the front; places behind them keep their contents
   pub count : turn.written ≡ length (first_pairs (length buffers.columns) b list)
   pub front : read_pairs turn.written leaf.buffers ≡ first_pairs (length buffers.columns) b list

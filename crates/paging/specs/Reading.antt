@@ -1,11 +1,10 @@
 -- How an editor reads a list: page after page, each call with buffers of r places that hold whatever they held, each going on from the
 -- bookmark last returned, up to the first page that is finished. `Reading` says which pairs the pages hold and what each page
 -- answered. Assumes nothing.
-use Rattle.std.specs.Prelude.{◌≡◌, true, false, List, [], ◌∷◌, ℕ}
+use Rattle.std.specs.Prelude.{◌≡◌, true, false, List, [], ◌∷◌, ℕ, Ok}
 use Rattle.ways.specs.declared.bookmark.Pair.{Pair}
 use Rattle.ways.specs.declared.bookmark.Bookmark.{Bookmark}
 use Rattle.paging.specs.declared.page.Turn.{Turn}
-use Rattle.paging.specs.declared.page.Page.TheVariants.{Turned}
 use Rattle.paging.specs.Lent.{Lent, Room, read_pairs}
 use Rattle.paging.specs.Page.{Leaf}
 
@@ -13,7 +12,7 @@ use Rattle.paging.specs.Page.{Leaf}
 pub record Turns (call : Bookmark → Lent → Leaf) (r : ℕ) (b : Bookmark) (t : Turn) (pairs : List Pair) : Type 0 where
   pub buffers : Lent
   pub room : Room r buffers
-  pub answered : (call b buffers).answer ≡ Turned t
+  pub answered : (call b buffers).answer ≡ Ok t
   pub left : pairs ≡ read_pairs t.written (call b buffers).buffers
 
 module _ (call : Bookmark → Lent → Leaf) (r : ℕ) where

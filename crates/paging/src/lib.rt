@@ -7,4 +7,4 @@
 
 pub mod page;
 
-pub use page::{Page, Turn, turned};
+pub use page::{Turn, turned};

@@ -4,10 +4,11 @@ ghost use Rattle.std.specs.Prelude.{◌≡◌};
 ghost use Rattle.paging.specs.Lent.{lent};
 ghost use Rattle.paging.specs.Turning.{read_turn, unfilled};
 
-use score::{Column, Refusal};
+use score::Column;
 use ways::{Bookmark, Pair};
 
-// A page: how many pairs were written, where the next page goes on, whether the list is finished, and the looks.
+// A page: how many pairs were written, where the next page goes on, whether the list is finished, and the looks. A finished list
+// has a next bookmark too, its end, so `finished` guards no value, and C is told all of them.
 #[derive(Clone, Copy)]
 pub struct Turn {
     pub written: usize,
@@ -16,13 +17,8 @@ pub struct Turn {
     pub looks: u32,
 }
 
-#[derive(Clone, Copy)]
-pub enum Page {
-    Turned(Turn),
-    Refused(Refusal),
-}
-
-// Whether the buffers have room left after so many pairs. Buffers without a place, or with fewer shifts than columns, always have.
+// Whether the buffers have room left after so many pairs. Buffers without a place, or with fewer shifts than columns, always
+// have.
 #[tactic(auto, unfolding(crate::specs::Turning::unfilled))]
 fn room_left(found: usize, columns: usize, shifts: usize) -> bool
     ensures { result ≡ unfilled found columns shifts }

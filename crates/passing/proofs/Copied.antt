@@ -1,5 +1,4 @@
--- A score without its empty columns, copied: a column's cells from a place on (`Copying`), and column after column (`Taking`), where
--- what is written and what is left make up the whole. Then what the room asks for is what the call tests. Assumes nothing.
+-- A score without its empty columns, copied column after column (`Taking`), where what is written and what is left make up the whole. Then what the room asks for is what the call tests. Assumes nothing.
 use mathlib.Core.Path.{◌≡◌, refl, sym, ap, ◌∙◌}
 use mathlib.Core.Bool.{Bool, true, false, not, ◌&&◌, ◌||◌}
 use mathlib.Core.List.{List, [], ◌∷◌, ◌++◌, append_assoc, append-nil}
@@ -8,46 +7,29 @@ use native.Mathlib.Nat.{zero-mul}
 use native.Mathlib.Numerals.{add-one}
 use native.Mathlib.Omega.{arith}
 use lib.Dec.{leb, ltb}
-use lib.ListN.{length, get_or, take, drop, set, length-set, length-append, drop_of_length-le}
-use lib.Seq.{take-suc, take_all, length-take-le, drop-cons, sets, length-sets}
+use lib.ListN.{length, get_or, take, drop, set, length-set, length-append, length-drop, drop_of_length-le}
+use lib.Seq.{drop-cons, drop-drop, sets, sets-eq, length-sets}
+use borrow.Rule.Slice.PartMut.{put_mid}
 use borrow.Author.Tests.{not-true, not-false, leb-true, leb-false, lt-ltb, le-ltb}
 use Rattle.theory.specs.Lists.{over, join}
 use Rattle.theory.proofs.Either.{both_left, both_right}
-use Rattle.theory.proofs.Lists.{sets_more, over_more, over_sets}
+use Rattle.theory.proofs.Lists.{over_more, over_sets}
 use Rattle.score.specs.Limits.{most_columns}
 use Rattle.score.specs.Score.{columns_in, score_of, heard, heard_of, heard_from}
-use Rattle.score.proofs.Columns.{column_length, score_length, next_starts, column_room, column_cells}
+use Rattle.score.proofs.Columns.{cut_at, column_length, score_length, next_starts, column_room}
 use Rattle.score.proofs.Heard.{numbers_take, numbers_skip}
 use Rattle.passing.specs.Passing.{has_room, TakesOut}
 
--- ---- a column, from a place on
+-- ---- a column copied from a place on, as code does it
 
-pub record Copying (column kept₀ : List ℕ) (at : ℕ) (kept : List ℕ) (i : ℕ) : Type 0 where
-  pub so_far : kept ≡ sets kept₀ at (take i column)
-  pub long : length kept ≡ length kept₀
-  pub within : i ≤ length column
-  pub room : at + length column ≤ length kept₀
-
-pub copying_start : (column kept₀ : List ℕ) (at : ℕ) → at + length column ≤ length kept₀ → Copying column kept₀ at kept₀ 0
-copying_start column kept₀ at r = record { so_far = refl; long = refl; within = zero-le; room = r }
-
-module _ {column kept₀ : List ℕ} {at : ℕ} {kept : List ℕ} {i : ℕ} (c : Copying column kept₀ at kept i) where
-  pub copying_more : i < length column → Copying column kept₀ at (set kept (at + i) (get_or column i 0)) (i + 1)
-  copying_more h =
-      let n : length (take i column) ≡ i = length-take-le i column c.within in
-      let one : take i column ++ (get_or column i 0 ∷ []) ≡ take (i + 1) column = rw add-one (sym (take-suc column i 0 h)) in
-      record {
-        so_far =
-            ap (λ (l : List ℕ). set l (at + i) (get_or column i 0)) c.so_far
-            ∙ sets_more kept₀ at (take i column) (get_or column i 0) (at + i) (omega (arith, n))
-            ∙ ap (sets kept₀ at) one;
-        long = length-set kept (at + i) (get_or column i 0) ∙ c.long;
-        within = omega arith;
-        room = c.room;
-      }
-
-  pub copying_end : length column ≤ i → kept ≡ sets kept₀ at column
-  copying_end h = c.so_far ∙ ap (sets kept₀ at) (take_all i column h)
+pub pasted : (column kept : List ℕ) (at h : ℕ) {new : List ℕ} → new ≡ column → length column ≡ h → at + h ≤ length kept
+    → put_mid at (at + h - at) kept new ≡ sets kept at column
+pasted column kept at h e n r =
+    let here : at + (at + h - at) ≡ at + length column = omega arith in
+    ap (put_mid at (at + h - at) kept) e
+    ∙ ap (λ (l : List ℕ). take at kept ++ (column ++ l)) (drop-drop (at + h - at) at kept ∙ ap (λ (m : ℕ). drop m kept) here)
+    ∙ sym (append_assoc (take at kept) column (drop (at + length column) kept))
+    ∙ sym (sets-eq column kept at (omega arith))
 
 -- ---- what is left of a score, a column further on
 
@@ -114,13 +96,13 @@ room_of cells h kept numbers e =
 
 -- ---- column after column
 
-pub record Taking (cells : List ℕ) (h : ℕ) (kept₀ numbers₀ : List ℕ) (k base q at : ℕ) (kept numbers : List ℕ) : Type 0 where
-  pub starts : base ≡ k * h
+pub record Taking (cells : List ℕ) (h : ℕ) (kept₀ numbers₀ : List ℕ) (k : ℕ) (left : List ℕ) (q at : ℕ) (kept numbers : List ℕ) : Type 0 where
+  pub starts : left ≡ drop (k * h) cells
   pub copied : List ℕ
   pub cells_over : kept ≡ over kept₀ copied
   pub cells_left : copied ++ join (heard_of (drop k (score_of cells h))) ≡ join (heard_of (score_of cells h))
   pub cells_many : length copied ≡ at
-  pub cells_fit : at ≤ base
+  pub cells_fit : at ≤ k * h
   pub kept_long : length kept ≡ length kept₀
   pub named : List ℕ
   pub numbers_over : numbers ≡ over numbers₀ named
@@ -133,10 +115,10 @@ module _ (cells : List ℕ) (h : ℕ) where
   abbrev score : List (List ℕ)
   score = score_of cells h
 
-  pub taking_start : (kept₀ numbers₀ : List ℕ) → Taking cells h kept₀ numbers₀ 0 0 0 0 kept₀ numbers₀
+  pub taking_start : (kept₀ numbers₀ : List ℕ) → Taking cells h kept₀ numbers₀ 0 cells 0 0 kept₀ numbers₀
   taking_start kept₀ numbers₀ =
       record {
-        starts = sym (zero-mul h);
+        starts = rw zero-mul;
         copied = [];
         cells_over = refl;
         cells_left = refl;
@@ -151,23 +133,20 @@ module _ (cells : List ℕ) (h : ℕ) where
         numbers_long = refl;
       }
 
-  module _ {kept₀ numbers₀ kept numbers : List ℕ} {k base q at : ℕ} (t : Taking cells h kept₀ numbers₀ k base q at kept numbers) where
-    abbrev cut_here : List ℕ
-    cut_here = take (base + h - base) (drop base cells)
-
+  module _ {kept₀ numbers₀ kept numbers left : List ℕ} {k q at : ℕ} (t : Taking cells h kept₀ numbers₀ k left q at kept numbers) where
     module _ (l : k < columns_in cells h) where
-      -- the next column is within the cells, and its cells and its number have room
-      pub taking_part : base + h ≤ length cells
-      taking_part = column_room cells h k base t.starts l
+      fits : k * h + h ≤ length cells
+      fits = column_room cells h k (k * h) refl l
 
-      here : cut_here ≡ get_or score k []
-      here = column_cells cells h k base t.starts l
+      -- the next column is within the cells that are left, and its cells and its number have room
+      pub taking_part : h ≤ length left
+      taking_part = omega (arith, fits, ap length t.starts, length-drop (k * h) cells)
 
       here_length : length (get_or score k []) ≡ h
-      here_length = column_length (columns_in cells h) h cells k l (omega (arith, taking_part, next_starts cells h k base t.starts))
+      here_length = column_length (columns_in cells h) h cells k l (omega (arith, fits, next_starts cells h k (k * h) refl))
 
-      pub taking_room : Room cells h kept₀ numbers₀ → at + length cut_here ≤ length kept
-      taking_room r = omega (arith, ap length here, here_length, taking_part, t.cells_fit, t.kept_long, r.for_cells)
+      pub taking_room : Room cells h kept₀ numbers₀ → at + h ≤ length kept
+      taking_room r = omega (arith, fits, t.cells_fit, t.kept_long, r.for_cells)
 
       pub taking_place : Room cells h kept₀ numbers₀ → q < length numbers
       taking_place r = omega (arith, t.numbers_fit, t.numbers_long, r.for_numbers)
@@ -175,18 +154,24 @@ module _ (cells : List ℕ) (h : ℕ) where
       within : k < length score
       within = omega (arith, score_length cells h)
 
-      module _ {b : Bool} (e : b ≡ not (heard cut_here)) where
+      module _ {column rest : List ℕ} (c : column ≡ take h left) (s : rest ≡ drop h left) {b : Bool} (e : b ≡ not (heard column)) where
+        here : column ≡ get_or score k []
+        here = c ∙ ap (take h) t.starts ∙ sym (cut_at (columns_in cells h) h cells k l)
+
+        on : rest ≡ drop ((k + 1) * h) cells
+        on = s ∙ ap (drop h) t.starts ∙ drop-drop h (k * h) cells ∙ ap (λ (m : ℕ). drop m cells) (next_starts cells h k (k * h) refl)
+
         -- a column without a pitch
-        pub taking_skip : not b ≡ false → Taking cells h kept₀ numbers₀ (k + 1) (base + h) q at kept numbers
+        pub taking_skip : not b ≡ false → Taking cells h kept₀ numbers₀ (k + 1) rest q at kept numbers
         taking_skip f =
             let g : heard (get_or score k []) ≡ false = ap heard (sym here) ∙ not-true _ (sym e ∙ not-false b f) in
             record {
-              starts = next_starts cells h k base t.starts;
+              starts = on;
               copied = t.copied;
               cells_over = t.cells_over;
               cells_left = ap (λ (s : List (List ℕ)). t.copied ++ join s) (cells_skip score k within g) ∙ t.cells_left;
               cells_many = t.cells_many;
-              cells_fit = omega (arith, t.cells_fit);
+              cells_fit = omega (arith, t.cells_fit, next_starts cells h k (k * h) refl);
               kept_long = t.kept_long;
               named = t.named;
               numbers_over = t.numbers_over;
@@ -197,23 +182,23 @@ module _ (cells : List ℕ) (h : ℕ) where
             }
 
         -- a column with one is copied, and its number
-        pub taking_take : Room cells h kept₀ numbers₀ → not b ≡ true → {kept' : List ℕ} → kept' ≡ sets kept at cut_here
-            → Taking cells h kept₀ numbers₀ (k + 1) (base + h) (q + 1) (at + h) kept' (set numbers q (k + 1))
+        pub taking_take : Room cells h kept₀ numbers₀ → not b ≡ true → {kept' : List ℕ} → kept' ≡ sets kept at column
+            → Taking cells h kept₀ numbers₀ (k + 1) rest (q + 1) (at + h) kept' (set numbers q (k + 1))
         taking_take r f {kept'} w =
-            let c = get_or score k [] in
-            let g : heard c ≡ true = ap heard (sym here) ∙ not-false _ (sym e ∙ not-true b f) in
-            let n : length c ≡ h = here_length in
-            let room : at + length c ≤ length kept₀ = omega (arith, n, taking_part, t.cells_fit, r.for_cells) in
+            let own = get_or score k [] in
+            let g : heard own ≡ true = ap heard (sym here) ∙ not-false _ (sym e ∙ not-true b f) in
+            let n : length own ≡ h = here_length in
+            let room : at + length own ≤ length kept₀ = omega (arith, n, fits, t.cells_fit, r.for_cells) in
             let place : q < length numbers₀ = omega (arith, t.numbers_fit, r.for_numbers) in
             record {
-              starts = next_starts cells h k base t.starts;
-              copied = t.copied ++ c;
+              starts = on;
+              copied = t.copied ++ own;
               cells_over =
-                  w ∙ ap (sets kept at) here ∙ ap (λ (d : List ℕ). sets d at c) t.cells_over ∙ over_sets kept₀ t.copied 0 c at t.cells_many room;
+                  w ∙ ap (sets kept at) here ∙ ap (λ (d : List ℕ). sets d at own) t.cells_over ∙ over_sets kept₀ t.copied 0 own at t.cells_many room;
               cells_left = cells_take score k within t.copied g ∙ t.cells_left;
-              cells_many = omega (arith, length-append t.copied c, t.cells_many, n);
-              cells_fit = omega (arith, t.cells_fit);
-              kept_long = ap length w ∙ length-sets kept at cut_here ∙ t.kept_long;
+              cells_many = omega (arith, length-append t.copied own, t.cells_many, n);
+              cells_fit = omega (arith, t.cells_fit, next_starts cells h k (k * h) refl);
+              kept_long = ap length w ∙ length-sets kept at column ∙ t.kept_long;
               named = t.named ++ ((k + 1) ∷ []);
               numbers_over =
                   ap (λ (d : List ℕ). set d q (k + 1)) t.numbers_over ∙ over_more numbers₀ t.named 0 q (k + 1) t.numbers_many place;

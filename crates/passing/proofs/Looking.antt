@@ -1,21 +1,19 @@
--- Empty columns looked for: a column's cells one after the other (`Flagged`), columns by one and by four, where those that are left
+-- Empty columns looked for: columns by one and by four, where those that are left
 -- settle the answer (`Left`), columns that begin with two rests, as an empty one does (`begins_none`), and the cells of one track,
 -- where a column is a cell (`one_track`). Assumes nothing.
 use mathlib.Core.Path.{◌≡◌, refl, sym, ap, ap₂, ◌∙◌}
 use mathlib.Core.Bool.{Bool, true, false, cond, not, ◌&&◌, ◌||◌}
 use mathlib.Core.List.{List, [], ◌∷◌}
 use Prim.Native.Nat.{ℕ, zero, suc, ◌+◌, ◌-◌, ◌*◌, ◌≤◌, ◌<◌}
-use native.Mathlib.Nat.{add-zero, zero-add, suc-add, sub-zero, add-mul, one-mul, zero-mul, suc-mul, add-sub_cancel_left}
+use native.Mathlib.Nat.{add-zero, zero-add, suc-add, sub-zero, add-mul, one-mul, zero-mul, suc-mul}
 use native.Mathlib.Nat.{mul-le-mul_right, div-add-mod', div-one, not-suc-le-zero, le_of_suc-le-suc}
 use native.Mathlib.Omega.{arith}
 use lib.Dec.{leb, ltb}
 use lib.ListN.{length, get_or, take, drop, length-drop}
 use lib.Seq.{drop-drop, get_or-drop}
-use borrow.Author.Tests.{le-leb, lt-leb, leb-true, leb-false, lt-ltb, le-ltb, ltb-true, ltb-false}
+use borrow.Author.Tests.{le-leb, leb-true, leb-false, lt-ltb, le-ltb, ltb-false}
 use Rattle.theory.specs.Lists.{some}
-use Rattle.theory.proofs.Scans.{Flagged, flagged_more, flagged_end}
 use Rattle.theory.proofs.Lists.{some_at, some_none, none_some}
-use Rattle.theory.proofs.Either.{both_left, both_right}
 use Rattle.score.specs.Limits.{highest_pitch}
 use Rattle.score.specs.Score.{cut, columns_in, score_of, heard, has_empty}
 use Rattle.score.proofs.Columns.{cut_length, column_length}
@@ -29,20 +27,17 @@ no_pitch cell = ltb highest_pitch cell
 
 -- ---- the cells of a column
 
-module _ (column : List ℕ) where
-  -- a pitch is found
-  heard_at : (i : ℕ) → i < length column → get_or column i 0 ≤ highest_pitch → false ≡ not (heard column)
-  heard_at i h p = rw (some_at is_pitch column 0 i h (le-leb _ _ p))
+-- what is no pitch is none
+pub no_pitch_not : (cell : ℕ) → not (no_pitch cell) ≡ is_pitch cell
+no_pitch_not cell = step (is_pitch cell) refl
+  where
+    step : (t : Bool) → is_pitch cell ≡ t → not (no_pitch cell) ≡ t
+    step true e = rw (le-ltb highest_pitch cell (leb-true cell highest_pitch e))
+    step false e = rw (lt-ltb highest_pitch cell (leb-false cell highest_pitch e))
 
-  pub heard_here : {i : ℕ} → Flagged is_pitch column i false → i < length column → get_or column i 0 ≤ highest_pitch → false ≡ not (heard column)
-  heard_here {i} f h p = heard_at i h p
-
-  -- or none
-  pub rest_more : {i : ℕ} → Flagged is_pitch column i false → i < length column → highest_pitch < get_or column i 0 → Flagged is_pitch column (i + 1) false
-  rest_more f h p = flagged_more is_pitch column 0 f h (sym (lt-leb _ _ p))
-
-  pub empty_end : {i : ℕ} → Flagged is_pitch column i false → length column ≤ i → true ≡ not (heard column)
-  empty_end f h = ap not (flagged_end is_pitch column f h)
+-- a pitch is found
+heard_at : (column : List ℕ) (i : ℕ) → i < length column → get_or column i 0 ≤ highest_pitch → false ≡ not (heard column)
+heard_at column i h p = rw (some_at is_pitch column 0 i h (le-leb _ _ p))
 
 -- ---- the columns from a place on
 
@@ -103,36 +98,42 @@ module _ (cells : List ℕ) (h : ℕ) where
           let s : m + (left - m) ≡ left = omega arith in
           record { room = omega (arith, f.room, add-mul m (left - m) h, ap (λ (n : ℕ). n * h) s); same = answer y }
 
-  -- k of many columns are passed, one after the other
-  abbrev pub Ones : (base many k at : ℕ) → Type 0
-  Ones base many k at = Left base many at (many - k)
+  -- k of many columns are passed, one after the other, and these cells are left
+  pub record Ones (base many k : ℕ) (left : List ℕ) : Type 0 where
+    pub at : ℕ
+    pub starts : left ≡ drop at cells
+    pub settles : Left base many at (many - k)
 
-  pub ones_start : (base many : ℕ) → base + many * h ≤ length cells → Ones base many 0 base
-  ones_start base many l = rw (sub-zero many) (left_start base many l)
+  pub ones_start : (base many : ℕ) {left : List ℕ} → left ≡ drop base cells → base + many * h ≤ length cells → Ones base many 0 left
+  ones_start base many e l = record { at = base; starts = e; settles = rw (sub-zero many) (left_start base many l) }
 
-  module _ {base many at : ℕ} (k : ℕ) (f : Ones base many k at) where
+  module _ {base many k : ℕ} {left : List ℕ} (f : Ones base many k left) where
     pub ones_end : many ≤ k → false ≡ empty_from base many
-    ones_end l = left_end f (omega arith)
+    ones_end l = left_end f.settles (omega arith)
 
     module _ (l : k < many) where
-      pub ones_room : at + h ≤ length cells
-      ones_room = omega (arith, left_room f 1 (omega arith), one-mul h)
+      pub ones_room : h ≤ length left
+      ones_room = omega (arith, ap length f.starts, length-drop f.at cells, left_room f.settles 1 (omega arith), one-mul h)
 
-      module _ {t : Bool} (e : t ≡ not (heard (take (at + h - at) (drop at cells)))) where
-        here : t ≡ empty_from at 1
-        here = e ∙ ap (λ (n : ℕ). is_empty (take n (drop at cells))) (add-sub_cancel_left at h) ∙ only (is_empty (take h (drop at cells)))
+      module _ {t : Bool} {column : List ℕ} (c : column ≡ take h left) (e : t ≡ not (heard column)) where
+        here : t ≡ empty_from f.at 1
+        here = e ∙ ap is_empty (c ∙ ap (take h) f.starts) ∙ only (is_empty (take h (drop f.at cells)))
           where
             only : (b : Bool) → b ≡ cond b true false
             only true = refl
             only false = refl
 
         pub ones_found : t ≡ true → true ≡ empty_from base many
-        ones_found y = left_found f 1 (omega arith) here y
+        ones_found y = left_found f.settles 1 (omega arith) here y
 
-        pub ones_passed : t ≡ false → Ones base many (k + 1) (at + h)
-        ones_passed y =
+        pub ones_passed : {rest : List ℕ} → rest ≡ drop h left → t ≡ false → Ones base many (k + 1) rest
+        ones_passed r y =
             let s : many - k - 1 ≡ many - (k + 1) = omega arith in
-            rw (one-mul h, s) at (left_passed f 1 (omega arith) here y)
+            record {
+              at = f.at + h;
+              starts = r ∙ ap (drop h) f.starts ∙ drop-drop h f.at cells;
+              settles = rw (one-mul h, s) at (left_passed f.settles 1 (omega arith) here y);
+            }
 
 -- ---- columns that begin with two rests
 
@@ -191,9 +192,6 @@ module _ (cells : List ℕ) {h : ℕ} (l : 1 < h) where
       step false false false false = refl
 
 -- ---- four columns after four
-
-pub fours_more : (h left : ℕ) → (ltb 1 h && ltb 3 left) ≡ true → (1 < h) × (3 < left)
-fours_more h left e = (ltb-true 1 h (both_left (ltb 1 h) (ltb 3 left) e), ltb-true 3 left (both_right (ltb 1 h) (ltb 3 left) e))
 
 module _ (cells : List ℕ) (h : ℕ) where
   -- all columns are left

@@ -1,36 +1,22 @@
 -- What goes by numbers: values written one after the other over the front of a buffer (`Writing`), the entries at the numbers of
 -- columns, and columns under their other numbers. Assumes nothing.
 use mathlib.Core.Path.{◌≡◌, refl, sym, ap, ◌∙◌}
-use mathlib.Core.Bool.{Bool, true, false, ◌&&◌}
-use mathlib.Core.List.{List, [], ◌∷◌, ◌++◌, map}
+use mathlib.Core.Bool.{Bool}
+use mathlib.Core.List.{List, [], ◌∷◌, ◌++◌, map, append-nil}
 use Prim.Native.Nat.{ℕ, suc, ◌+◌, ◌-◌, min, ◌≤◌, ◌<◌, zero-le}
 use native.Mathlib.Decide.{dec_lt}
 use native.Mathlib.Numerals.{add-one}
 use native.Mathlib.Omega.{arith}
-use lib.Dec.{leb, ltb}
-use lib.ListN.{length, get_or, take, drop, set, length-set, length-map, length-take, get_or-eq_default}
-use lib.Seq.{take-suc, take_all, length-take-le, drop-cons, get_or_at, get_or-take}
-use borrow.Author.Tests.{ltb-true, ltb-false}
+use lib.Dec.{leb}
+use lib.ListN.{length, get_or, take, drop, set, length-set, length-map, length-take, drop_of_length-le, get_or-eq_default}
+use lib.Seq.{take-suc, take_all, length-take-le, drop-cons, get_or_at}
 use Rattle.theory.specs.Lists.{over}
-use Rattle.theory.proofs.Either.{both_left, both_right}
 use Rattle.theory.proofs.Lists.{map_at, over_more}
 use Rattle.passing.specs.Passing.{entry_at, KeepsSets, Renames}
 
 -- the number is not above k
 abbrev pub reaches : ℕ → ℕ → Bool
 reaches number k = leb number k
-
--- ---- a loop that ends where either of two ends is reached
-
-pub both_below : (i a b : ℕ) → (ltb i a && ltb i b) ≡ true → (i < a) × (i < b)
-both_below i a b e = (ltb-true i a (both_left (ltb i a) (ltb i b) e), ltb-true i b (both_right (ltb i a) (ltb i b) e))
-
-past_either : (i a b : ℕ) → (ltb i a && ltb i b) ≡ false → min a b ≤ i
-past_either i a b e = step (ltb i a) refl e
-  where
-    step : (t : Bool) → ltb i a ≡ t → (t && ltb i b) ≡ false → min a b ≤ i
-    step true f e = omega (arith, ltb-false i b e)
-    step false f e = omega (arith, ltb-false i a f)
 
 -- ---- values over the front of a buffer
 
@@ -87,37 +73,48 @@ module _ (sets numbers kept₀ : List ℕ) where
   abbrev entries : List ℕ
   entries = map (entry_at sets) numbers
 
-  pub kept_more : {kept : List ℕ} {i : ℕ} (v : ℕ) → Writing entries kept₀ kept i → (i < length numbers) × (i < length kept)
+  pub kept_more : {kept : List ℕ} {i : ℕ} (v : ℕ) → Writing entries kept₀ kept i → i < length numbers → i < length kept
       → v ≡ entry_at sets (get_or numbers i 0) → Writing entries kept₀ (set kept i v) (i + 1)
-  kept_more {kept} {i} v w (h, r) e =
+  kept_more {kept} {i} v w h r e =
       writing_more w v (e ∙ sym (map_at (entry_at sets) numbers i 0 0 h)) (omega (arith, length-map numbers (entry_at sets))) (omega (arith, w.long))
 
-  pub kept_end : {kept : List ℕ} {i : ℕ} → Writing entries kept₀ kept i → (ltb i (length numbers) && ltb i (length kept)) ≡ false
+  pub kept_end : {kept : List ℕ} {i : ℕ} → Writing entries kept₀ kept i → min (length numbers) (length kept) ≤ i
       → KeepsSets sets numbers kept₀ kept
-  kept_end {kept} {i} w e =
+  kept_end {kept} {i} w past =
       let p : min (length entries) (length kept₀) ≤ i =
-      omega (arith, past_either i (length numbers) (length kept) e, length-map numbers (entry_at sets), w.long) in
+      omega (arith, past, length-map numbers (entry_at sets), w.long) in
       record { entries = w.so_far ∙ ap (λ (l : List ℕ). over kept₀ l) (take_past i (length kept₀) entries w.room p) }
 
 -- ---- columns under their other numbers
 
-module _ (columns₀ : List ℕ) (many : ℕ) (numbers : List ℕ) where
-  abbrev others : List ℕ
-  others = map (entry_at numbers) (take many columns₀)
+module _ (numbers columns₀ : List ℕ) where
+  pub renamed_more : {columns : List ℕ} {i : ℕ} (v : ℕ) → Writing (map (entry_at numbers) columns₀) columns₀ columns i → i < length columns₀
+      → v ≡ entry_at numbers (get_or columns i 0) → Writing (map (entry_at numbers) columns₀) columns₀ (set columns i v) (i + 1)
+  renamed_more {columns} {i} v w h e =
+      writing_more w v (e ∙ ap (entry_at numbers) (writing_next w h) ∙ sym (map_at (entry_at numbers) columns₀ i 0 0 h))
+      (omega (arith, length-map columns₀ (entry_at numbers))) h
 
-  others_length : length others ≡ min many (length columns₀)
-  others_length = length-map (take many columns₀) (entry_at numbers) ∙ length-take many columns₀
+  pub renamed_all : {columns : List ℕ} {i : ℕ} → Writing (map (entry_at numbers) columns₀) columns₀ columns i → length columns₀ ≤ i
+      → columns ≡ map (entry_at numbers) columns₀
+  renamed_all {columns} {i} w h =
+      let long : length (map (entry_at numbers) columns₀) ≡ length columns₀ = length-map columns₀ (entry_at numbers) in
+      let all : take i (map (entry_at numbers) columns₀) ≡ map (entry_at numbers) columns₀ = take_all i _ (omega arith) in
+      let none : drop (length (map (entry_at numbers) columns₀)) columns₀ ≡ [] = drop_of_length-le columns₀ (omega arith) in
+      w.so_far ∙ ap (over columns₀) all ∙ ap (λ (l : List ℕ). map (entry_at numbers) columns₀ ++ l) none ∙ append-nil (map (entry_at numbers) columns₀)
 
-  pub renamed_more : {columns : List ℕ} {i : ℕ} (v : ℕ) → Writing others columns₀ columns i → (i < many) × (i < length columns)
-      → v ≡ entry_at numbers (get_or columns i 0) → Writing others columns₀ (set columns i v) (i + 1)
-  renamed_more {columns} {i} v w (h, r) e =
-      let s : i < length columns₀ = omega (arith, w.long) in
-      let n : i < length (take many columns₀) = omega (arith, length-take many columns₀) in
-      let f : get_or (take many columns₀) i 0 ≡ get_or columns i 0 = get_or-take many columns₀ i 0 h ∙ sym (writing_next w s) in
-      writing_more w v (e ∙ ap (entry_at numbers) (sym f) ∙ sym (map_at (entry_at numbers) (take many columns₀) i 0 0 n)) (omega (arith, others_length)) s
-
-  pub renamed_end : {columns : List ℕ} {i : ℕ} → Writing others columns₀ columns i → (ltb i many && ltb i (length columns)) ≡ false
-      → Renames columns₀ many numbers columns
-  renamed_end {columns} {i} w e =
-      let p : length others ≤ i = omega (arith, past_either i many (length columns) e, others_length, w.long) in
-      record { renamed = w.so_far ∙ ap (λ (l : List ℕ). over columns₀ l) (take_all i others p) }
+-- the first columns of more
+pub renamed_end : (columns : List ℕ) (many : ℕ) (numbers : List ℕ) {found : ℕ} {front : List ℕ} → found ≡ min many (length columns)
+    → front ≡ map (entry_at numbers) (take found columns) → Renames columns many numbers (front ++ drop found columns)
+renamed_end columns many numbers {found} {front} e f =
+    let same : take found columns ≡ take many columns = step (dec_lt many (length columns)) in
+    let long : found ≡ length (map (entry_at numbers) (take many columns)) =
+    omega (arith, length-map (take many columns) (entry_at numbers), length-take many columns) in
+    record {
+      renamed =
+          ap (λ (l : List ℕ). l ++ drop found columns) (f ∙ ap (map (entry_at numbers)) same)
+          ∙ ap (λ (n : ℕ). map (entry_at numbers) (take many columns) ++ drop n columns) long;
+    }
+  where
+    step : Dec (many < length columns) → take found columns ≡ take many columns
+    step (yes h) = let k : found ≡ many = omega arith in ap (λ (n : ℕ). take n columns) k
+    step (no h) = take_all found columns (omega arith) ∙ sym (take_all many columns (omega arith))

@@ -23,27 +23,22 @@ pub fn any_empty(cells: &[u8], tracks: usize) -> bool
 fn any_rest(cells: &[u8]) -> bool
     ensures { result ≡ some (λ cell. ltb highest_pitch cell) cells.now }
 {
-    let mut rest = false;
-    let mut i = 0;
-    while i < cells.len() {
-        rest = rest | (HIGHEST_PITCH < cells[i]);
-        i += 1;
-    }
-    rest
+    cells
+        .iter()
+        .fold(false, |rest, &cell| rest | (HIGHEST_PITCH < cell))
 }
 
 // The same of several tracks; no tracks make no column. Few columns begin with two rests, so four in a row are first asked for
-// that together, and each of them alone only where one does.
+// that together, and each of them alone only where one does. The step is four columns and the rest is asked last, so it is no
+// counted loop.
 fn any_of_rests(cells: &[u8], tracks: usize) -> bool
     ensures { result ≡ has_empty (score_of cells.now tracks) }
 {
     let mut left = columns_in(cells, tracks);
     let mut base = 0;
-    while (1 < tracks) & (3 < left) {
-        if four_begin(cells, base, tracks) {
-            if any_from(cells, base, tracks, 4) {
-                return true;
-            }
+    while 1 < tracks && 3 < left {
+        if four_begin(cells, base, tracks) && any_from(cells, base, tracks, 4) {
+            return true;
         }
         base += 4 * tracks;
         left -= 4;
@@ -78,15 +73,13 @@ fn any_from(cells: &[u8], base: usize, tracks: usize, many: usize) -> bool
     requires { base + many * tracks ≤ length cells.now }
     ensures { result ≡ has_empty (cut many tracks (drop base cells.now)) }
 {
-    let mut k = 0;
-    let mut at = base;
-    while k < many {
-        let end = at + tracks;
-        if is_empty(&cells[at..end]) {
+    let mut left = &cells[base..];
+    for _ in 0..many {
+        let (column, rest) = left.split_at(tracks);
+        if is_empty(column) {
             return true;
         }
-        at = end;
-        k += 1;
+        left = rest;
     }
     false
 }
@@ -95,17 +88,8 @@ fn any_from(cells: &[u8], base: usize, tracks: usize, many: usize) -> bool
 pub fn is_empty(column: &[u8]) -> bool
     ensures { result ≡ not (heard column.now) }
 {
-    if 1 < column.len() {
-        if !rests_at(column, 0) {
-            return false;
-        }
+    if 1 < column.len() && !rests_at(column, 0) {
+        return false;
     }
-    let mut i = 0;
-    while i < column.len() {
-        if column[i] <= HIGHEST_PITCH {
-            return false;
-        }
-        i += 1;
-    }
-    true
+    column.iter().all(|&cell| HIGHEST_PITCH < cell)
 }

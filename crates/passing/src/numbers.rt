@@ -9,10 +9,9 @@ ghost use Rattle.passing.specs.Passing.{KeepsSets, Renames};
 pub fn kept_sets(sets: &[u16], numbers: &[u16], kept: &mut [u16])
     ensures { KeepsSets sets.now numbers.now kept.old kept.new }
 {
-    let mut i = 0;
-    while (i < numbers.len()) & (i < kept.len()) {
+    // By places: after a `zip` of what is written, nothing would be known of the entries.
+    for i in 0..numbers.len().min(kept.len()) {
         kept[i] = entry_at(sets, numbers[i]);
-        i += 1;
     }
 }
 
@@ -20,34 +19,26 @@ pub fn kept_sets(sets: &[u16], numbers: &[u16], kept: &mut [u16])
 fn entry_at(entries: &[u16], number: u16) -> u16
     ensures { result ≡ get_or entries.now (number - 1) 0 }
 {
-    let mut at = number as usize;
-    if 0 < at {
-        at -= 1;
-    }
-    if at < entries.len() { entries[at] } else { 0 }
+    let at = (number as usize).saturating_sub(1);
+    entries.get(at).copied().unwrap_or(0)
 }
 
 // How many of the numbers, which rise, come before the given one.
 pub fn rank(numbers: &[u16], number: u16) -> usize
     ensures { result ≡ first (λ k. leb number k) numbers.now }
 {
-    let mut i = 0;
-    while i < numbers.len() {
-        if number <= numbers[i] {
-            return i;
-        }
-        i += 1;
-    }
-    i
+    numbers
+        .iter()
+        .position(|&k| number <= k)
+        .unwrap_or(numbers.len())
 }
 
 // Puts, for each of the first columns, the number that stands at its own number.
 pub fn rename(columns: &mut [u16], many: usize, numbers: &[u16])
     ensures { Renames columns.old many numbers.now columns.new }
 {
-    let mut i = 0;
-    while (i < many) & (i < columns.len()) {
-        columns[i] = entry_at(numbers, columns[i]);
-        i += 1;
+    let found = many.min(columns.len());
+    for column in columns[..found].iter_mut() {
+        *column = entry_at(numbers, *column);
     }
 }

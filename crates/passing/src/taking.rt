@@ -15,7 +15,7 @@ pub fn take_out(cells: &[u8], tracks: usize, kept: &mut [u8], numbers: &mut [u16
         result kept.new numbers.new }
 {
     let n = columns_in(cells, tracks);
-    if (kept.len() < cells.len()) | (numbers.len() < n) | (MOST_COLUMNS < n) {
+    if kept.len() < cells.len() || numbers.len() < n || MOST_COLUMNS < n {
         return 0;
     }
     take_each(cells, tracks, n, kept, numbers)
@@ -27,32 +27,19 @@ fn take_each(cells: &[u8], tracks: usize, n: usize, kept: &mut [u8], numbers: &m
     ensures { TakesOut cells.now tracks kept.old numbers.old
         result kept.new numbers.new }
 {
-    let mut k = 0;
-    let mut end = 0;
+    let mut left = cells;
     let mut q = 0;
     let mut at = 0;
-    while k < n {
-        let base = end;
-        end = base + tracks;
-        k += 1;
-        if !is_empty(&cells[base..end]) {
-            copy(&cells[base..end], kept, at);
-            numbers[q] = k as u16;
+    for k in 0..n {
+        let (column, rest) = left.split_at(tracks);
+        if !is_empty(column) {
+            let end = at + tracks;
+            kept[at..end].copy_from_slice(column);
+            numbers[q] = (k + 1) as u16;
             q += 1;
-            at += tracks;
+            at = end;
         }
+        left = rest;
     }
     q
-}
-
-// Copies a column's cells, from a place on.
-fn copy(column: &[u8], kept: &mut [u8], at: usize)
-    requires { at + length column.now ≤ length kept.old }
-    ensures { kept.new ≡ sets kept.old at column.now }
-{
-    let mut i = 0;
-    while i < column.len() {
-        kept[at + i] = column[i];
-        i += 1;
-    }
 }

@@ -1,14 +1,14 @@
 -- The loops that fill the sets. One gathers the class sets (`Gathering`): those of columns 1 to k, counted from 0, are stored,
--- and column k + 1 begins at cell (k + 1) * h. The others turn them to sets in their place (`Turns`): the first k are sets, each
+-- and the cells left are those from column k + 1 on. The others turn them to sets in their place (`Turns`): the first k are sets, each
 -- with a later class set, and the rest are still class sets. Last, these are the sets of the score. Assumes nothing.
-use mathlib.Core.Path.{◌≡◌, refl, sym, ap, ap₂, ◌∙◌}
+use mathlib.Core.Path.{◌≡◌, refl, sym, ap, ◌∙◌}
 use mathlib.Core.List.{List, [], ◌∷◌, map}
-use Prim.Native.Nat.{ℕ, zero, suc, ◌+◌, ◌-◌, ◌*◌, ◌≤◌, ◌<◌, zero-le}
-use native.Mathlib.Nat.{add-mul, one-mul, zero-mul, sub-zero, add-sub_cancel_left, mul-le-mul_right, not-suc-le-zero, le_refl}
+use Prim.Native.Nat.{ℕ, zero, suc, ◌+◌, ◌*◌, ◌≤◌, ◌<◌, zero-le}
+use native.Mathlib.Nat.{add-mul, one-mul, zero-mul, mul-le-mul_right, not-suc-le-zero, le_refl}
 use native.Mathlib.Numerals.{add-one}
 use native.Mathlib.Omega.{arith}
-use lib.ListN.{length, get_or, take, drop, set, length-set, length-map}
-use lib.Seq.{ext_get_or, get_or-set_other}
+use lib.ListN.{length, get_or, take, drop, set, length-set, length-map, length-drop}
+use lib.Seq.{ext_get_or, get_or-set_other, drop-drop}
 use Rattle.theory.proofs.Lists.{map_at, stored_more}
 use Rattle.score.specs.Score.{cut}
 use Rattle.score.specs.Sets.{next_heard, sets}
@@ -23,44 +23,45 @@ use Rattle.preparing.proofs.Carrying.{next_class_lem}
 abbrev column_from : (cells : List ℕ) (h k : ℕ) → List ℕ
 column_from cells h k = take h (drop (k * h) cells)
 
-pub record Gathering (cells : List ℕ) (h n : ℕ) (out : List ℕ) (k base : ℕ) : Type 0 where
+pub record Gathering (cells : List ℕ) (h n : ℕ) (out : List ℕ) (k : ℕ) (left : List ℕ) : Type 0 where
   pub within : k ≤ n
   pub long : length out ≡ n
-  pub starts : base ≡ (k + 1) * h
+  pub starts : left ≡ drop ((k + 1) * h) cells
   pub stored : (i : ℕ) → i < k → get_or out i 0 ≡ class_set (column_from cells h (i + 1))
 
 module _ (cells : List ℕ) (h n : ℕ) where
-  pub gathering_start : (out : List ℕ) → length out ≡ n → Gathering cells h n out 0 h
-  gathering_start out l = record { within = zero-le; long = l; starts = sym (one-mul h); stored = λ i m. absurd (not-suc-le-zero m) }
+  pub gathering_start : (out : List ℕ) {left : List ℕ} → length out ≡ n → left ≡ drop h cells → Gathering cells h n out 0 left
+  gathering_start out l s =
+      record { within = zero-le; long = l; starts = s ∙ ap (λ (m : ℕ). drop m cells) (sym (one-mul h)); stored = λ i m. absurd (not-suc-le-zero m) }
 
   -- the first column is within the cells
   pub first_room : (n + 1) * h ≤ length cells → h ≤ length cells
   first_room r = omega (arith, add-mul n 1 h, one-mul h)
 
-  module _ {out : List ℕ} {k base : ℕ} (g : Gathering cells h n out k base) (m : k < n) where
-    next_starts : base + h ≡ (k + 1 + 1) * h
-    next_starts = omega (arith, g.starts, add-mul (k + 1) 1 h, one-mul h)
-
-    -- the next column is within the cells
-    pub gathering_room : (n + 1) * h ≤ length cells → base + h ≤ length cells
+  module _ {out : List ℕ} {k : ℕ} {left : List ℕ} (g : Gathering cells h n out k left) (m : k < n) where
+    -- the next column is within the cells that are left
+    pub gathering_room : (n + 1) * h ≤ length cells → h ≤ length left
     gathering_room r =
         let below : k + 1 + 1 ≤ n + 1 = omega arith in
-        omega (arith, next_starts, mul-le-mul_right h below)
+        omega (arith, ap length g.starts, length-drop ((k + 1) * h) cells, mul-le-mul_right h below, add-mul (k + 1) 1 h, one-mul h)
 
     -- its class set
-    pub gathering_more : (v : ℕ) → v ≡ class_set (take (base + h - base) (drop base cells)) → Gathering cells h n (set out k v) (k + 1) (base + h)
-    gathering_more v e =
+    pub gathering_more : (v : ℕ) {column rest : List ℕ} → column ≡ take h left → rest ≡ drop h left → v ≡ class_set column
+        → Gathering cells h n (set out k v) (k + 1) rest
+    gathering_more v c s e =
         record {
           within = omega arith;
           long = length-set out k v ∙ g.long;
-          starts = next_starts;
+          starts =
+              let on : (k + 1) * h + h ≡ (k + 1 + 1) * h = omega (arith, add-mul (k + 1) 1 h, one-mul h) in
+              s ∙ ap (drop h) g.starts ∙ drop-drop h ((k + 1) * h) cells ∙ ap (λ (m : ℕ). drop m cells) on;
           stored = stored_more (λ (i x : ℕ). x ≡ class_set (column_from cells h (i + 1))) out k v 0 g.stored (omega (arith, g.long))
-              (e ∙ ap class_set (ap₂ (λ (a b : ℕ). take a (drop b cells)) (add-sub_cancel_left base h) g.starts));
+              (e ∙ ap class_set (c ∙ ap (take h) g.starts));
         }
 
-  pub gathering_end : {out : List ℕ} {k base first : ℕ} → Gathering cells h n out k base → n ≤ k → first ≡ class_set (take (h - 0) (drop 0 cells))
+  pub gathering_end : {out left column : List ℕ} {k first : ℕ} → Gathering cells h n out k left → n ≤ k → column ≡ take h cells → first ≡ class_set column
       → ClassSets (cut (n + 1) h cells) first out
-  gathering_end {out} {k} {base} {first} g m e = record { each = ext_get_or 0 (first ∷ out) (map class_set (cut (n + 1) h cells)) same at }
+  gathering_end {out} {k = k} {first = first} g m c e = record { each = ext_get_or 0 (first ∷ out) (map class_set (cut (n + 1) h cells)) same at }
     where
       same : suc (length out) ≡ length (map class_set (cut (n + 1) h cells))
       same = omega (arith, g.long, length-map (cut (n + 1) h cells) class_set, cut_length (n + 1) h cells)
@@ -69,7 +70,7 @@ module _ (cells : List ℕ) (h n : ℕ) where
       column i l = map_at class_set (cut (n + 1) h cells) i [] 0 (omega (arith, cut_length (n + 1) h cells)) ∙ ap class_set (cut_at (n + 1) h cells i l)
 
       at : (i : ℕ) → i < suc (length out) → get_or (first ∷ out) i 0 ≡ get_or (map class_set (cut (n + 1) h cells)) i 0
-      at zero l = rw zero-mul (rw sub-zero at e) ∙ sym (column 0 (omega arith))
+      at zero l = rw zero-mul (e ∙ ap class_set c) ∙ sym (column 0 (omega arith))
       at (suc i) l =
           let b : i < k = omega (arith, g.long) in
           rw add-one at (g.stored i b) ∙ sym (column (suc i) (omega (arith, g.long)))

@@ -7,10 +7,8 @@ use Prim.Native.Nat.{ℕ, ◌+◌, ◌-◌, ◌*◌, ◌≤◌}
 use native.Mathlib.Omega.{arith}
 use lib.ListN.{length}
 use borrow.Author.Tests.{not-false, eqb-true}
+use Rattle.score.specs.declared.refusals.Rule.TheVariants as rule
 use Rattle.score.specs.declared.refusals.Refusal.{Refusal}
-use Rattle.score.specs.declared.refusals.Verdict.TheVariants.{Accepted, Refused as Turned}
-use Rattle.preparing.specs.declared.sets.Preparation.{Preparation}
-use Rattle.preparing.specs.declared.sets.Preparation.TheVariants.{Prepared, Refused}
 use Rattle.score.specs.Limits.{most_columns}
 use Rattle.score.specs.Score.{cut, columns_in, score_of}
 use Rattle.score.specs.Sets.{sets}
@@ -21,26 +19,27 @@ use Rattle.preparing.specs.Preparing.{Filled, prepared, Prepares}
 use Rattle.score.proofs.Columns.{columns_whole}
 use Rattle.score.proofs.Judging.{judge_refused, judge_accepted, judge_here, judge_next}
 use Rattle.score.proofs.Sound.{score_sound}
+use Rattle.std.specs.Prelude.{Result, Ok, Err}
 
 module _ (cells : List ℕ) (h : ℕ) (lent : List ℕ) where
   abbrev rows : List Row
   rows = row1 h ∷ row2 cells h ∷ row3 cells ∷ []
 
   abbrev refuse : Refusal → Filled
-  refuse r = record { answer = Refused r; sets = lent }
+  refuse r = record { answer = Err r; sets = lent }
 
   abbrev full : Filled
-  full = record { answer = Prepared (summary_of (sets (score_of cells h))); sets = sets (score_of cells h) }
+  full = record { answer = Ok (summary_of (sets (score_of cells h))); sets = sets (score_of cells h) }
 
-  settled : {x : Filled} {answer : Preparation} {after : List ℕ} → prepared cells h lent ≡ x → answer ≡ x.answer → after ≡ x.sets
+  settled : {x : Filled} {answer : Result Summary Refusal} {after : List ℕ} → prepared cells h lent ≡ x → answer ≡ x.answer → after ≡ x.sets
       → Prepares cells h lent answer after
   settled e a s = record { answers = a ∙ sym (ap (λ (x : Filled). x.answer) e); fills = s ∙ sym (ap (λ (x : Filled). x.sets) e) }
 
-  pub prepares_refused : {r : Refusal} → verdict rows ≡ Turned r → Prepares cells h lent (Refused r) lent
+  pub prepares_refused : {r : Refusal} → verdict rows ≡ Err r → Prepares cells h lent (Err r) lent
   prepares_refused e = settled (judge_refused refuse full rows (row6 cells h lent ∷ []) e) refl refl
 
-  module _ (e : verdict rows ≡ Accepted) where
-    pub prepares_long : (row6 cells h lent).applies ≡ true → Prepares cells h lent (Refused (record { number = 6; place = 0 })) lent
+  module _ (e : verdict rows ≡ Ok tt) where
+    pub prepares_long : (row6 cells h lent).applies ≡ true → Prepares cells h lent (Err (record { rule = rule.SetsLength; place = 0 })) lent
     prepares_long k = settled (judge_accepted refuse full rows (row6 cells h lent ∷ []) e ∙ judge_here refuse full (row6 cells h lent) [] k) refl refl
 
     module _ (k : (row6 cells h lent).applies ≡ false) where
@@ -56,12 +55,12 @@ module _ (cells : List ℕ) (h : ℕ) (lent : List ℕ) where
       prepares_few = omega (arith, columns, (score_sound cells h e).few_columns)
 
       pub prepares_filled : {after : List ℕ} {summary : Summary} → after ≡ sets (cut (length lent + 1) h cells) → summary ≡ summary_of after
-          → Prepares cells h lent (Prepared summary) after
+          → Prepares cells h lent (Ok summary) after
       prepares_filled s m =
           let own = s ∙ ap (λ (n : ℕ). sets (cut n h cells)) columns in
           settled (judge_accepted refuse full rows (row6 cells h lent ∷ []) e ∙ judge_next refuse full (row6 cells h lent) [] k)
-          (ap Prepared (m ∙ ap summary_of own)) own
+          (ap Ok (m ∙ ap summary_of own)) own
 
   -- one answer, and one content of the sets
-  pub prepares_unique : {a b : Preparation} {s t : List ℕ} → Prepares cells h lent a s → Prepares cells h lent b t → (a ≡ b) × (s ≡ t)
+  pub prepares_unique : {a b : Result Summary Refusal} {s t : List ℕ} → Prepares cells h lent a s → Prepares cells h lent b t → (a ≡ b) × (s ≡ t)
   prepares_unique p q = (p.answers ∙ sym q.answers, p.fills ∙ sym q.fills)

@@ -108,7 +108,7 @@ module _ (earlier later : ℕ) where
     pub turning_skip : bit earlier k ≡ 0 → Turning earlier later (k + 1) reached
     turning_skip e = record { within = omega arith; left = λ n q l. omega (arith, more q, t.left n q l) }
 
-    pub turning_take : bit earlier k ≡ 1 → Turning earlier later (k + 1) (bit_or (bit_or reached (later / 2 ^ k)) (later * 2 ^ (12 - k) % 2 ^ 16))
+    pub turning_take : bit earlier k ≡ 1 → Turning earlier later (k + 1) (bit_or reached (bit_or (later / 2 ^ k) (later * 2 ^ (12 - k) % 2 ^ 16)))
     turning_take e = record { within = omega arith; left = λ n q l. omega (arith, more q, t.left n q l, turned n q l) }
       where
         low : ℕ
@@ -117,9 +117,9 @@ module _ (earlier later : ℕ) where
         high : ℕ
         high = later * 2 ^ (12 - k) % 2 ^ 16
 
-        turned : later < 4096 → (q : ℕ) → q < 12 → bit (bit_or (bit_or reached low) high) q ≡ max (bit reached q) (meet earlier later q k)
+        turned : later < 4096 → (q : ℕ) → q < 12 → bit (bit_or reached (bit_or low high)) q ≡ max (bit reached q) (meet earlier later q k)
         turned n q l =
-            omega (arith, bit_or_lem (bit_or reached low) high q, bit_or_lem reached low q, turned_bit 16 later k q (omega arith) n h l, bit_lt later ((k + q) % 12))
+            omega (arith, bit_or_lem reached (bit_or low high) q, bit_or_lem low high q, turned_bit 16 later k q (omega arith) n h l, bit_lt later ((k + q) % 12))
 
   module _ {k reached : ℕ} (t : Turning earlier later k reached) (h : 12 ≤ k) where
     all_reached : later < 4096 → (q : ℕ) → q < 12 → bit reached q ≡ most (meet earlier later q) 0 12

@@ -18,15 +18,13 @@ pub fn gather(cells: &[u8], tracks: usize, others: &mut [u16]) -> u16
     ensures { ClassSets (cut (length others.old + 1) tracks cells.now) result others.new }
 {
     let bits = class_bits();
-    let mut base = tracks;
-    let mut k = 0;
-    while k < others.len() {
-        let end = base + tracks;
-        others[k] = class_set(&cells[base..end], &bits);
-        base = end;
-        k += 1;
+    let (first, mut left) = cells.split_at(tracks);
+    for other in others.iter_mut() {
+        let (column, rest) = left.split_at(tracks);
+        *other = class_set(column, &bits);
+        left = rest;
     }
-    class_set(&cells[0..tracks], &bits)
+    class_set(first, &bits)
 }
 
 // The class bit of every byte, made once for a whole score.
@@ -34,10 +32,8 @@ fn class_bits() -> [u16; BYTES]
     ensures { ClassBits result }
 {
     let mut bits = [0u16; BYTES];
-    let mut cell: u8 = 0;
-    while cell <= HIGHEST_PITCH {
+    for cell in 0..=HIGHEST_PITCH {
         bits[cell as usize] = 1 << class_of(Pitch(cell)).0;
-        cell += 1;
     }
     bits
 }
@@ -59,10 +55,8 @@ fn looked_up(column: &[u8], bits: &[u16; BYTES]) -> u16
     ensures { result ≡ class_set column.now }
 {
     let mut mask: u16 = 0;
-    let mut i = 0;
-    while i < column.len() {
-        mask = mask | bits[column[i] as usize];
-        i += 1;
+    for &cell in column {
+        mask |= bits[cell as usize];
     }
     mask
 }
@@ -72,13 +66,10 @@ pub fn classes_of(column: &[u8]) -> u16
     ensures { result ≡ class_set column.now }
 {
     let mut mask: u16 = 0;
-    let mut i = 0;
-    while i < column.len() {
-        let cell = column[i];
+    for &cell in column {
         if cell <= HIGHEST_PITCH {
-            mask = mask | (1 << class_of(Pitch(cell)).0);
+            mask |= 1 << class_of(Pitch(cell)).0;
         }
-        i += 1;
     }
     mask
 }

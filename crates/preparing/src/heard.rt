@@ -12,13 +12,7 @@ use score::MOST_COLUMNS;
 pub fn any_empty(others: &[u16]) -> bool
     ensures { result ≡ some is_empty others.now }
 {
-    let mut empty = false;
-    let mut k = 0;
-    while k < others.len() {
-        empty = empty | (others[k] == 0);
-        k += 1;
-    }
-    empty
+    others.iter().fold(false, |empty, &set| empty | (set == 0))
 }
 
 // For each place the first class set from there on that is not 0, carried from the last place to the first; 0 where none is.
@@ -28,15 +22,12 @@ pub fn carry(others: &[u16]) -> [u16; MOST_COLUMNS]
 {
     let mut later = [0u16; MOST_COLUMNS];
     let mut next: u16 = 0;
-    let mut left = others.len();
-    while 0 < left {
-        let k = left - 1;
+    for k in (0..others.len()).rev() {
         let own = others[k];
         if own != 0 {
             next = own;
         }
         later[k] = next;
-        left -= 1;
     }
     later
 }

@@ -8,4 +8,4 @@ mod heard;
 pub mod sets;
 
 pub use classes::classes_of;
-pub use sets::{Preparation, prepare, set_between};
+pub use sets::{prepare, set_between};

@@ -15,31 +15,19 @@ ghost use Rattle.preparing.specs.Preparing.{Prepares};
 use crate::classes::{classes_of, gather};
 use crate::heard::{any_empty, carry};
 use score::checks::{bad_length, check_score};
-use score::{HIGHEST_SET, MOST_COLUMNS, Refusal, Verdict};
+use score::{HIGHEST_SET, MOST_COLUMNS, Refusal, Rule};
 use summing::{Summary, summary_of};
-
-// The answer of a preparation: the summary of the sets, or a refusal.
-#[derive(Clone, Copy)]
-pub enum Preparation {
-    Prepared(Summary),
-    Refused(Refusal),
-}
 
 // Fills the lent sets, all n - 1 of them: each of its column and the next with a pitch, 4095 where the column is empty or none
 // follows. Gives their summary. Or refuses, 1, 2, 3 or 6, and writes nothing.
-pub fn prepare(cells: &[u8], tracks: usize, sets: &mut [u16]) -> Preparation
+pub fn prepare(cells: &[u8], tracks: usize, sets: &mut [u16]) -> Result<Summary, Refusal>
     ensures { Prepares cells.now tracks sets.old result sets.new }
 {
-    if let Verdict::Refused(r) = check_score(cells, tracks) {
-        return Preparation::Refused(r);
-    }
+    check_score(cells, tracks)?;
     if bad_length(cells, tracks, sets.len()) {
-        return Preparation::Refused(Refusal {
-            number: 6,
-            place: 0,
-        });
+        return Err(Refusal::new(Rule::SetsLength));
     }
-    Preparation::Prepared(filled(cells, tracks, sets))
+    Ok(filled(cells, tracks, sets))
 }
 
 // All sets filled, and then their summary.
@@ -81,12 +69,10 @@ fn turn(first: u16, sets: &mut [u16])
     ensures { Turned first sets.old sets.old sets.new }
 {
     let mut earlier = first;
-    let mut k = 0;
-    while k < sets.len() {
-        let later = sets[k];
-        sets[k] = set_of(earlier, later);
+    for set in sets.iter_mut() {
+        let later = *set;
+        *set = set_of(earlier, later);
         earlier = later;
-        k += 1;
     }
 }
 
@@ -96,13 +82,12 @@ fn turn_to(first: u16, later: &[u16; MOST_COLUMNS], others: &mut [u16])
     ensures { Turned first others.old later.now others.new }
 {
     let mut earlier = first;
-    let mut k = 0;
-    while k < others.len() {
-        let own = others[k];
+    // Not by a `zip` with the later ones: after it nothing would be known of what was written.
+    for (k, other) in others.iter_mut().enumerate() {
+        let own = *other;
         let next = later[k];
-        others[k] = set_of(earlier, next);
+        *other = set_of(earlier, next);
         earlier = own;
-        k += 1;
     }
 }
 
@@ -112,12 +97,10 @@ fn set_of(earlier: u16, later: u16) -> u16
     ensures { SetOf earlier later result }
 {
     let mut reached: u16 = 0;
-    let mut k: u32 = 0;
-    while k < 12 {
+    for k in 0..12u32 {
         if (earlier >> k) & 1 == 1 {
-            reached = reached | (later >> k) | (later << (12 - k));
+            reached |= (later >> k) | (later << (12 - k));
         }
-        k += 1;
     }
     (reached & HIGHEST_SET) ^ HIGHEST_SET
 }

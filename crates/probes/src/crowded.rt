@@ -3,14 +3,14 @@
 // pairs stand, notes are repeated, intervals fall, and notes lie outside. The lent sets are those of the score or of another one,
 // as they are, with bits turned, or all with no interval or with every one.
 
-use gapped::drawing::draw;
-use jobs::buffers::{Cells, Sets, Theme};
+use gapped::drawing::{draw, tone_at};
+use jobs::buffers::{Cells, Sets, Theme, fill_by};
 use jobs::shapes::{ask_of, way_of};
 use judging::answers::ask_prepare;
 use mending::arranging::lend_sets;
 use mending::edit::lent_of;
 use second::asks::{Ask, columns_of};
-use second::totals::{more, put_byte};
+use second::totals::more;
 
 // How many rounds there are.
 pub fn number_of_rounds() -> usize {
@@ -28,42 +28,31 @@ pub fn crowded_ask(round: usize) -> Ask {
     )
 }
 
-// One of the three pitches, at one of the three places.
-fn tone(lowest: usize, k: usize) -> u8 {
-    let above: u8 = match k {
-        0 => 0,
-        1 => 2,
-        _ => 12,
-    };
-    match lowest % 3 {
-        0 => above,
-        1 => std::num::wrapping_add_u8(115, above),
-        _ => std::num::wrapping_add_u8(60, above),
-    }
-}
+// How far the three pitches lie above the lowest.
+const ABOVE: [u8; 3] = [0, 2, 12];
 
 // Cell i: one of four is a rest, and so are all of one column of four.
 fn crowded_cell(round: usize, i: usize, column: usize) -> u8 {
-    let k = draw(round, more(i, 500), 4);
-    if k == 3 {
-        return 255;
-    }
     if draw(round, more(column, 600), 4) == 0 {
         return 255;
     }
-    tone(round, k)
+    ABOVE
+        .get(draw(round, more(i, 500), 4))
+        .map_or(255, |&above| tone_at(round, above))
 }
 
-fn fill_score(cells: &mut [u8], many: usize, h: usize, round: usize) {
-    for i in 0..many {
-        put_byte(cells, i, crowded_cell(round, i, columns_of(i, h)));
-    }
+fn fill_score(cells: &mut [u8], a: Ask, round: usize) {
+    fill_by(
+        cells,
+        a.cells,
+        |i| crowded_cell(round, i, columns_of(i, a.h)),
+    );
 }
 
 fn fill_theme(theme: &mut [u8], many: usize, round: usize) {
-    for i in 0..many {
-        put_byte(theme, i, tone(round / 3, draw(round, more(i, 700), 3)));
-    }
+    fill_by(theme, many, |i| {
+        tone_at(round / 3, ABOVE[draw(round, more(i, 700), 3)])
+    });
 }
 
 // The score whose sets are lent: in one round of three another one.
@@ -83,9 +72,9 @@ pub fn arrange_crowded(
     a: Ask,
     round: usize,
 ) {
-    fill_score(cells, a.cells, a.h, sets_of(round));
-    ask_prepare(cells, sets, a);
+    fill_score(cells, a, sets_of(round));
+    let _ = ask_prepare(cells, sets, a);
     lend_sets(sets, a.sets, lent_of(round / 2 % 4));
-    fill_score(cells, a.cells, a.h, round);
+    fill_score(cells, a, round);
     fill_theme(theme, a.notes, round);
 }

@@ -1,15 +1,10 @@
 // The library's explanation as plain numbers, on the part of the lent buffers that is asked for.
 
 use explaining::{Explanation, Reason, Sifted, explain};
-use grounds::answers::{
-    ABSENT, Answer, DISMISSED, EMPTY, KEPT, LISTED, NO_COLUMN, NO_SHIFT, OUTSIDE, REFUSED,
-    Screened, TOO_FEW, UNASKED, Why, bare, joined, unnamed,
-};
-use judging::answers::part;
-use score::Column;
-use second::asks::Ask;
-use second::away::{Away, row};
-use second::totals::size;
+use grounds::answers::{Answer, Screened, Why};
+use judging::answers::{away_in, up_to};
+use score::{Column, Refusal};
+use second::asks::{Ask, Case};
 use ways::{Pair, Way};
 
 // The places for tracks.
@@ -22,54 +17,49 @@ pub struct Told {
     pub tracks: Tracks,
 }
 
-fn away_in(reason: Reason) -> Away {
-    match reason {
-        Reason::Refused(r) => Away {
-            number: r.number,
-            place: r.place,
-        },
-        _ => row(0),
-    }
-}
-
 fn why_in(reason: Reason) -> Why {
     match reason {
-        Reason::Listed => bare(LISTED),
-        Reason::NoShift => bare(NO_SHIFT),
-        Reason::NoColumn => bare(NO_COLUMN),
-        Reason::TooFew => bare(TOO_FEW),
-        Reason::Empty => bare(EMPTY),
-        Reason::Outside(i) => Why {
-            reason: OUTSIDE,
-            note: size(i),
-        },
-        Reason::Absent(i) => Why {
-            reason: ABSENT,
-            note: size(i),
-        },
-        Reason::Refused(_) => bare(REFUSED),
+        Reason::Listed => Why::Listed,
+        Reason::NoShift => Why::NoShift,
+        Reason::NoColumn => Why::NoColumn,
+        Reason::TooFew => Why::TooFew,
+        Reason::Empty => Why::Empty,
+        Reason::Outside(note) => Why::Outside(usize::from(note)),
+        Reason::Absent(note) => Why::Absent(usize::from(note)),
     }
 }
 
 fn screened_in(sifted: Sifted) -> Screened {
     match sifted {
-        Sifted::Unasked => unnamed(UNASKED),
-        Sifted::Kept => unnamed(KEPT),
-        Sifted::Dismissed(l) => Screened {
-            verdict: DISMISSED,
-            interval: size(l.number),
+        Sifted::Unasked => Screened::Unasked,
+        Sifted::Kept => Screened::Kept,
+        Sifted::Dismissed(l) => Screened::Dismissed {
+            interval: usize::from(l.number),
             size: l.size.0,
         },
     }
 }
 
-fn plain(e: Explanation) -> Told {
-    let reason = e.reason;
-    let sifted = e.sifted;
-    let tracks = e.tracks;
-    Told {
-        answer: joined(away_in(reason), why_in(reason), screened_in(sifted)),
-        tracks,
+// Where the call is turned away there are no tracks, and nothing is asked of the sets.
+fn plain(answer: Result<Explanation, Refusal>) -> Told {
+    match answer {
+        Ok(e) => {
+            let tracks = e.tracks;
+            Told {
+                answer: Answer {
+                    why: Ok(why_in(e.reason)),
+                    screened: screened_in(e.sifted),
+                },
+                tracks,
+            }
+        }
+        Err(r) => Told {
+            answer: Answer {
+                why: Err(away_in(r)),
+                screened: Screened::Unasked,
+            },
+            tracks: [0; 64],
+        },
     }
 }
 
@@ -81,26 +71,17 @@ fn way_in(way: second::ways::Way) -> Way {
     }
 }
 
-fn pair_of(a: Ask) -> Pair {
-    Pair {
+pub fn ask_explanation(case: Case<'_>, a: Ask) -> Told {
+    let pair = Pair {
         column: Column(a.column),
         shift: a.shift,
-    }
-}
-
-pub fn ask_explanation(cells: &[u8], theme: &[u8], sets: &[u16], a: Ask) -> Told {
-    let many = part(a.cells, cells.len());
-    let m = part(a.notes, theme.len());
-    let last = part(a.sets, sets.len());
-    let way = a.way;
-    let pair = pair_of(a);
-    let e = explain(
-        &cells[..many],
+    };
+    plain(explain(
+        up_to(case.cells, a.cells),
         a.h,
-        &theme[..m],
-        way_in(way),
+        up_to(case.theme, a.notes),
+        way_in(a.way),
         pair,
-        &sets[..last],
-    );
-    plain(e)
+        up_to(case.sets, a.sets),
+    ))
 }

@@ -1,42 +1,37 @@
 // How many explanations were compared, by what they say, and how many differed.
 
-use crate::lines::{reason_name, verdict_name};
-use crate::turns::{COMPARED, DIFFERED, HIGHER_TRACK, LATER_INTERVAL, LATER_NOTE, place_of};
-use reporting::pieces::{line, say, tried};
-use second::totals::count;
+use crate::counts::{Counts, Screenings};
 use std::io;
 
-// A count after what it is.
-fn told(rt: &impl Print, text: &[u8], counts: &[u64], place: usize) -> io::Result<()> {
-    say(rt, text)?;
-    tried(rt, count(counts, place))
-}
-
 // A reason, and how many there are by what the sets make of the column.
-fn reason_line(rt: &impl Print, counts: &[u64], reason: u8) -> io::Result<()> {
-    reason_name(rt, reason)?;
-    say(rt, b":")?;
-    for verdict in 0..3 {
-        verdict_name(rt, verdict)?;
-        tried(rt, count(counts, place_of(reason, verdict)))?;
-    }
-    line(rt)
+fn reason_line(rt: &impl Print, reason: &str, s: Screenings) -> io::Result<()> {
+    let Screenings {
+        unasked,
+        kept,
+        dismissed,
+    } = s;
+    print!(rt; " {reason}: unasked {unasked} kept {kept} dismissed {dismissed}\n")
 }
 
-fn reason_lines(rt: &impl Print, counts: &[u64]) -> io::Result<()> {
-    for reason in 0..8 {
-        reason_line(rt, counts, reason)?;
-    }
-    Ok(())
+fn reason_lines(rt: &impl Print, counts: Counts) -> io::Result<()> {
+    reason_line(rt, "listed", counts.listed)?;
+    reason_line(rt, "no-shift", counts.no_shift)?;
+    reason_line(rt, "column-0", counts.no_column)?;
+    reason_line(rt, "too-few", counts.too_few)?;
+    reason_line(rt, "empty", counts.empty)?;
+    reason_line(rt, "outside", counts.outside)?;
+    reason_line(rt, "absent", counts.absent)?;
+    reason_line(rt, "refused", counts.refused)
 }
 
-pub fn totals(rt: &impl Print, counts: &[u64]) -> io::Result<()> {
-    told(rt, b"compared: explanations", counts, COMPARED)?;
-    line(rt)?;
+pub fn totals(rt: &impl Print, counts: Counts) -> io::Result<()> {
+    let compared = counts.compared;
+    let later_note = counts.later_note;
+    let later_interval = counts.later_interval;
+    let higher_track = counts.higher_track;
+    let differed = counts.differed;
+    print!(rt; "compared: explanations {compared}\n")?;
     reason_lines(rt, counts)?;
-    told(rt, b"by a later note", counts, LATER_NOTE)?;
-    told(rt, b", by a later interval", counts, LATER_INTERVAL)?;
-    told(rt, b", in a higher track", counts, HIGHER_TRACK)?;
-    told(rt, b"\ndiffered", counts, DIFFERED)?;
-    line(rt)
+    print!(rt; "by a later note {later_note}, by a later interval {later_interval}")?;
+    print!(rt; ", in a higher track {higher_track}\ndiffered {differed}\n")
 }

@@ -1,25 +1,23 @@
 -- The fields of a line read one after the other into a buffer: the values so far stand in the buffer from the base on, and
 -- what is left of the line is read from the place on. Laws: start, end, stop, cell. Assumes nothing.
 use mathlib.Core.Path.{◌≡◌, refl, sym, ap, ◌∙◌}
-use mathlib.Core.Bool.{Bool, true, false, not, ◌||◌, true≢false}
+use mathlib.Core.Bool.{Bool}
 use mathlib.Core.Logic.{⊎_elim}
 use mathlib.Core.List.{List, [], ◌∷◌, ◌++◌, append_assoc, append-nil}
 use Prim.Native.Nat.{ℕ, zero, suc, ◌+◌, ◌-◌, ◌≤◌, ◌<◌}
 use native.Mathlib.Nat.{sub-zero, eq-or-lt_of_le}
 use native.Mathlib.Numerals.{add-one}
 use native.Mathlib.Omega.{arith}
-use lib.Dec.{eqb}
 use lib.ListN.{length, get_or, take, drop, set, length-set, length-drop, drop_of_length-le}
 use lib.Seq.{take-set-le, drop-set-add, take-suc-set}
-use borrow.Author.Tests.{eq-eqb, ne_eqb, eqb-true, eqb-false}
+use borrow.Author.Tests.{eq-eqb, ne_eqb}
 use Rattle.words.specs.declared.numbers.Numeral.{Numeral}
-use Rattle.words.specs.declared.numbers.Numeral.TheVariants.{At, Bad}
-use Rattle.reading.specs.declared.lines.Line.TheVariants as Line
+use Rattle.std.specs.Prelude.{Some, None}
 use Rattle.words.specs.Words.{Read, got, bad, next, front, cell}
 use Rattle.reading.specs.Reading.{fields}
 use Rattle.words.specs.Places.{Numbered}
 use Rattle.reading.specs.Steps.{Filled}
-use Rattle.words.proofs.Places.{front_at, drop_more, number_within}
+use Rattle.words.proofs.Places.{front_at, drop_more}
 
 -- values before what is read
 abbrev pub prepend : List ℕ → Read (List ℕ) → Read (List ℕ)
@@ -72,28 +70,14 @@ stored_one : (into : List ℕ) (base count v : ℕ) → base + count < length in
 stored_one into base count v h =
     rw (drop-set-add base into count v, add-one count) (sym (take-suc-set (drop base into) count v (omega (arith, length-drop base into))))
 
--- what a test of the byte and of the count says
-stop_or : (b count limit : ℕ) → (not (eqb b 9) || eqb count limit) ≡ true → b ≡ 9 → count ≡ limit
-stop_or b count limit e f = step (eqb count limit) refl (rw (eq-eqb b 9 f) at e)
-  where
-    step : (t : Bool) → eqb count limit ≡ t → eqb count limit ≡ true → count ≡ limit
-    step true p q = eqb-true count limit p
-    step false p q = eqb-true count limit q
-
-go_on : (b count limit : ℕ) → (not (eqb b 9) || eqb count limit) ≡ false → (b ≡ 9) × (count ≡ limit → ⊥)
-go_on b count limit e = step (eqb b 9) refl e
-  where
-    step : (t : Bool) → eqb b 9 ≡ t → (not t || eqb count limit) ≡ false → (b ≡ 9) × (count ≡ limit → ⊥)
-    step true p q = (eqb-true b 9 p, eqb-false count limit q)
-    step false p q = absurd (true≢false q)
-
 module _ (text : List ℕ) (from : ℕ) (rests : Bool) (limit base : ℕ) (into₀ : List ℕ) where
   pub filling_start : from ≤ length text → base + limit ≤ length into₀ → Filling text from rests limit base into₀ into₀ from 0
   filling_start h r = record { so_far = rw (sub-zero limit) (sym (prepend_nil _)); within = h; few = omega arith; long = refl; before = refl; room = r }
 
   module _ {into : List ℕ} {at count : ℕ} (f : Filling text from rests limit base into₀ into at count) where
     -- no line feed is there, and no field
-    stops : fields rests (limit - count) (drop at text) ≡ bad → Filled text limit base into₀ Line.Bad into (fields rests limit (drop from text))
+    stops : fields rests (limit - count) (drop at text) ≡ bad
+        → Filled text limit base into₀ None into (fields rests limit (drop from text))
     stops e =
         record {
           is = sym (f.so_far ∙ ap (prepend (take count (drop base into))) e);
@@ -103,19 +87,22 @@ module _ (text : List ℕ) (from : ℕ) (rests : Bool) (limit base : ℕ) (into�
           before = f.before;
         }
 
-    pub filling_short : length text ≤ at → Filled text limit base into₀ Line.Bad into (fields rests limit (drop from text))
+    pub filling_short : length text ≤ at → Filled text limit base into₀ None into (fields rests limit (drop from text))
     filling_short h =
         let z : front (drop at text) ≡ 0 = ap front (drop_of_length-le text h) in
         stops (fields_stop rests (limit - count) (drop at text) (λ e. omega arith) (λ e. omega arith))
 
-    module _ (h : at < length text) where
-      pub filling_end : get_or text at 0 ≡ 10 → Filled text limit base into₀ (Line.Read count (at + 1)) into (fields rests limit (drop from text))
+    module _ {b : ℕ} (h : at < length text) (here : b ≡ get_or text at 0) where
+      front_is : front (drop at text) ≡ b
+      front_is = front_at text at ∙ sym here
+
+      pub filling_end : b ≡ 10 → Filled text limit base into₀ (Some (record { count = count; next = at + 1 })) into (fields rests limit (drop from text))
       filling_end e =
           record {
             is =
                 sym
                 (f.so_far
-                ∙ ap (prepend (take count (drop base into))) (fields_end rests (limit - count) (drop at text) (front_at text at ∙ e))
+                ∙ ap (prepend (take count (drop base into))) (fields_end rests (limit - count) (drop at text) (front_is ∙ e))
                 ∙ rw (append-nil, drop_more text at));
             within = omega arith;
             few = f.few;
@@ -123,16 +110,16 @@ module _ (text : List ℕ) (from : ℕ) (rests : Bool) (limit base : ℕ) (into�
             before = f.before;
           }
 
-      module _ (n : get_or text at 0 ≡ 10 → ⊥) where
-        pub filling_stop : (not (eqb (get_or text at 0) 9) || eqb count limit) ≡ true → Filled text limit base into₀ Line.Bad into (fields rests limit (drop from text))
+      module _ (n : b ≡ 10 → ⊥) where
+        -- no tab is there, or no field may come
+        pub filling_stop : (b ≡ 9 → count ≡ limit) → Filled text limit base into₀ None into (fields rests limit (drop from text))
         filling_stop o =
             stops
-            (fields_stop rests (limit - count) (drop at text) (λ e. n (sym (front_at text at) ∙ e))
-            (λ e. let q = stop_or (get_or text at 0) count limit o (sym (front_at text at) ∙ e) in omega arith))
+            (fields_stop rests (limit - count) (drop at text) (λ e. n (sym front_is ∙ e)) (λ e. let q = o (sym front_is ∙ e) in omega arith))
 
-        module _ (o : (not (eqb (get_or text at 0) 9) || eqb count limit) ≡ false) where
+        module _ (tab : b ≡ 9) (o : count ≡ limit → ⊥) where
           less : count < limit
-          less = ⊎_elim (λ (e : count ≡ limit). absurd ((go_on (get_or text at 0) count limit o).1 e)) (λ l. l) (eq-or-lt_of_le f.few)
+          less = ⊎_elim (λ (e : count ≡ limit). absurd (o e)) (λ l. l) (eq-or-lt_of_le f.few)
 
           pub filling_room : Room limit base into count
           filling_room = let l = less in record { less = l; within = omega (arith, f.long, f.room) }
@@ -142,28 +129,29 @@ module _ (text : List ℕ) (from : ℕ) (rests : Bool) (limit base : ℕ) (into�
           on =
               let l = less in
               let e : limit - count ≡ suc (limit - (count + 1)) = omega arith in
-              rw e (fields_cell rests (limit - (count + 1)) (drop at text) (front_at text at ∙ (go_on (get_or text at 0) count limit o).0) ∙ rw (drop_more text at))
+              rw e (fields_cell rests (limit - (count + 1)) (drop at text) (front_is ∙ tab) ∙ rw (drop_more text at))
 
-          module _ {r : Numeral} (c : Numbered text r (cell rests (drop (at + 1) text))) where
-            pub filling_bad : r ≡ Bad → Filled text limit base into₀ Line.Bad into (fields rests limit (drop from text))
-            filling_bad e = stops (on ∙ rw (← c.is, e))
+          pub filling_bad : Numbered text None (cell rests (drop (at + 1) text))
+              → Filled text limit base into₀ None into (fields rests limit (drop from text))
+          filling_bad c = stops (on ∙ rw (← c.is))
 
-            pub filling_more : {v here : ℕ} → r ≡ At v here → Filling text from rests limit base into₀ (set into (base + count) v) here (count + 1)
-            filling_more {v} {here} e =
-                let l = less in
-                let one : fields rests (limit - count) (drop at text)
-                ≡ next (fields rests (limit - (count + 1)) (drop here text)) (λ values end. got (v ∷ values) end)
-                = on ∙ rw (← c.is, e) in
-                record {
-                  so_far =
-                      f.so_far
-                      ∙ ap (prepend (take count (drop base into))) one
-                      ∙ prepend_one (take count (drop base into)) v (fields rests (limit - (count + 1)) (drop here text))
-                      ∙ ap (λ (l : List ℕ). prepend l (fields rests (limit - (count + 1)) (drop here text)))
-                      (stored_one into base count v filling_room.within);
-                  within = number_within c e;
-                  few = omega arith;
-                  long = length-set into (base + count) v ∙ f.long;
-                  before = take-set-le base into (base + count) v (omega arith) ∙ f.before;
-                  room = f.room;
-                }
+          pub filling_more : {field : Numeral} → Numbered text (Some field) (cell rests (drop (at + 1) text))
+              → Filling text from rests limit base into₀ (set into (base + count) field.value) field.next (count + 1)
+          filling_more {field} c =
+              let l = less in
+              let one : fields rests (limit - count) (drop at text)
+              ≡ next (fields rests (limit - (count + 1)) (drop field.next text)) (λ values end. got (field.value ∷ values) end)
+              = on ∙ rw (← c.is) in
+              record {
+                so_far =
+                    f.so_far
+                    ∙ ap (prepend (take count (drop base into))) one
+                    ∙ prepend_one (take count (drop base into)) field.value (fields rests (limit - (count + 1)) (drop field.next text))
+                    ∙ ap (λ (l : List ℕ). prepend l (fields rests (limit - (count + 1)) (drop field.next text)))
+                    (stored_one into base count field.value filling_room.within);
+                within = c.within;
+                few = omega arith;
+                long = length-set into (base + count) field.value ∙ f.long;
+                before = take-set-le base into (base + count) field.value (omega arith) ∙ f.before;
+                room = f.room;
+              }

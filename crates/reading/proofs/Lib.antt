@@ -1,6 +1,6 @@
 -- Laws of this crate's definitions. Of lines as they are read: `Filling`, `Lining`, `Scoring`. Of the lines of an input:
 -- `LinesRead` (a line alone), `LinesDivided` (which they are), `LineLengths`, `ChordRuns`, `LinesSaid`, `FirstFaults` (the
--- first faulty one), `EachFault`. Of a whole input and of the call: `Copying`, `Wholes`, `Takings`,
+-- first faulty one), `EachFault`. Of a whole input and of the call: `Wholes`, `Takings`,
 -- `AnswersByLines`, `Unique` (the contract settles the call).
 mod Filling
 mod Lining
@@ -12,7 +12,6 @@ mod ChordRuns
 mod LinesSaid
 pub mod FirstFaults
 pub mod EachFault
-mod Copying
 mod Wholes
 pub mod Takings
 pub mod Unique

@@ -12,18 +12,17 @@ use lib.Dec.{eqb, leb}
 use lib.ListN.{length, take, drop, length-append, length-drop}
 use lib.Seq.{take-nil, take-take, drop-drop}
 use borrow.Author.Tests.{eq-eqb, ne_eqb, eqb-true, leb-true}
+use Rattle.std.specs.Prelude.{Some, None, Ok, Err}
 use Rattle.score.specs.Limits.{most_tracks, most_columns, most_cells}
 use Rattle.score.specs.Score.{cut}
 use Rattle.score.proofs.Columns.{cut_length}
 use Rattle.reading.specs.declared.lines.Line.{Line}
-use Rattle.reading.specs.declared.lines.Line.TheVariants.{Read as Lined, Bad}
-use Rattle.reading.specs.declared.lines.ChordLines.TheVariants as Chord
 use Rattle.words.specs.Words.{Read, got, bad, begins}
 use Rattle.reading.specs.Reading.{chord_word, fields, counted, tracks_right, chord_line}
 use Rattle.reading.specs.Request.{Chords, all, fault, above, on_chord, chords}
 use Rattle.reading.specs.Steps.{Filled, Scored}
 use Rattle.words.proofs.Places.{bad_got}
-use Rattle.reading.proofs.Lining.{filled_bad, filled_within, filled_few, filled_is, filled_length}
+use Rattle.reading.proofs.Lining.{filled_bad, filled_is, filled_length}
 
 -- columns before what is read
 abbrev pub above_all : List (List ℕ) → Chords → Chords
@@ -146,7 +145,8 @@ module _ (text : List ℕ) (from : ℕ) (cells₀ : List ℕ) where
       }
 
   module _ {cells : List ℕ} {at tracks columns base : ℕ} (s : Scoring text from cells₀ cells at tracks columns base) where
-    pub scoring_end : length text ≤ at → Scored (Chord.Read tracks columns) cells (chords most_columns 0 (drop from text))
+    pub scoring_end : length text ≤ at
+        → Scored (Ok (record { tracks = tracks; columns = columns })) cells (chords most_columns 0 (drop from text))
     scoring_end h =
         record {
           is =
@@ -159,7 +159,8 @@ module _ (text : List ℕ) (from : ℕ) (cells₀ : List ℕ) where
         }
 
     -- a fault here: as many right lines stand before it as there are columns
-    faults : chords (most_columns - columns) tracks (drop at text) ≡ fault 0 → Scored (Chord.Faulty columns) cells (chords most_columns 0 (drop from text))
+    faults : chords (most_columns - columns) tracks (drop at text) ≡ fault 0
+        → Scored (Err (record { 0 = columns })) cells (chords most_columns 0 (drop from text))
     faults e =
         record {
           is = sym (s.so_far ∙ ap (above_all (cut columns tracks cells)) e ∙ ap fault (omega (arith, cut_length columns tracks cells)));
@@ -171,7 +172,8 @@ module _ (text : List ℕ) (from : ℕ) (cells₀ : List ℕ) where
       left_some : length (drop at text) ≡ 0 → ⊥
       left_some e = omega (arith, length-drop at text)
 
-      pub scoring_many : columns ≡ most_columns → Scored (Chord.Faulty columns) cells (chords most_columns 0 (drop from text))
+      pub scoring_many : columns ≡ most_columns
+          → Scored (Err (record { 0 = columns })) cells (chords most_columns 0 (drop from text))
       scoring_many e =
           let z : most_columns - columns ≡ 0 = omega arith in
           faults (rw z (chords_many tracks (drop at text) left_some))
@@ -196,49 +198,50 @@ module _ (text : List ℕ) (from : ℕ) (cells₀ : List ℕ) where
             let e : most_columns - columns ≡ suc (most_columns - (columns + 1)) = omega arith in
             rw e (chords_on (most_columns - (columns + 1)) tracks (drop at text) left_some)
 
-        module _ {r : Line} {cells' : List ℕ} (f : Filled text most_tracks base cells r cells' (chord_line tracks (drop at text))) where
-          pub scoring_bad : r ≡ Bad → Scored (Chord.Faulty columns) cells' (chords most_columns 0 (drop from text))
-          scoring_bad e =
-              let q = faults (on ∙ rw (filled_bad f e)) in
-              record { is = q.is; few = q.few; narrow = q.narrow }
+        pub scoring_bad : {cells' : List ℕ} → Filled text most_tracks base cells None cells' (chord_line tracks (drop at text))
+            → Scored (Err (record { 0 = columns })) cells' (chords most_columns 0 (drop from text))
+        scoring_bad f =
+            let q = faults (on ∙ rw (filled_bad f)) in
+            record { is = q.is; few = q.few; narrow = q.narrow }
 
-          module _ {count here : ℕ} (e : r ≡ Lined count here) where
-            abbrev chord : List ℕ
-            chord = take count (drop base cells')
+        module _ {line : Line} {cells' : List ℕ} (f : Filled text most_tracks base cells (Some line) cells' (chord_line tracks (drop at text))) where
+          abbrev chord : List ℕ
+          chord = take line.count (drop base cells')
 
-            chord_long : length chord ≡ count
-            chord_long = filled_length f e scoring_room
+          chord_long : length chord ≡ line.count
+          chord_long = filled_length f scoring_room
 
-            right : tracks_right tracks count ≡ true
-            right = subst (λ (k : ℕ). tracks_right tracks k ≡ true) chord_long (chord_tracks tracks (drop at text) (filled_is f e))
+          right : tracks_right tracks line.count ≡ true
+          right = subst (λ (k : ℕ). tracks_right tracks k ≡ true) chord_long (chord_tracks tracks (drop at text) (filled_is f))
 
-            same : 1 ≤ columns → count ≡ tracks
-            same l = tracks_same tracks count right (s.some l)
+          same : 1 ≤ columns → line.count ≡ tracks
+          same l = tracks_same tracks line.count right (s.some l)
 
-            base_is : base ≡ columns * count
-            base_is = s.based ∙ times_same columns tracks count same
+          base_is : base ≡ columns * line.count
+          base_is = s.based ∙ times_same columns tracks line.count same
 
-            one : chords (most_columns - columns) tracks (drop at text) ≡ above chord (chords (most_columns - (columns + 1)) count (drop here text))
-            one = on ∙ rw (filled_is f e, chord_long)
+          one : chords (most_columns - columns) tracks (drop at text)
+              ≡ above chord (chords (most_columns - (columns + 1)) line.count (drop line.next text))
+          one = on ∙ rw (filled_is f, chord_long)
 
-            columns_are : cut columns tracks cells ++ (chord ∷ []) ≡ cut (columns + 1) count cells'
-            columns_are =
-                rw (cut_same columns tracks count cells cells' same (rw s.based at f.before), add-one columns, cut_more columns count cells', base_is)
+          columns_are : cut columns tracks cells ++ (chord ∷ []) ≡ cut (columns + 1) line.count cells'
+          columns_are =
+              rw (cut_same columns tracks line.count cells cells' same (rw s.based at f.before), add-one columns, cut_more columns line.count cells', base_is)
 
-            pub scoring_more : Scoring text from cells₀ cells' here count (columns + 1) (base + count)
-            scoring_more =
-                let l = scoring_less in
-                record {
-                  so_far =
-                      s.so_far
-                      ∙ ap (above_all (cut columns tracks cells)) one
-                      ∙ above_one (cut columns tracks cells) chord (chords (most_columns - (columns + 1)) count (drop here text))
-                      ∙ ap (λ (cs : List (List ℕ)). above_all cs (chords (most_columns - (columns + 1)) count (drop here text))) columns_are;
-                  within = filled_within f e;
-                  few = omega arith;
-                  narrow = filled_few f e;
-                  some = λ _. tracks_some tracks count right;
-                  based = omega (arith, base_is, add-mul columns 1 count, one-mul count);
-                  long = f.long ∙ s.long;
-                  big = s.big;
-                }
+          pub scoring_more : Scoring text from cells₀ cells' line.next line.count (columns + 1) (base + line.count)
+          scoring_more =
+              let l = scoring_less in
+              record {
+                so_far =
+                    s.so_far
+                    ∙ ap (above_all (cut columns tracks cells)) one
+                    ∙ above_one (cut columns tracks cells) chord (chords (most_columns - (columns + 1)) line.count (drop line.next text))
+                    ∙ ap (λ (cs : List (List ℕ)). above_all cs (chords (most_columns - (columns + 1)) line.count (drop line.next text))) columns_are;
+                within = f.within;
+                few = omega arith;
+                narrow = f.few;
+                some = λ _. tracks_some tracks line.count right;
+                based = omega (arith, base_is, add-mul columns 1 line.count, one-mul line.count);
+                long = f.long ∙ s.long;
+                big = s.big;
+              }

@@ -5,16 +5,18 @@ use mathlib.Core.List.{List}
 use Prim.Native.Nat.{ℕ, zero, suc, ◌+◌, ◌≤◌}
 use native.Mathlib.Omega.{arith}
 use lib.ListN.{length, take, drop}
+use Rattle.std.specs.Prelude.{Some, None, Ok, Err}
 use Rattle.asking.specs.Limits.{most_notes}
 use Rattle.score.specs.Limits.{most_tracks, most_columns}
 use Rattle.score.specs.Score.{cut}
 use Rattle.ways.specs.declared.way.AnyWay.{AnyWay}
 use Rattle.reading.specs.declared.lines.ThemeLine.{ThemeLine}
 use Rattle.reading.specs.declared.lines.ChordLines.{ChordLines}
+use Rattle.reading.specs.declared.lines.FaultyAfter.{FaultyAfter}
 use Rattle.words.specs.Words.{got}
 use Rattle.reading.specs.Reading.{Theme, theme_line}
 use Rattle.reading.specs.Request.{Chords, all, fault, chords, right, faulty, with_chords, with_theme, meaning}
-use Rattle.reading.specs.Steps.{theme_read, theme_next, theme_count, Themed, chords_read, chords_tracks, chords_count, Scored, Stood}
+use Rattle.reading.specs.Steps.{Themed, Scored, Stood}
 
 -- ---- what was read
 
@@ -35,20 +37,23 @@ pub record FaultGot (input : List ℕ) (here k : ℕ) : Type 0 where
   pub is : chords most_columns 0 (drop here input) ≡ fault k
   pub few : k ≤ most_columns
 
-module _ {input theme : List ℕ} {r : ThemeLine} (t : Themed input r theme (theme_line input)) where
-  pub theme_got : {way : AnyWay} {count here : ℕ} → r ≡ ThemeLine.Read way count here → ThemeGot input theme way count here
-  theme_got e = record { is = sym t.is ∙ ap (theme_read input theme) e; within = rw (ap theme_next e) at t.within; few = rw (ap theme_count e) at t.few }
+module _ {input theme : List ℕ} where
+  pub theme_got : {line : ThemeLine} → Themed input (Some line) theme (theme_line input)
+      → ThemeGot input theme line.way line.count line.next
+  theme_got t = record { is = sym t.is; within = t.within; few = t.few }
 
-  pub whole_bad : r ≡ ThemeLine.Bad → meaning input ≡ faulty 1
+  pub whole_bad : Themed input None theme (theme_line input) → meaning input ≡ faulty 1
   unfolding meaning
-  whole_bad e = ap with_theme (sym t.is ∙ ap (theme_read input theme) e)
+  whole_bad t = ap with_theme (sym t.is)
 
-module _ {input : List ℕ} {here : ℕ} {cells : List ℕ} {q : ChordLines} (s : Scored q cells (chords most_columns 0 (drop here input))) where
-  pub score_got : {tracks columns : ℕ} → q ≡ ChordLines.Read tracks columns → ScoreGot input here cells tracks columns
-  score_got g = record { is = sym s.is ∙ ap (chords_read cells) g; few = rw (ap chords_count g) at s.few; narrow = rw (ap chords_tracks g) at s.narrow }
+module _ {input : List ℕ} {here : ℕ} {cells : List ℕ} where
+  pub score_got : {lines : ChordLines} → Scored (Ok lines) cells (chords most_columns 0 (drop here input))
+      → ScoreGot input here cells lines.tracks lines.columns
+  score_got s = record { is = sym s.is; few = s.few; narrow = s.narrow }
 
-  pub fault_got : {k : ℕ} → q ≡ ChordLines.Faulty k → FaultGot input here k
-  fault_got f = record { is = sym s.is ∙ ap (chords_read cells) f; few = rw (ap chords_count f) at s.few }
+  pub fault_got : {after : FaultyAfter} → Scored (Err after) cells (chords most_columns 0 (drop here input))
+      → FaultGot input here after.0
+  fault_got s = record { is = sym s.is; few = s.few }
 
 -- ---- what it means
 

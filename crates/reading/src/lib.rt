@@ -8,4 +8,4 @@
 mod lines;
 pub mod request;
 
-pub use request::{Reading, read};
+pub use request::{ReadError, Reading, read};

@@ -3,7 +3,7 @@
 
 use cases::arranging::{arrange, arrange_theme};
 use cases::families::{job, number_of_jobs};
-use jobs::buffers::{Cells, Sets, Theme};
+use jobs::buffers::Buffers;
 use jobs::changes::at;
 use jobs::job::Job;
 use mending::arranging::lend_sets;
@@ -13,11 +13,12 @@ use probes::tried::{
     FEW_SHIFTS, SHIFTS, all_pairs, each_column, each_shift, few_column, few_pairs, few_shift,
 };
 use probes::worked::{arrange_worked, number_of_cases, worked_ask};
+use probing::counts::Counts;
 use probing::lines::case_head;
-use probing::turns::{Counts, turn};
-use second::asks::{Ask, Call, columns_of};
-use second::finder::next_pair;
-use second::ways::{counted, lowest};
+use probing::turns::turn;
+use second::asks::{Ask, Call, Case, columns_of, first_of};
+use second::finder::{list_end, next_pair};
+use second::ways::counted;
 use std::io;
 
 // One of so many jobs is explained.
@@ -28,122 +29,93 @@ const SMALL: usize = 6;
 
 const LARGE: usize = 10000;
 
-pub fn try_worked(
-    rt: &impl Print,
-    cells: &mut Cells,
-    theme: &mut Theme,
-    sets: &mut Sets,
-    counts: &mut Counts,
-) -> io::Result<()> {
+pub fn try_worked(rt: &impl Print, buffers: &mut Buffers, counts: &mut Counts) -> io::Result<()> {
     for k in 0..number_of_cases() {
         let a = worked_ask(k);
-        arrange_worked(cells, theme, sets, a, k);
-        case_head(rt, cells, theme, sets, a)?;
-        turn(rt, cells, theme, sets, counts, a, true)?;
+        arrange_worked(
+            &mut buffers.cells,
+            &mut buffers.theme,
+            &mut buffers.sets,
+            a,
+            k,
+        );
+        case_head(rt, buffers.case(), a)?;
+        turn(rt, buffers.case(), counts, a, true)?;
     }
     Ok(())
 }
 
 // At every column and shift.
-fn try_each(
-    rt: &impl Print,
-    cells: &[u8],
-    theme: &[u8],
-    sets: &[u16],
-    counts: &mut Counts,
-    a: Ask,
-) -> io::Result<()> {
+fn try_each(rt: &impl Print, case: Case<'_>, counts: &mut Counts, a: Ask) -> io::Result<()> {
     let n = columns_of(a.cells, a.h);
     for i in 0..all_pairs(n) {
         let tried = at(a, each_column(n, i / SHIFTS), each_shift(i % SHIFTS));
-        turn(rt, cells, theme, sets, counts, tried, false)?;
+        turn(rt, case, counts, tried, false)?;
     }
     Ok(())
 }
 
-// About the first pair of the list.
-fn try_few(
-    rt: &impl Print,
-    cells: &[u8],
-    theme: &[u8],
-    sets: &[u16],
-    counts: &mut Counts,
-    a: Ask,
-) -> io::Result<()> {
-    let way = a.way;
+// About the first pair of the list, or the end of one that has none.
+fn try_few(rt: &impl Print, case: Case<'_>, counts: &mut Counts, a: Ask) -> io::Result<()> {
     let n = columns_of(a.cells, a.h);
-    let f = next_pair(cells, theme, sets, a, Call::Plain, 1, lowest(way));
+    let pair = next_pair(case, a, Call::Plain, first_of(a.way))
+        .pair
+        .unwrap_or(list_end(a));
     for i in 0..few_pairs() {
-        let column = few_column(f.column, n, i / FEW_SHIFTS);
-        let tried = at(a, column, few_shift(way, f.shift, i % FEW_SHIFTS));
-        turn(rt, cells, theme, sets, counts, tried, false)?;
+        let column = few_column(pair.column, n, i / FEW_SHIFTS);
+        let tried = at(a, column, few_shift(a.way, pair.shift, i % FEW_SHIFTS));
+        turn(rt, case, counts, tried, false)?;
     }
     Ok(())
 }
 
-pub fn try_crowded(
-    rt: &impl Print,
-    cells: &mut Cells,
-    theme: &mut Theme,
-    sets: &mut Sets,
-    counts: &mut Counts,
-) -> io::Result<()> {
+pub fn try_crowded(rt: &impl Print, buffers: &mut Buffers, counts: &mut Counts) -> io::Result<()> {
     for round in 0..number_of_rounds() {
         let a = crowded_ask(round);
-        arrange_crowded(cells, theme, sets, a, round);
-        try_each(rt, cells, theme, sets, counts, a)?;
+        arrange_crowded(
+            &mut buffers.cells,
+            &mut buffers.theme,
+            &mut buffers.sets,
+            a,
+            round,
+        );
+        try_each(rt, buffers.case(), counts, a)?;
     }
     Ok(())
 }
 
 // Whether the job of number k is explained.
-fn taken(k: usize, j: Job, a: Ask) -> bool {
-    let way = a.way;
-    if !j.tried {
-        return false;
-    }
-    if !counted(way) {
-        return false;
-    }
-    if LARGE < a.cells {
-        return true;
-    }
-    k % STEP == 0
+fn taken(k: usize, a: Ask) -> bool {
+    counted(a.way) && (LARGE < a.cells || k.is_multiple_of(STEP))
 }
 
 // The job of number k, by its sets or others in their place.
 fn try_job(
     rt: &impl Print,
-    cells: &mut Cells,
-    theme: &mut Theme,
-    sets: &mut Sets,
+    buffers: &mut Buffers,
     counts: &mut Counts,
     k: usize,
     j: Job,
 ) -> io::Result<()> {
     let a = j.a;
-    if !taken(k, j, a) {
+    if !taken(k, a) {
         return Ok(());
     }
-    arrange(cells, sets, j);
-    arrange_theme(cells, theme, j);
-    lend_sets(sets, a.sets, lent_of(k % 4));
+    arrange(&mut buffers.cells, &mut buffers.sets, j);
+    arrange_theme(&mut buffers.cells, &mut buffers.theme, j);
+    lend_sets(&mut buffers.sets, a.sets, lent_of(k % 4));
     if columns_of(a.cells, a.h) <= SMALL {
-        try_each(rt, cells, theme, sets, counts, a)
+        try_each(rt, buffers.case(), counts, a)
     } else {
-        try_few(rt, cells, theme, sets, counts, a)
+        try_few(rt, buffers.case(), counts, a)
     }
 }
 
-pub fn try_jobs(
-    rt: &impl Print,
-    cells: &mut Cells,
-    theme: &mut Theme,
-    sets: &mut Sets,
-    counts: &mut Counts,
-) -> io::Result<()> {
+pub fn try_jobs(rt: &impl Print, buffers: &mut Buffers, counts: &mut Counts) -> io::Result<()> {
     for k in 0..number_of_jobs() {
-        try_job(rt, cells, theme, sets, counts, k, job(k))?;
+        if let Some(j) = job(k) {
+            try_job(rt, buffers, counts, k, j)?;
+        }
     }
     Ok(())
 }

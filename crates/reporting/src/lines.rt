@@ -1,148 +1,125 @@
 // What is written of answers: those that are to be said, one that differs with its case, and how much was tried.
 
-use crate::heads::case;
-use crate::pieces::{call_name, fault_name, line, number, pair, pairs, say, sets, tried};
+use crate::heads::case_name;
+use crate::pieces::{line, numbers, pairs};
 use jobs::job::Job;
 use jobs::refused::last_call;
-use judging::answers::Got;
-use judging::compare::Seen;
-use second::asks::{Ask, Call};
-use second::totals::{count, size, size16};
+use judging::answers::{Denied, Page};
+use judging::compare::{Fault, Left, Seen, page_in};
+use second::asks::{Ask, Call, Case};
 use std::io;
 
-// The counts, by their places.
-pub const SCORES: usize = 0;
-
-pub const THEMES: usize = 1;
-
-pub const PAGES: usize = 2;
-
-pub const PAIRS: usize = 3;
-
-pub const REFUSALS: usize = 4;
-
-pub const DIFFERED: usize = 5;
-
-pub const WRITTEN_PAGES: usize = 6;
-
-pub const WRITTEN_PAIRS: usize = 7;
+// How much was tried, and how many differed.
+#[derive(Clone, Copy, Default)]
+pub struct Tally {
+    pub scores: u64,
+    pub themes: u64,
+    pub pages: u64,
+    pub pairs: u64,
+    pub refusals: u64,
+    pub differed: u64,
+    pub written_pages: u64,
+    pub written_pairs: u64,
+}
 
 // Where a page begins, and its room.
 fn opening(rt: &impl Print, a: Ask, call: Call) -> io::Result<()> {
-    call_name(rt, call)?;
-    say(rt, b" from")?;
-    pair(rt, size16(a.column), a.shift)?;
-    say(rt, b" room")?;
-    number(rt, a.columns)
+    let first = a.pair();
+    let room = a.columns;
+    print!(rt; " {call} from {first} room {room}:")
 }
 
 // A page's answer.
-pub fn page(
+pub fn page_told(
     rt: &impl Print,
-    columns: &[u16],
-    shifts: &[i16],
+    left: Left<'_>,
     a: Ask,
     call: Call,
-    got: Got,
+    page: Page,
 ) -> io::Result<()> {
-    say(rt, b" ")?;
+    let end = if page.finished { "finished" } else { "more" };
+    let next = page.next;
+    let looks = page.looks;
+    print!(rt; " ")?;
     opening(rt, a, call)?;
-    say(rt, b":")?;
-    pairs(rt, columns, shifts, got.written)?;
-    if got.finished {
-        say(rt, b" finished,")?;
-    } else {
-        say(rt, b" more,")?;
-    }
-    say(rt, b" next")?;
-    pair(rt, size16(got.column), got.shift)?;
-    say(rt, b" looks")?;
-    tried(rt, got.looks as u64)?;
-    line(rt)
+    pairs(rt, left.columns, left.shifts, page.written)?;
+    print!(rt; " {end}, next {next} looks {looks}\n")
 }
 
 // A case that differs, with the sizes of what is lent and the library's answer.
 pub fn differing(
     rt: &impl Print,
-    cells: &[u8],
-    theme: &[u8],
-    s: &[u16],
+    case: Case<'_>,
     a: Ask,
     seen: Seen,
+    fault: Fault,
 ) -> io::Result<()> {
-    let fault = seen.fault;
-    let call = seen.call;
-    let got = seen.got;
-    say(rt, b"\nDIFFERS in")?;
-    fault_name(rt, fault)?;
-    say(rt, b":")?;
-    case(rt, cells, theme, a)?;
-    say(rt, b" sets")?;
-    sets(rt, s, a.sets)?;
-    say(rt, b" lent")?;
-    number(rt, a.sets)?;
-    number(rt, a.table)?;
-    number(rt, a.columns)?;
-    number(rt, a.shifts)?;
-    opening(rt, a, call)?;
-    say(rt, b": answered")?;
-    number(rt, size(got.number))?;
-    number(rt, got.place)?;
-    number(rt, got.written)?;
-    pair(rt, size16(got.column), got.shift)?;
-    line(rt)
+    let page = page_in(seen.got);
+    print!(rt; "\nDIFFERS in {fault}:")?;
+    case_name(rt, case, a)?;
+    print!(rt; " sets")?;
+    numbers(rt, case.sets, a.sets)?;
+    print!(rt; " lent")?;
+    numbers(rt, &[a.sets, a.table, a.columns, a.shifts], 4)?;
+    opening(rt, a, seen.call)?;
+    denied_told(rt, seen.got.err())?;
+    let written = page.written;
+    let next = page.next;
+    print!(rt; " {written} {next}\n")
 }
 
-// What a call answered, where it is to be said: its refusal and the place, or that it was accepted.
-pub fn answered(rt: &impl Print, call: Call, got: Got, loud: bool) -> io::Result<()> {
+// A refusal's number and place, 0 and 0 where there is none.
+pub fn denied_told(rt: &impl Print, denied: Option<Denied>) -> io::Result<()> {
+    let number = denied.map_or(0, |denied| denied.number());
+    let place = denied.map_or(0, |denied| denied.place());
+    print!(rt; " answered {number} {place}")
+}
+
+// What a call answered: its refusal and the place, or that it was accepted.
+pub fn outcome_told(rt: &impl Print, denied: Option<Denied>) -> io::Result<()> {
+    match denied {
+        None => print!(rt; " accepted"),
+        Some(denied) => {
+            let number = denied.number();
+            let place = denied.place();
+            print!(rt; " {number} at {place}")
+        }
+    }
+}
+
+// The same of a job's call, where it is to be said.
+pub fn answered(rt: &impl Print, call: Call, denied: Option<Denied>, loud: bool) -> io::Result<()> {
     if !loud {
         return Ok(());
     }
-    call_name(rt, call)?;
-    if got.number == 0 {
-        return say(rt, b" accepted");
-    }
-    number(rt, size(got.number))?;
-    say(rt, b" at")?;
-    number(rt, got.place)
+    print!(rt; " {call}")?;
+    outcome_told(rt, denied)
 }
 
 // The end of the line that holds the answers of the calls of a way.
 pub fn tail(rt: &impl Print, j: Job) -> io::Result<()> {
-    if j.whole {
-        return Ok(());
-    }
-    if !j.loud {
-        return Ok(());
-    }
     let a = j.a;
-    let way = a.way;
-    let call = j.call;
-    if last_call(way, call) {
+    if !j.whole && j.loud && last_call(a.way, j.call) {
         line(rt)?;
     }
     Ok(())
 }
 
 // How much was tried, and how many differed.
-pub fn totals(rt: &impl Print, tally: &[u64]) -> io::Result<()> {
-    say(rt, b"tried: scores")?;
-    tried(rt, count(tally, SCORES))?;
-    say(rt, b" themes")?;
-    tried(rt, count(tally, THEMES))?;
-    say(rt, b" pages")?;
-    tried(rt, count(tally, PAGES))?;
-    say(rt, b" pairs")?;
-    tried(rt, count(tally, PAIRS))?;
-    say(rt, b" refusals")?;
-    tried(rt, count(tally, REFUSALS))?;
-    line(rt)?;
-    say(rt, b"of these in written: pages")?;
-    tried(rt, count(tally, WRITTEN_PAGES))?;
-    say(rt, b" pairs")?;
-    tried(rt, count(tally, WRITTEN_PAIRS))?;
-    line(rt)?;
-    say(rt, b"differed")?;
-    tried(rt, count(tally, DIFFERED))?;
-    line(rt)
+pub fn totals(rt: &impl Print, tally: Tally) -> io::Result<()> {
+    let Tally {
+        scores,
+        themes,
+        pages,
+        pairs,
+        refusals,
+        differed,
+        written_pages,
+        written_pairs,
+    } = tally;
+    print!(rt;
+        "tried: scores {scores} themes {themes} pages {pages} pairs {pairs} refusals {refusals}\n"
+    )?;
+    print!(rt; "of these in written: pages {written_pages} pairs {written_pairs}\n")?;
+    print!(rt; "differed {differed}\n")
 }

@@ -4,16 +4,15 @@
 
 use cases::arranging::{arrange, arrange_theme};
 use cases::families::{job, number_of_jobs};
-use jobs::buffers::{Cells, Sets, Theme};
+use jobs::buffers::Buffers;
 use jobs::changes::at;
 use jobs::job::Job;
 use probes::tried::{
     FEW_SHIFTS, SHIFTS, all_pairs, each_column, each_shift, few_column, few_pairs, few_shift,
 };
-use second::asks::{Ask, Call, columns_of};
-use second::finder::{Found, next_pair};
-use second::totals::{more, raised, size16};
-use second::ways::lowest;
+use second::asks::{Ask, Call, Case, Pair, columns_of, first_of};
+use second::finder::next_pair;
+use second::totals::{more, raised};
 use std::io;
 use straying::strays::{Counts, stray};
 use straying::told::stray_head;
@@ -30,53 +29,57 @@ const WHOLE: usize = 23;
 
 const STEP: usize = 11;
 
-pub fn stray_shown(
-    rt: &impl Print,
-    cells: &mut Cells,
-    theme: &mut Theme,
-    counts: &mut Counts,
-) -> io::Result<()> {
+pub fn stray_shown(rt: &impl Print, buffers: &mut Buffers, counts: &mut Counts) -> io::Result<()> {
     for k in 0..SHOWN {
         let a = shown_ask(k);
-        arrange_shown(cells, theme, k);
-        stray_head(rt, cells, theme, a)?;
-        stray(rt, cells, theme, counts, a, true)?;
+        arrange_shown(&mut buffers.cells, &mut buffers.theme, k);
+        stray_head(rt, buffers.case(), a)?;
+        stray(rt, buffers.case(), counts, a, true)?;
     }
     Ok(())
 }
 
 fn stray_shape(
     rt: &impl Print,
-    cells: &mut Cells,
-    theme: &mut Theme,
+    buffers: &mut Buffers,
     counts: &mut Counts,
     shape: usize,
 ) -> io::Result<()> {
     for bits in 0..patterns_of(shape) {
         let a = pattern_ask(shape, bits);
-        arrange_pattern(cells, theme, a, bits);
-        stray(rt, cells, theme, counts, a, false)?;
+        arrange_pattern(&mut buffers.cells, &mut buffers.theme, a, bits);
+        stray(rt, buffers.case(), counts, a, false)?;
     }
     Ok(())
 }
 
 pub fn stray_patterns(
     rt: &impl Print,
-    cells: &mut Cells,
-    theme: &mut Theme,
+    buffers: &mut Buffers,
     counts: &mut Counts,
 ) -> io::Result<()> {
     for shape in 0..SHAPES {
-        stray_shape(rt, cells, theme, counts, shape)?;
+        stray_shape(rt, buffers, counts, shape)?;
     }
     Ok(())
+}
+
+// With places by turns.
+fn stray_quiet(
+    rt: &impl Print,
+    case: Case<'_>,
+    counts: &mut Counts,
+    a: Ask,
+    turn: usize,
+) -> io::Result<()> {
+    let lent = lending(a, places_for(a.notes, turn));
+    stray(rt, case, counts, lent, false)
 }
 
 // At every column and shift, with places by turns from a number on.
 fn stray_each(
     rt: &impl Print,
-    cells: &[u8],
-    theme: &[u8],
+    case: Case<'_>,
     counts: &mut Counts,
     a: Ask,
     first: usize,
@@ -84,14 +87,7 @@ fn stray_each(
     let n = columns_of(a.cells, a.h);
     for i in 0..all_pairs(n) {
         let b = at(a, each_column(n, i / SHIFTS), each_shift(i % SHIFTS));
-        stray(
-            rt,
-            cells,
-            theme,
-            counts,
-            lending(b, places_for(a.notes, more(first, i))),
-            false,
-        )?;
+        stray_quiet(rt, case, counts, b, more(first, i))?;
     }
     Ok(())
 }
@@ -99,78 +95,48 @@ fn stray_each(
 // About a pair, with places by turns from a number on.
 fn stray_few(
     rt: &impl Print,
-    cells: &[u8],
-    theme: &[u8],
+    case: Case<'_>,
     counts: &mut Counts,
     a: Ask,
     first: usize,
 ) -> io::Result<()> {
-    let way = a.way;
     let n = columns_of(a.cells, a.h);
     for i in 0..few_pairs() {
-        let column = few_column(size16(a.column), n, i / FEW_SHIFTS);
-        let b = at(a, column, few_shift(way, a.shift, i % FEW_SHIFTS));
-        stray(
-            rt,
-            cells,
-            theme,
-            counts,
-            lending(b, places_for(a.notes, more(first, i))),
-            false,
-        )?;
+        let column = few_column(usize::from(a.column), n, i / FEW_SHIFTS);
+        let b = at(a, column, few_shift(a.way, a.shift, i % FEW_SHIFTS));
+        stray_quiet(rt, case, counts, b, more(first, i))?;
     }
     Ok(())
 }
 
-pub fn stray_broad(
-    rt: &impl Print,
-    cells: &mut Cells,
-    theme: &mut Theme,
-    counts: &mut Counts,
-) -> io::Result<()> {
+pub fn stray_broad(rt: &impl Print, buffers: &mut Buffers, counts: &mut Counts) -> io::Result<()> {
     for round in 0..broad_rounds() {
         let a = broad_ask(round);
-        arrange_broad(cells, theme, a, round);
-        stray(rt, cells, theme, counts, a, false)?;
-        stray_few(rt, cells, theme, counts, a, round)?;
+        arrange_broad(&mut buffers.cells, &mut buffers.theme, a, round);
+        stray(rt, buffers.case(), counts, a, false)?;
+        stray_few(rt, buffers.case(), counts, a, round)?;
     }
     Ok(())
-}
-
-// The pair that was found, as it is asked for.
-fn found_at(a: Ask, f: Found) -> Ask {
-    at(a, (f.column % 65536) as u16, f.shift)
 }
 
 // The first pairs of a list, with places by turns from a number on.
 fn stray_list(
     rt: &impl Print,
-    cells: &[u8],
-    theme: &[u8],
-    sets: &[u16],
+    case: Case<'_>,
     counts: &mut Counts,
     a: Ask,
     first: usize,
 ) -> io::Result<()> {
-    let way = a.way;
-    let mut column: usize = 1;
-    let mut shift = lowest(way);
+    let mut next = first_of(a.way);
     for i in 0..LISTED {
-        let f = next_pair(cells, theme, sets, a, Call::Plain, column, shift);
-        if !f.hit {
+        let Some(pair) = next_pair(case, a, Call::Plain, next).pair else {
             return Ok(());
-        }
-        let b = found_at(a, f);
-        stray(
-            rt,
-            cells,
-            theme,
-            counts,
-            lending(b, places_for(a.notes, more(first, i))),
-            false,
-        )?;
-        column = f.column;
-        shift = raised(f.shift);
+        };
+        stray_quiet(rt, case, counts, a.at(pair), more(first, i))?;
+        next = Pair {
+            column: pair.column,
+            shift: raised(pair.shift),
+        };
     }
     Ok(())
 }
@@ -178,78 +144,46 @@ fn stray_list(
 // The pairs of the list, and in one round of so many every column and shift.
 fn stray_round(
     rt: &impl Print,
-    cells: &mut Cells,
-    theme: &mut Theme,
-    sets: &mut Sets,
+    buffers: &mut Buffers,
     counts: &mut Counts,
     round: usize,
 ) -> io::Result<()> {
     let a = thick_ask(round);
-    arrange_thick(cells, theme, a, round);
-    stray_list(rt, cells, theme, sets, counts, a, round)?;
-    if round % WHOLE == 0 {
-        stray_each(rt, cells, theme, counts, a, round)?;
+    arrange_thick(&mut buffers.cells, &mut buffers.theme, a, round);
+    stray_list(rt, buffers.case(), counts, a, round)?;
+    if round.is_multiple_of(WHOLE) {
+        stray_each(rt, buffers.case(), counts, a, round)?;
     }
     Ok(())
 }
 
-pub fn stray_thick(
-    rt: &impl Print,
-    cells: &mut Cells,
-    theme: &mut Theme,
-    sets: &mut Sets,
-    counts: &mut Counts,
-) -> io::Result<()> {
+pub fn stray_thick(rt: &impl Print, buffers: &mut Buffers, counts: &mut Counts) -> io::Result<()> {
     for round in 0..thick_rounds() {
-        stray_round(rt, cells, theme, sets, counts, round)?;
+        stray_round(rt, buffers, counts, round)?;
     }
     Ok(())
-}
-
-// Whether the job of number k is routed.
-fn taken(k: usize, j: Job) -> bool {
-    if !j.tried {
-        return false;
-    }
-    k % STEP == 0
 }
 
 // The job of number k: the first pairs of its list, and at its bookmark.
 fn stray_job(
     rt: &impl Print,
-    cells: &mut Cells,
-    theme: &mut Theme,
-    sets: &mut Sets,
+    buffers: &mut Buffers,
     counts: &mut Counts,
     k: usize,
     j: Job,
 ) -> io::Result<()> {
-    if !taken(k, j) {
-        return Ok(());
-    }
     let a = j.a;
-    arrange(cells, sets, j);
-    arrange_theme(cells, theme, j);
-    stray_list(rt, cells, theme, sets, counts, a, k)?;
-    stray(
-        rt,
-        cells,
-        theme,
-        counts,
-        lending(a, places_for(a.notes, k)),
-        false,
-    )
+    arrange(&mut buffers.cells, &mut buffers.sets, j);
+    arrange_theme(&mut buffers.cells, &mut buffers.theme, j);
+    stray_list(rt, buffers.case(), counts, a, k)?;
+    stray_quiet(rt, buffers.case(), counts, a, k)
 }
 
-pub fn stray_jobs(
-    rt: &impl Print,
-    cells: &mut Cells,
-    theme: &mut Theme,
-    sets: &mut Sets,
-    counts: &mut Counts,
-) -> io::Result<()> {
-    for k in 0..number_of_jobs() {
-        stray_job(rt, cells, theme, sets, counts, k, job(k))?;
+pub fn stray_jobs(rt: &impl Print, buffers: &mut Buffers, counts: &mut Counts) -> io::Result<()> {
+    for k in (0..number_of_jobs()).step_by(STEP) {
+        if let Some(j) = job(k) {
+            stray_job(rt, buffers, counts, k, j)?;
+        }
     }
     Ok(())
 }

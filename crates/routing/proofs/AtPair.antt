@@ -1,14 +1,15 @@
 -- Whether a pair is listed, as the code goes: its shift, its column, its notes; and of a written pair first whether the shift is 0.
 -- Assumes nothing.
 use mathlib.Core.Path.{◌≡◌, refl, sym, ap, ◌∙◌}
-use mathlib.Core.Bool.{Bool, true, false, not, ◌&&◌, ◌||◌, false≢true}
+use mathlib.Core.Bool.{Bool, true, false, not, ◌&&◌, false≢true}
+use mathlib.Core.Logic.{◌⊎◌, inl, inr}
 use mathlib.Core.List.{List, []}
-use Prim.Native.Nat.{ℕ, zero, suc, ◌+◌, ◌-◌, ◌*◌, ◌≤◌, ◌<◌}
+use Prim.Native.Nat.{ℕ, ◌+◌, ◌-◌, ◌*◌, ◌≤◌, ◌<◌}
 use native.Mathlib.Omega.{arith}
-use lib.Dec.{ltb, eqb}
+use lib.Dec.{ltb}
 use lib.IntN.{pos}
 use lib.ListN.{length, take, drop, get_or-eq_default}
-use borrow.Author.Tests.{lt-ltb, ltb-true, ltb-false, eqb-true, eqb-false}
+use borrow.Author.Tests.{lt-ltb, ltb-true}
 use Rattle.theory.proofs.Either.{both_left}
 use Rattle.score.specs.Score.{column_at, column, columns_in, score_of, heard, onward}
 use Rattle.score.proofs.Columns.{score_length, column_cells}
@@ -24,10 +25,6 @@ use Rattle.routing.specs.TrackSets.{holders_along, holders_at, FoundTracks}
 
 -- ---- the column
 
-not_zero : (j : ℕ) → (j ≡ 0 → ⊥) → 0 < j
-not_zero zero e = absurd (e refl)
-not_zero (suc j) e = omega arith
-
 twice : (b : Bool) → not (not b) ≡ b
 twice true = refl
 twice false = refl
@@ -37,27 +34,16 @@ module _ (cells : List ℕ) (h j : ℕ) where
   here = ltb 0 j && heard (column (score_of cells h) (column_at j))
 
   -- it is 0, or above the last
-  pub heard_outside : {n : ℕ} → n ≡ columns_in cells h → (eqb j 0 || ltb n j) ≡ true → false ≡ here
-  heard_outside {n} e t = step (eqb j 0) refl t
-    where
-      step : (b : Bool) → eqb j 0 ≡ b → (b || ltb n j) ≡ true → false ≡ here
-      step true z t = let o : j ≡ 0 = eqb-true j 0 z in rw o
-      step false z t =
-          let l : n < j = ltb-true n j t in
-          let past : length (score_of cells h) ≤ j - 1 = omega (arith, l, e, score_length cells h) in
-          rw (lt-ltb 0 j (omega (arith, l)), get_or-eq_default (score_of cells h) [] {n = j - 1} past)
+  pub heard_outside : {n : ℕ} → n ≡ columns_in cells h → (j ≡ 0) ⊎ ((j ≡ 0 → ⊥) × (n < j)) → false ≡ here
+  heard_outside {n} e (inl o) = rw o
+  heard_outside {n} e (inr (z, l)) =
+      let past : length (score_of cells h) ≤ j - 1 = omega (arith, l, e, score_length cells h) in
+      rw (lt-ltb 0 j (omega (arith, l)), get_or-eq_default (score_of cells h) [] {n = j - 1} past)
 
   -- it is one of the score's
-  module _ {n : ℕ} (e : n ≡ columns_in cells h) (t : (eqb j 0 || ltb n j) ≡ false) where
-    pub within : (0 < j) × (j - 1 < columns_in cells h)
-    within = step (eqb j 0) refl t
-      where
-        step : (b : Bool) → eqb j 0 ≡ b → (b || ltb n j) ≡ false → (0 < j) × (j - 1 < columns_in cells h)
-        step true z t = absurd (false≢true (sym t))
-        step false z t =
-            let l : j ≤ n = ltb-false n j t in
-            let some : 0 < j = not_zero j (eqb-false j 0 z) in
-            (some, omega (arith, l, e, some))
+  module _ {n : ℕ} (e : n ≡ columns_in cells h) (t : (j ≡ 0 → ⊥) × (j ≤ n)) where
+    within : (0 < j) × (j - 1 < columns_in cells h)
+    within = let some = t.0 in let l = t.1 in (omega arith, omega arith)
 
     pub heard_inside : {b : Bool} → b ≡ not (heard (take ((j - 1) * h + h - (j - 1) * h) (drop ((j - 1) * h) cells))) → not b ≡ here
     heard_inside {b} g =

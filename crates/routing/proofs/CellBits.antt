@@ -1,16 +1,19 @@
 -- How the set of a column's tracks is made: cell by cell, each turn adds the cell's own bit at its place (`Added`). Of 16 cells it
 -- stays below 2 ^ 16. In exact a cell is asked for one pitch (`exact_pitch`). Assumes nothing.
 use mathlib.Core.Path.{◌≡◌, refl, sym, ap, ◌∙◌}
-use mathlib.Core.Bool.{Bool, true, false, cond, ◌||◌, false≢true}
+use mathlib.Core.Bool.{Bool, true, false, cond}
+use mathlib.Core.Logic.{◌⊎◌, inl, inr}
 use mathlib.Core.List.{List, [], ◌∷◌, ◌++◌}
 use Prim.Native.Nat.{ℕ, zero, suc, ◌+◌, ◌-◌, ◌*◌, ◌%◌, ◌^◌, ◌≤◌, ◌<◌, zero-le}
 use native.Mathlib.Nat.{one-le-pow, pow-suc, zero-mul, not-suc-le-zero, le_of_suc-le-suc}
 use native.Mathlib.Decide.{dec_le}
+use native.Mathlib.Numerals.{add-one}
 use native.Mathlib.Omega.{arith}
-use lib.Dec.{ltb, eqb}
+use lib.Dec.{eqb}
 use lib.ListN.{length, get_or, take, length-take}
 use lib.Seq.{take-suc, take_all}
-use borrow.Author.Tests.{ltb-true, ltb-false, ne_eqb}
+use mir.Val.{bool_byte}
+use borrow.Author.Tests.{ne_eqb}
 use Rattle.theory.proofs.Masks.{one_shl}
 use Rattle.score.specs.declared.quantities.Pitch.{Pitch}
 use Rattle.score.specs.Limits.{most_tracks, highest_pitch}
@@ -28,6 +31,21 @@ bit_le false = omega arith
 moved_bit : (b : Bool) (i : ℕ) → i < 32 → cond b 1 0 * 2 ^ i % 2 ^ 32 ≡ cond b 1 0 * 2 ^ i
 moved_bit true i h = one_shl i 32 h ∙ omega arith
 moved_bit false i h = rw zero-mul
+
+-- a bit as code makes it of a bool
+pub bit_made : (b : Bool) → bool_byte b ≡ cond b 1 0
+bit_made true = refl
+bit_made false = refl
+
+-- a set below 2 ^ i, and one bit at place i
+pub bit_added : {set i : ℕ} (b : Bool) → set < 2 ^ i → i < 32 → set + cond b 1 0 * 2 ^ i % 2 ^ 32 < 2 ^ (i + 1)
+bit_added {set} {i} b low h =
+    let next : 2 ^ (i + 1) ≡ 2 ^ i + 2 ^ i = rw (add-one, pow-suc) (omega arith) in
+    omega (arith, moved_bit b i h, fit b, next)
+  where
+    fit : (b : Bool) → cond b 1 0 * 2 ^ i ≤ 2 ^ i
+    fit true = omega arith
+    fit false = omega arith
 
 module _ (test : ℕ → Bool) where
   pub set_lt : (cells : List ℕ) (n : ℕ) → length cells ≤ n → set_of test cells < 2 ^ n
@@ -75,10 +93,6 @@ module _ (test : ℕ → Bool) where
           ∙ ap (set_of test) (sym (take-suc cells i 0 l))
           ∙ ap (λ (n : ℕ). set_of test (take n cells)) next
 
-      pub added_fits : set + one * 2 ^ i % 2 ^ 32 < 2 ^ most_tracks
-      added_fits =
-          omega (arith, sum, set_lt (take (i + 1) cells) most_tracks (omega (arith, length-take (i + 1) cells, few)))
-
       pub added_more : Added (i + 1) (set + one * 2 ^ i % 2 ^ 32)
       added_more = record { within = omega (arith, l); so_far = sum }
 
@@ -114,19 +128,9 @@ module _ (code : ℕ) (p : Pitch) (column : List ℕ) where
   exact_pitch {t} e low high s = s ∙ set_agree (λ cell. eqb cell t) (cell_holds Exact code p) column (cell_is e low high)
 
   -- the moved note is no pitch
-  pub exact_none : (ltb (p.0 + code) 127 || ltb 254 (p.0 + code)) ≡ true → 0 ≡ set_of (cell_holds Exact code p) column
-  exact_none e = sym (set_agree (cell_holds Exact code p) (λ cell. false) column (λ cell. sym (none cell)) ∙ none_set column)
+  pub exact_none : (p.0 + code < 127) ⊎ ((127 ≤ p.0 + code) × (254 < p.0 + code)) → 0 ≡ set_of (cell_holds Exact code p) column
+  exact_none e = sym (set_agree (cell_holds Exact code p) (λ cell. false) column (λ cell. sym (none cell e)) ∙ none_set column)
     where
-      none : (cell : ℕ) → false ≡ cell_holds Exact code p cell
-      none cell = step (ltb (p.0 + code) 127) refl e
-        where
-          step : (b : Bool) → ltb (p.0 + code) 127 ≡ b → (b || ltb 254 (p.0 + code)) ≡ true → false ≡ cell_holds Exact code p cell
-          step true z t = holds_below code p (cell ∷ []) (ltb-true (p.0 + code) 127 z)
-          step false z t = holds_above code p (cell ∷ []) (ltb-true 254 (p.0 + code) t)
-
-  pub exact_some : (ltb (p.0 + code) 127 || ltb 254 (p.0 + code)) ≡ false → (127 ≤ p.0 + code) × (p.0 + code ≤ 254)
-  exact_some e = step (ltb (p.0 + code) 127) refl e
-    where
-      step : (b : Bool) → ltb (p.0 + code) 127 ≡ b → (b || ltb 254 (p.0 + code)) ≡ false → (127 ≤ p.0 + code) × (p.0 + code ≤ 254)
-      step true z t = absurd (false≢true (sym t))
-      step false z t = (ltb-false (p.0 + code) 127 z, ltb-false 254 (p.0 + code) t)
+      none : (cell : ℕ) → (p.0 + code < 127) ⊎ ((127 ≤ p.0 + code) × (254 < p.0 + code)) → false ≡ cell_holds Exact code p cell
+      none cell (inl below) = holds_below code p (cell ∷ []) below
+      none cell (inr above) = holds_above code p (cell ∷ []) above.1

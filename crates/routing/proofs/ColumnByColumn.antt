@@ -1,17 +1,17 @@
 -- How the tracks of each note are found, column by column: those found, with those of the columns and notes that are left, are all of
 -- them, and what is left is held exactly where all is (`Following`). Assumes nothing.
 use mathlib.Core.Path.{◌≡◌, refl, sym, ap, ◌∙◌}
-use mathlib.Core.Bool.{Bool, true, false, not, ◌&&◌, false≢true}
+use mathlib.Core.Bool.{Bool, true, false, not, false≢true}
 use mathlib.Core.List.{List, [], ◌∷◌, ◌++◌, append-nil, append_assoc}
-use Prim.Native.Nat.{ℕ, suc, ◌+◌, ◌-◌, ◌*◌, ◌≤◌, ◌<◌, zero-le}
+use Prim.Native.Nat.{ℕ, ◌+◌, ◌-◌, ◌*◌, ◌≤◌, ◌<◌, zero-le}
 use native.Mathlib.Nat.{lt_irrefl}
 use native.Mathlib.Omega.{arith}
 use lib.Dec.{ltb, eqb}
 use lib.ListN.{length, get_or, take, drop, set, length-set, length-append, drop_of_length-le}
 use lib.Seq.{drop-cons}
+use Rattle.std.proofs.lemmas.List.{drop_more}
 use borrow.Author.Tests.{ltb-true, ltb-false, not-true, not-false, eq-eqb, ne_eqb}
 use Rattle.theory.specs.Lists.{over}
-use Rattle.theory.proofs.Either.{both_left, both_right}
 use Rattle.theory.proofs.Lists.{over_more}
 use Rattle.score.specs.Score.{pitch, columns_in, score_of, heard, heard_of}
 use Rattle.score.proofs.Columns.{score_length, column_le, column_cells}
@@ -63,12 +63,6 @@ module _ (way : Way) (code : ℕ) (cells : List ℕ) (h : ℕ) (theme : List ℕ
   following_start = record { done = []; so_far = refl; many = refl; held_left = refl; sets_left = refl; within = zero-le; long = refl }
 
   module _ {sets : List ℕ} {k q : ℕ} (f : AlongNotes sets k q) where
-    -- the loop goes on
-    pub goes_on : {n : ℕ} → n ≡ columns_in cells h → (ltb k n && ltb q (length theme)) ≡ true → (k < columns_in cells h) × (q < length theme)
-    goes_on {n} e t =
-        let a = ltb-true k n (both_left (ltb k n) (ltb q (length theme)) t) in
-        (omega (arith, a, e), ltb-true q (length theme) (both_right (ltb k n) (ltb q (length theme)) t))
-
     module _ (room : k < columns_in cells h) (more : q < length theme) where
       abbrev here : List ℕ
       here = get_or score k []
@@ -77,12 +71,10 @@ module _ (way : Way) (code : ℕ) (cells : List ℕ) (h : ℕ) (theme : List ℕ
       p = pitch (get_or theme q 0)
 
       columns_split : drop k score ≡ here ∷ drop (k + 1) score
-      columns_split =
-          let e : suc k ≡ k + 1 = omega arith in
-          drop-cons score k [] (omega (arith, score_length cells h, room)) ∙ ap (λ (n : ℕ). here ∷ drop n score) e
+      columns_split = drop_more score k [] (omega (arith, score_length cells h, room))
 
       notes_split : drop q theme ≡ get_or theme q 0 ∷ drop (q + 1) theme
-      notes_split = let e : suc q ≡ q + 1 = omega arith in drop-cons theme q 0 more ∙ ap (λ (n : ℕ). get_or theme q 0 ∷ drop n theme) e
+      notes_split = drop_more theme q 0 more
 
       left_heard : heard here ≡ true → left k ≡ here ∷ left (k + 1)
       left_heard e = rw (columns_split, e)
@@ -138,21 +130,27 @@ module _ (way : Way) (code : ℕ) (cells : List ℕ) (h : ℕ) (theme : List ℕ
             let l = left_heard (not-false _ (ap (λ (c : List ℕ). not (heard c)) (sym same) ∙ sym g ∙ not-true b t)) in
             record { told = rw (not_here z) at (rw (notes_split, l) at f.held_left); found_all = λ w. absurd (false≢true w) }
 
-    -- the columns or the notes are at an end
-    pub following_end : {n : ℕ} → n ≡ columns_in cells h → (ltb k n && ltb q (length theme)) ≡ false
+    -- the notes are at an end
+    pub following_found : length theme ≤ q
+        → FoundTracks (held_along way code theme (left passed)) (holders_along way code theme (left passed)) lent true sets
+    unfolding held_along holders_along
+    following_found l =
+        let none : drop q theme ≡ [] = drop_of_length-le theme {i = q} l in
+        record {
+          told = rw none at f.held_left;
+          found_all = λ w. f.so_far ∙ ap (over lent) (sym (append-nil f.done) ∙ (rw none at f.sets_left));
+        }
+
+    -- the columns are
+    pub following_end : {n : ℕ} → n ≡ columns_in cells h → n ≤ k
         → FoundTracks (held_along way code theme (left passed)) (holders_along way code theme (left passed)) lent (eqb q (length theme)) sets
     unfolding held_along holders_along
-    following_end {n} e z = pick (ltb q (length theme)) refl
+    following_end {n} e past = pick (ltb q (length theme)) refl
       where
-        first_false : (a : Bool) → (a && true) ≡ false → a ≡ false
-        first_false true w = w
-        first_false false w = refl
-
         pick : (t : Bool) → ltb q (length theme) ≡ t
             → FoundTracks (held_along way code theme (left passed)) (holders_along way code theme (left passed)) lent (eqb q (length theme)) sets
         pick true g =
             let l : q < length theme = ltb-true q (length theme) g in
-            let past : n ≤ k = ltb-false k n (first_false (ltb k n) (rw g at z)) in
             let none : drop k score ≡ [] = drop_of_length-le score {i = k} (omega (arith, past, e, score_length cells h)) in
             let other : eqb q (length theme) ≡ false = ne_eqb q (length theme) (λ o. lt_irrefl _ (rw o at l)) in
             record {
@@ -160,9 +158,5 @@ module _ (way : Way) (code : ℕ) (cells : List ℕ) (h : ℕ) (theme : List ℕ
               found_all = λ w. absurd (false≢true (sym other ∙ w));
             }
         pick false g =
-            let all : q ≡ length theme = omega (arith, f.within, ltb-false q (length theme) g) in
-            let none : drop q theme ≡ [] = drop_of_length-le theme {i = q} (omega (arith, all)) in
-            record {
-              told = eq-eqb q (length theme) all ∙ (rw none at f.held_left);
-              found_all = λ w. f.so_far ∙ ap (over lent) (sym (append-nil f.done) ∙ (rw none at f.sets_left));
-            }
+            let l : length theme ≤ q = ltb-false q (length theme) g in
+            rw (eq-eqb q (length theme) (omega (arith, f.within, l))) (following_found l)

@@ -10,10 +10,8 @@ use lib.ListN.{length, take, drop, replicate}
 use lib.Seq.{take-append_seam}
 use borrow.Author.Tests.{lt-ltb, le-ltb, ltb-false, not-false}
 use Rattle.theory.specs.Lists.{over}
-use Rattle.theory.proofs.Lists.{over_length}
+use Rattle.score.specs.declared.refusals.Rule.TheVariants as rule
 use Rattle.score.specs.declared.refusals.Refusal.{Refusal}
-use Rattle.score.specs.declared.refusals.Verdict.{Verdict}
-use Rattle.score.specs.declared.refusals.Verdict.TheVariants.{Accepted as Passed, Refused as Away}
 use Rattle.score.specs.Score.{score_of}
 use Rattle.score.specs.Refusals.{Row, verdict}
 use Rattle.score.proofs.Judging.{turned_away, gone_on}
@@ -24,30 +22,29 @@ use Rattle.asking.specs.Limits.{most_notes}
 use Rattle.asking.specs.Refusals.{request_rows}
 use Rattle.asking.specs.Asking.{Accepted}
 use Rattle.asking.proofs.Rows.{accepted_clear}
-use Rattle.routing.specs.declared.answer.Routed.{Routed}
-use Rattle.routing.specs.declared.answer.Routed.TheVariants.{Changes, Refused}
 use Rattle.routing.specs.Route.{changes, way_as}
 use Rattle.routing.specs.Routing.{is_listed, pair_rows, route_rows, Writes, Routes}
 use Rattle.routing.specs.TrackSets.{holders_at, least_of, chosen, FoundTracks, Playable, TracksThere}
 use Rattle.routing.proofs.TrackBits.{listed_length, listed_playable}
 use Rattle.routing.proofs.MeantRoute.{meant_unique, meant_least, meant_chosen}
+use Rattle.std.specs.Prelude.{Result, Ok, Err}
 
 -- ---- verdicts
 
 abbrev pub thirteen : Refusal
-thirteen = record { number = 13; place = 0 }
+thirteen = record { rule = rule.Listed; place = 0 }
 
 abbrev pub fourteen : Refusal
-fourteen = record { number = 14; place = 0 }
+fourteen = record { rule = rule.RouteRoom; place = 0 }
 
 -- what a verdict gives, whatever stands for an accepted one
-abbrev given : Verdict → Refusal
-given (Away r) = r
-given Passed = thirteen
+abbrev given : Result (Unit {0}) Refusal → Refusal
+given (Err r) = r
+given (Ok _) = thirteen
 
-abbrev passes : Verdict → Bool
-passes (Away r) = false
-passes Passed = true
+abbrev passes : Result (Unit {0}) Refusal → Bool
+passes (Err r) = false
+passes (Ok _) = true
 
 abbrev zeros : List ℕ
 zeros = replicate most_notes 0
@@ -60,39 +57,39 @@ module _ (cells : List ℕ) (h : ℕ) (theme : List ℕ) (way : AnyWay) (pair : 
   rows = route_rows cells h theme way pair lent
 
   -- a refused call
-  pub refused_routes : {r : Refusal} → verdict rows ≡ Away r → Routes cells h theme way pair lent (Refused r) lent
+  pub refused_routes : {r : Refusal} → verdict rows ≡ Err r → Routes cells h theme way pair lent (Err r) lent
   refused_routes {r} e = record {
-    refused = λ s g. (ap Refused (ap given (sym e ∙ g)), refl);
+    refused = λ s g. (ap Err (ap given (sym e ∙ g)), refl);
     accepted = λ g. absurd (false≢true (ap passes (sym e ∙ g)));
   }
 
   -- an accepted one
-  routes_written : verdict rows ≡ Passed → {answer : Routed} {after : List ℕ} → Writes way score theme pair lent answer after
+  routes_written : verdict rows ≡ Ok tt → {answer : Result ℕ Refusal} {after : List ℕ} → Writes way score theme pair lent answer after
       → Routes cells h theme way pair lent answer after
   routes_written e w = record { refused = λ r g. absurd (false≢true (sym (ap passes (sym e ∙ g)))); accepted = λ g. w }
 
   -- ---- by the checks
 
-  module _ {v : Verdict} (checked : v ≡ verdict (request_rows most_notes cells h theme)) where
-    pub answer_away : {r : Refusal} → v ≡ Away r → Routes cells h theme way pair lent (Refused r) lent
+  module _ {v : Result (Unit {0}) Refusal} (checked : v ≡ verdict (request_rows most_notes cells h theme)) where
+    pub answer_away : {r : Refusal} → v ≡ Err r → Routes cells h theme way pair lent (Err r) lent
     answer_away e = refused_routes (sym (turned_away (request_rows most_notes cells h theme) (pair_rows way score theme pair lent) checked e))
 
-    module _ (passed : v ≡ Passed) where
+    module _ (passed : v ≡ Ok tt) where
       pub accepted : Accepted most_notes cells h theme
       accepted = (accepted_clear most_notes cells h theme).1 (verdict_clear (request_rows most_notes cells h theme) (sym checked ∙ passed))
 
-      goes : {w : Verdict} → w ≡ verdict (pair_rows way score theme pair lent) → verdict rows ≡ w
+      goes : {w : Result (Unit {0}) Refusal} → w ≡ verdict (pair_rows way score theme pair lent) → verdict rows ≡ w
       goes e = sym (gone_on (request_rows most_notes cells h theme) (pair_rows way score theme pair lent) checked passed e)
 
       module _ {all : Bool} {sets : List ℕ} (held : FoundTracks (is_listed way score theme pair) (holders_at (way_as way) score theme pair) zeros all sets) where
-        pub answer_unlisted : not all ≡ true → Routes cells h theme way pair lent (Refused thirteen) lent
+        pub answer_unlisted : not all ≡ true → Routes cells h theme way pair lent (Err thirteen) lent
         answer_unlisted z = refused_routes (goes (rw (← held.told, z)))
 
         module _ (z : not all ≡ false) where
           is_listed_lem : is_listed way score theme pair ≡ true
           is_listed_lem = sym held.told ∙ not-false all z
 
-          pub answer_short : length lent < length theme → Routes cells h theme way pair lent (Refused fourteen) lent
+          pub answer_short : length lent < length theme → Routes cells h theme way pair lent (Err fourteen) lent
           answer_short l = refused_routes (goes (rw (← held.told, z, lt-ltb (length lent) (length theme) l)))
 
           module _ (l : length theme ≤ length lent) where
@@ -109,27 +106,25 @@ module _ (cells : List ℕ) (h : ℕ) (theme : List ℕ) (way : AnyWay) (pair : 
                 ∙ ap (λ (n : ℕ). take n (over zeros found)) (sym long)
                 ∙ take-append_seam found (drop (length found) zeros)
 
-            pub route_asked : TracksThere sets (length theme) × (length theme ≤ length lent)
+            pub route_asked : TracksThere (take (length theme) sets) × (length (take (length theme) sets) ≤ length lent)
             route_asked =
                 let long : length found ≡ length theme = listed_length way score theme pair is_listed_lem in
-                let room : length sets ≡ most_notes =
-                ap length in_front_lem ∙ over_length zeros found (omega (arith, long, accepted.notes_few)) in (
+                let many : length (take (length theme) sets) ≡ length theme = ap length taken ∙ long in (
                   record {
-                    notes_few = accepted.notes_few;
-                    room = omega (arith, room, accepted.notes_few);
+                    notes_few = omega (arith, many, accepted.notes_few);
                     playable = subst Playable (sym taken) (listed_playable way cells h theme pair accepted.tracks_few is_listed_lem);
                   },
-                  l,
+                  omega (arith, many, l),
                 )
 
             pub answer_routed : {count : ℕ} {after : List ℕ}
                 → (count ≡ least_of (take (length theme) sets)) × (after ≡ over lent (chosen 0 (take (length theme) sets)))
-                → Routes cells h theme way pair lent (Changes count) after
+                → Routes cells h theme way pair lent (Ok count) after
             answer_routed {count} {after} (c, a) = routes_written (goes (rw (← held.told, z, le-ltb (length lent) (length theme) l))) (record {
               route = chosen 0 found;
               meant = meant_chosen way cells h theme pair accepted.tracks_few is_listed_lem;
               written = a ∙ ap (λ (s : List ℕ). over lent (chosen 0 s)) taken;
-              counted = ap Changes (c ∙ ap least_of taken ∙ sym (meant_least way cells h theme pair accepted.tracks_few is_listed_lem));
+              counted = ap Ok (c ∙ ap least_of taken ∙ sym (meant_least way cells h theme pair accepted.tracks_few is_listed_lem));
             })
 
   -- ---- what an accepted call was given
@@ -139,7 +134,7 @@ module _ (cells : List ℕ) (h : ℕ) (theme : List ℕ) (way : AnyWay) (pair : 
     pub in_list : is_listed way score theme pair ≡ true
     pub room : length theme ≤ length lent
 
-  pub passed_asks : verdict rows ≡ Passed → RouteAsked
+  pub passed_asks : verdict rows ≡ Ok tt → RouteAsked
   passed_asks e =
       let clear = clear_split (request_rows most_notes cells h theme) (pair_rows way score theme pair lent) (verdict_clear rows e) in
       record {
@@ -150,15 +145,15 @@ module _ (cells : List ℕ) (h : ℕ) (theme : List ℕ) (way : AnyWay) (pair : 
 
   -- ---- there is an answer, and only one: the contract settles the call
 
-  pub routes_there : (answer : Routed) × ((after : List ℕ) × Routes cells h theme way pair lent answer after)
+  pub routes_there : (answer : Result ℕ Refusal) × ((after : List ℕ) × Routes cells h theme way pair lent answer after)
   routes_there = pick (verdict rows) refl
     where
-      pick : (v : Verdict) → verdict rows ≡ v → (answer : Routed) × ((after : List ℕ) × Routes cells h theme way pair lent answer after)
-      pick (Away r) e = (Refused r, (lent, refused_routes e))
-      pick Passed e =
+      pick : (v : Result (Unit {0}) Refusal) → verdict rows ≡ v → (answer : Result ℕ Refusal) × ((after : List ℕ) × Routes cells h theme way pair lent answer after)
+      pick (Err r) e = (Err r, (lent, refused_routes e))
+      pick (Ok tt) e =
           let asked = passed_asks e in
           let route = chosen 0 (holders_at (way_as way) score theme pair) in (
-            Changes (changes route),
+            Ok (changes route),
             (
               over lent route,
               routes_written e (record {
@@ -170,19 +165,19 @@ module _ (cells : List ℕ) (h : ℕ) (theme : List ℕ) (way : AnyWay) (pair : 
             ),
           )
 
-  pub routes_unique : {a b : Routed} {x y : List ℕ} → Routes cells h theme way pair lent a x → Routes cells h theme way pair lent b y
+  pub routes_unique : {a b : Result ℕ Refusal} {x y : List ℕ} → Routes cells h theme way pair lent a x → Routes cells h theme way pair lent b y
       → (a ≡ b) × (x ≡ y)
   routes_unique {a} {b} {x} {y} p q = pick (verdict rows) refl
     where
-      pick : (v : Verdict) → verdict rows ≡ v → (a ≡ b) × (x ≡ y)
-      pick (Away r) e =
+      pick : (v : Result (Unit {0}) Refusal) → verdict rows ≡ v → (a ≡ b) × (x ≡ y)
+      pick (Err r) e =
           let f = p.refused r e in
           let g = q.refused r e in
           (f.0 ∙ sym g.0, f.1 ∙ sym g.1)
-      pick Passed e =
+      pick (Ok tt) e =
           let f = p.accepted e in
           let g = q.accepted e in
           let same : f.route ≡ g.route = meant_unique way score theme pair f.meant g.meant in (
-            f.counted ∙ ap (λ (r : List ℕ). Changes (changes r)) same ∙ sym g.counted,
+            f.counted ∙ ap (λ (r : List ℕ). Ok (changes r)) same ∙ sym g.counted,
             f.written ∙ ap (over lent) same ∙ sym g.written,
           )

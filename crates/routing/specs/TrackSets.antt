@@ -1,7 +1,7 @@
 -- The method, for the contracts of inner functions. The tracks that hold a note are a set, a number whose bit t is 1 where track t
 -- does. From the last note to the first `best_of` keeps the tracks from which the fewest changes are left, and `least_of` counts these;
 -- from the first to the last `chosen` takes the lowest track that keeps to the fewest. Assumes nothing.
-use Rattle.std.specs.Prelude.{◌≡◌, Bool, true, cond, List, [], ◌∷◌, ℕ, ◌+◌, ◌-◌, ◌*◌, ◌^◌, ◌≤◌, ◌<◌, eqb, length, get_or, take, drop}
+use Rattle.std.specs.Prelude.{◌≡◌, Bool, true, cond, List, [], ◌∷◌, ℕ, ◌+◌, ◌-◌, ◌*◌, ◌^◌, ◌≤◌, ◌<◌, eqb, length, get_or, drop}
 use Rattle.std.specs.Int.Bits.{bit_and, bit_or}
 use Rattle.std.specs.Int.Count.{count_trailing_zeros}
 use Rattle.theory.specs.Bits.{bit}
@@ -98,11 +98,10 @@ pub record Tracks (set : ℕ) : Type 0 where
 pub record Playable (sets : List ℕ) : Type 0 where
   pub each : (k : ℕ) → k < length sets → Tracks (get_or sets k 0)
 
--- the first m sets of an array are such
-pub record TracksThere (sets : List ℕ) (m : ℕ) : Type 0 where
-  pub notes_few : m ≤ most_notes
-  pub room : m ≤ length sets
-  pub playable : Playable (take m sets)
+-- the sets of a theme's notes are such
+pub record TracksThere (sets : List ℕ) : Type 0 where
+  pub notes_few : length sets ≤ most_notes
+  pub playable : Playable sets
 
 -- what goes from the last note to the first leaves: of each note the best tracks
 pub record Best (sets best : List ℕ) : Type 0 where

@@ -1,12 +1,11 @@
 // The notes of a theme along the columns in which they are sought: whether each is held there, and by which tracks.
 
 ghost use Rattle.std.specs.Prelude.{◌≤◌, length, drop};
-ghost use Rattle.score.specs.Limits.{most_tracks};
 ghost use Rattle.score.specs.Score.{score_of, heard_of};
-ghost use Rattle.asking.specs.Limits.{most_notes};
 ghost use Rattle.routing.specs.TrackSets.{FoundAlong};
 
 use crate::holders::holders;
+use crate::tune::Tune;
 use passing::is_empty;
 use score::{Pitch, columns_in};
 use ways::Way;
@@ -14,32 +13,26 @@ use ways::Way;
 // Whether every note is held, moved by the code's shift, in the columns with a pitch behind so many; if so, the set of the tracks
 // that hold each is left over the front of `sets`. A column in which a track holds the note has a pitch, so only the others are
 // asked for one. It ends at the first note that its column does not hold.
-pub fn held_behind(
-    cells: &[u8],
-    tracks: usize,
-    theme: &[u8],
-    way: Way,
-    code: u16,
-    passed: usize,
-    sets: &mut [u32],
-) -> bool
-    requires { (tracks ≤ most_tracks) × (length theme.now ≤ most_notes) × (length theme.now ≤ length sets.old) }
-    ensures { FoundAlong way code theme.now (heard_of (drop passed (score_of cells.now tracks))) sets.old result sets.new }
+pub fn held_behind(tune: &Tune, way: Way, code: u16, passed: usize, sets: &mut [u32]) -> bool
+    requires { length tune.now.theme.now ≤ length sets.old }
+    ensures { FoundAlong way code tune.now.theme.now (heard_of (drop passed (score_of tune.now.cells.now tune.now.tracks)))
+        sets.old result sets.new }
 {
-    let n = columns_in(cells, tracks);
-    let mut k = passed;
     let mut q: usize = 0;
-    while (k < n) & (q < theme.len()) {
-        let base = k * tracks;
-        let end = base + tracks;
-        let set = holders(&cells[base..end], way, code, Pitch(theme[q]));
-        k += 1;
+    for k in passed..columns_in(tune.cells, tune.tracks) {
+        let Some(&note) = tune.theme.get(q) else {
+            return true;
+        };
+        let base = k * tune.tracks;
+        let end = base + tune.tracks;
+        let column = &tune.cells[base..end];
+        let set = holders(column, way, code, Pitch(note));
         if set != 0 {
             sets[q] = set;
             q += 1;
-        } else if !is_empty(&cells[base..end]) {
+        } else if !is_empty(column) {
             return false;
         }
     }
-    q == theme.len()
+    q == tune.theme.len()
 }

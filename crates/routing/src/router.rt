@@ -2,11 +2,12 @@
 
 ghost use Rattle.routing.specs.Routing.{Routes};
 
-use crate::answer::Routed;
 use crate::choosing::write_route;
+use crate::fewest::NoteSets;
 use crate::standing::held_at;
+use crate::tune::Tune;
 use asking::{MOST_NOTES, check_request};
-use score::{Refusal, Verdict};
+use score::{Refusal, Rule};
 use ways::{AnyWay, Pair};
 
 // The route of the pair: a track from 1 for each note, with the fewest changes of track; of several with as few, the one whose
@@ -20,25 +21,23 @@ pub fn route(
     way: AnyWay,
     pair: Pair,
     route: &mut [u8],
-) -> Routed
+) -> Result<u8, Refusal>
     ensures { Routes cells.now tracks theme.now way pair route.old result route.new }
 {
-    if let Verdict::Refused(e) = check_request(cells, tracks, theme, MOST_NOTES) {
-        return Routed::Refused(e);
-    }
+    check_request(cells, tracks, theme, MOST_NOTES)?;
+    let tune = Tune {
+        cells,
+        tracks,
+        theme,
+    };
     let mut sets = [0u32; MOST_NOTES];
-    if !held_at(cells, tracks, theme, way, pair, &mut sets) {
-        return Routed::Refused(Refusal {
-            number: 13,
-            place: 0,
-        });
+    if !held_at(&tune, way, pair, &mut sets) {
+        return Err(Refusal::new(Rule::Listed));
     }
     let m = theme.len();
     if route.len() < m {
-        return Routed::Refused(Refusal {
-            number: 14,
-            place: 0,
-        });
+        return Err(Refusal::new(Rule::RouteRoom));
     }
-    Routed::Changes(write_route(&sets, m, route))
+    let notes = NoteSets { sets: &sets[..m] };
+    Ok(write_route(&notes, route))
 }

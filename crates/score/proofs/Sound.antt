@@ -9,10 +9,10 @@ use lib.Dec.{ltb, eqb}
 use lib.ListN.{length}
 use borrow.Author.Tests.{not-false, eqb-true, eqb-false, ltb-false}
 use Rattle.theory.specs.Lists.{some}
-use Rattle.score.specs.declared.refusals.Verdict.TheVariants.{Accepted, Refused}
 use Rattle.score.specs.Limits.{most_tracks, most_columns}
 use Rattle.score.specs.Score.{columns_in}
 use Rattle.score.specs.Refusals.{Row, verdict, row1, row2, row3, row6, row7, bad_cell, bad_set}
+use Rattle.std.specs.Prelude.{Ok, Err}
 
 -- a score that refusals 1 to 3 do not turn away
 pub record Sound (cells : List ℕ) (h : ℕ) : Type 0 where
@@ -29,10 +29,10 @@ pub record SoundSets (cells : List ℕ) (h : ℕ) (sets : List ℕ) : Type 0 whe
   pub clean : some bad_set sets ≡ false
 
 -- of rows that accept none applies
-accepted_cons : (r : Row) (rows : List Row) → verdict (r ∷ rows) ≡ Accepted → (r.applies ≡ false) × (verdict rows ≡ Accepted)
+accepted_cons : (r : Row) (rows : List Row) → verdict (r ∷ rows) ≡ Ok tt → (r.applies ≡ false) × (verdict rows ≡ Ok tt)
 accepted_cons r rows e = step r.applies refl e
   where
-    step : (b : Bool) → r.applies ≡ b → cond b (Refused r.given) (verdict rows) ≡ Accepted → (r.applies ≡ false) × (verdict rows ≡ Accepted)
+    step : (b : Bool) → r.applies ≡ b → cond b (Err r.given) (verdict rows) ≡ Ok tt → (r.applies ≡ false) × (verdict rows ≡ Ok tt)
     step true k e = absurd (let z : ◌≡◌ {A = ℕ} 0 1 = cc in omega arith)
     step false k e = (k, e)
 
@@ -40,7 +40,7 @@ none_or : (a b : Bool) → (a || b) ≡ false → (a ≡ false) × (b ≡ false)
 none_or true b e = absurd (true≢false e)
 none_or false b e = (refl, e)
 
-pub score_sound : (cells : List ℕ) (h : ℕ) → verdict (row1 h ∷ row2 cells h ∷ row3 cells ∷ []) ≡ Accepted → Sound cells h
+pub score_sound : (cells : List ℕ) (h : ℕ) → verdict (row1 h ∷ row2 cells h ∷ row3 cells ∷ []) ≡ Ok tt → Sound cells h
 score_sound cells h e =
     let n = columns_in cells h in
     let first = accepted_cons (row1 h) (row2 cells h ∷ row3 cells ∷ []) e in
@@ -58,7 +58,7 @@ score_sound cells h e =
       clean = third.0;
     }
 
-pub sets_sound : (cells : List ℕ) (h : ℕ) (sets : List ℕ) → verdict (row6 cells h sets ∷ row7 sets ∷ []) ≡ Accepted → SoundSets cells h sets
+pub sets_sound : (cells : List ℕ) (h : ℕ) (sets : List ℕ) → verdict (row6 cells h sets ∷ row7 sets ∷ []) ≡ Ok tt → SoundSets cells h sets
 sets_sound cells h sets e =
     let first = accepted_cons (row6 cells h sets) (row7 sets ∷ []) e in
     let second = accepted_cons (row7 sets) [] first.1 in

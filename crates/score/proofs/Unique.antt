@@ -12,6 +12,9 @@ use Rattle.score.proofs.checks.sets_in
 use Rattle.score.proofs.checks.bad_length
 use Rattle.score.proofs.quantities.interval_of
 use Rattle.score.proofs.quantities.class_of
+use Rattle.score.proofs.refusals.Rule.number
+use Rattle.score.proofs.refusals.Refusal.new
+use Rattle.score.proofs.refusals.Refusal.at
 
 pub check_score_unique : Settles check_score.Kinds.ps check_score.Kinds.r check_score.Reads.Post
 check_score_unique κs args x y = (settled_unique x.meets y.meets, refl)
@@ -27,6 +30,15 @@ sets_in_unique κs args x y = (settled_unique x.meets y.meets, refl)
 
 pub bad_length_unique : Settles bad_length.Kinds.ps bad_length.Kinds.r bad_length.Reads.Post
 bad_length_unique κs args x y = (settled_unique x.meets y.meets, refl)
+
+pub rule_number_unique : Settles number.Kinds.ps number.Kinds.r number.Reads.Post
+rule_number_unique κs args x y = (settled_unique x.meets y.meets, refl)
+
+pub refusal_new_unique : Settles new.Kinds.ps new.Kinds.r new.Reads.Post
+refusal_new_unique κs args x y = (settled_unique x.meets y.meets, refl)
+
+pub refusal_at_unique : Settles at.Kinds.ps at.Kinds.r at.Reads.Post
+refusal_at_unique κs args x y = (settled_unique x.meets y.meets, refl)
 
 pub interval_of_unique : Settles interval_of.Kinds.ps interval_of.Kinds.r interval_of.Reads.Post
 interval_of_unique κs args x y = (settled_unique x.meets y.meets, refl)

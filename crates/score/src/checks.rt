@@ -7,35 +7,35 @@ ghost use Rattle.score.specs.Score.{columns_in};
 ghost use Rattle.score.specs.Refusals.{verdict, row1, row2, row3, row6, row7, bad_cell, bad_set};
 
 use crate::limits::{HIGHEST_PITCH, HIGHEST_SET, MOST_COLUMNS, MOST_TRACKS, REST};
-use crate::refusals::{Refusal, Verdict};
+use crate::refusals::{Refusal, Rule};
 
 // Refusals 1 to 3: the tracks, the number of cells, and the cells themselves.
-pub fn check_score(cells: &[u8], tracks: usize) -> Verdict
+pub fn check_score(cells: &[u8], tracks: usize) -> Result<(), Refusal>
     ensures { result ≡ verdict (row1 tracks ∷ row2 cells.now tracks ∷ row3 cells.now ∷ []) }
 {
     if bad_tracks(tracks) {
-        return refused(1, 0);
+        return Err(Refusal::new(Rule::Tracks));
     }
     if bad_columns(cells, tracks) {
-        return refused(2, 0);
+        return Err(Refusal::new(Rule::Columns));
     }
     if any_bad_cell(cells) {
-        return refused(3, first_bad_cell(cells));
+        return Err(Refusal::at(Rule::Cell, first_bad_cell(cells)));
     }
-    Verdict::Accepted
+    Ok(())
 }
 
 // Refusals 6 and 7: the number of lent sets, and the sets themselves.
-pub fn check_sets(cells: &[u8], tracks: usize, sets: &[u16]) -> Verdict
+pub fn check_sets(cells: &[u8], tracks: usize, sets: &[u16]) -> Result<(), Refusal>
     ensures { result ≡ verdict (row6 cells.now tracks sets.now ∷ row7 sets.now ∷ []) }
 {
     if bad_length(cells, tracks, sets.len()) {
-        return refused(6, 0);
+        return Err(Refusal::new(Rule::SetsLength));
     }
     if any_bad_set(sets) {
-        return refused(7, first_bad_set(sets));
+        return Err(Refusal::at(Rule::Set, first_bad_set(sets)));
     }
-    Verdict::Accepted
+    Ok(())
 }
 
 // How many columns the cells make. No tracks make none.
@@ -58,13 +58,6 @@ pub fn bad_length(cells: &[u8], tracks: usize, len: usize) -> bool
     ensures { result ≡ not (eqb len (columns_in cells.now tracks - 1)) }
 {
     len != sets_in(cells, tracks)
-}
-
-// The verdict that turns away, by the number and the place.
-fn refused(number: u8, place: usize) -> Verdict
-    ensures { result ≡ Verdict.Refused (record { number = number; place = place }) }
-{
-    Verdict::Refused(Refusal { number, place })
 }
 
 fn bad_tracks(tracks: usize) -> bool
@@ -94,27 +87,17 @@ fn bad_cell(cell: u8) -> bool
 fn any_bad_cell(cells: &[u8]) -> bool
     ensures { result ≡ some bad_cell cells.now }
 {
-    let mut bad = false;
-    let mut i = 0;
-    while i < cells.len() {
-        bad = bad | bad_cell(cells[i]);
-        i += 1;
-    }
-    bad
+    cells.iter().fold(false, |bad, &cell| bad | bad_cell(cell))
 }
 
 // The first cell that is bad, or the number of cells where none is.
 fn first_bad_cell(cells: &[u8]) -> usize
     ensures { result ≡ first bad_cell cells.now }
 {
-    let mut place = 0;
-    while place < cells.len() {
-        if bad_cell(cells[place]) {
-            return place;
-        }
-        place += 1;
-    }
-    place
+    cells
+        .iter()
+        .position(|&cell| bad_cell(cell))
+        .unwrap_or(cells.len())
 }
 
 fn bad_set(set: u16) -> bool
@@ -127,25 +110,14 @@ fn bad_set(set: u16) -> bool
 fn any_bad_set(sets: &[u16]) -> bool
     ensures { result ≡ some bad_set sets.now }
 {
-    let mut bad = false;
-    let mut k = 0;
-    while k < sets.len() {
-        bad = bad | bad_set(sets[k]);
-        k += 1;
-    }
-    bad
+    sets.iter().fold(false, |bad, &set| bad | bad_set(set))
 }
 
 // The first set that is bad, or the number of sets where none is.
 fn first_bad_set(sets: &[u16]) -> usize
     ensures { result ≡ first bad_set sets.now }
 {
-    let mut k = 0;
-    while k < sets.len() {
-        if bad_set(sets[k]) {
-            return k;
-        }
-        k += 1;
-    }
-    k
+    sets.iter()
+        .position(|&set| bad_set(set))
+        .unwrap_or(sets.len())
 }

@@ -15,4 +15,4 @@ pub use limits::{
     HIGHEST_PITCH, HIGHEST_SET, MOST_CELLS, MOST_COLUMNS, MOST_TRACKS, REST, TABLE_WORDS,
 };
 pub use quantities::{Class, Column, Distance, Interval, Pitch, class_of, interval_of};
-pub use refusals::{Refusal, Verdict};
+pub use refusals::{Refusal, Rule};

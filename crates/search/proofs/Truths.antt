@@ -30,8 +30,6 @@ use Rattle.asking.specs.Asking.{Accepted, AcceptedSets, PlainAsks}
 use Rattle.filter.specs.Limits.{word_bits}
 use Rattle.filter.specs.Table.{theme_table}
 use Rattle.paging.specs.declared.page.Turn.{Turn}
-use Rattle.paging.specs.declared.page.Page.{Page}
-use Rattle.paging.specs.declared.page.Page.TheVariants.{Turned, Refused}
 use Rattle.paging.specs.Lent.{Lent, Room, read_pairs}
 use Rattle.paging.specs.Order.{at_or_after}
 use Rattle.paging.specs.Search.{spent}
@@ -49,6 +47,8 @@ use Rattle.search.proofs.Searches.{plain_calls, quick_calls}
 use Rattle.search.proofs.PlainCall.{plain_turned, plain_leaf}
 use Rattle.search.proofs.QuickCall.{quick_turned, quick_leaf}
 use Rattle.search.proofs.WholeLists.{plain_page_lem, quick_page_lem, plain_page_le, quick_page_le}
+use Rattle.std.specs.Prelude.{Result, Ok, Err}
+use Rattle.score.specs.declared.refusals.Refusal.{Refusal}
 
 -- ---- what a page writes stands
 
@@ -82,12 +82,12 @@ module _ (cells : List ℕ) (h : ℕ) (theme : List ℕ) (b : Bookmark) (buffers
 
 -- ---- looks: the answer's own, within the bound
 
-looks_of : Page → ℕ
-looks_of (Turned t) = t.looks
-looks_of (Refused r) = 0
+looks_of : Result Turn Refusal → ℕ
+looks_of (Ok t) = t.looks
+looks_of (Err r) = 0
 
 module _ (cells : List ℕ) (h : ℕ) (theme : List ℕ) (b : Bookmark) (buffers : Lent) (t : Turn) where
-  pub plain_looks_le : (way : AnyWay) → (plain_page cells h theme way b buffers).answer ≡ Turned t → t.looks ≤ most_looks cells h theme
+  pub plain_looks_le : (way : AnyWay) → (plain_page cells h theme way b buffers).answer ≡ Ok t → t.looks ≤ most_looks cells h theme
   unfolding looks_of
   plain_looks_le way e =
       let a = (plain_turned cells h theme way b buffers).0 (t, e) in
@@ -96,7 +96,7 @@ module _ (cells : List ℕ) (h : ℕ) (theme : List ℕ) (b : Bookmark) (buffers
       le_trans (le_of_eq q) (plain_page_le cells h theme way b (length buffers.columns))
 
   -- the tune as it is written costs none
-  pub written_looks : (plain_page cells h theme Written b buffers).answer ≡ Turned t → t.looks ≡ 0
+  pub written_looks : (plain_page cells h theme Written b buffers).answer ≡ Ok t → t.looks ≡ 0
   unfolding looks_of
   written_looks e =
       let a = (plain_turned cells h theme Written b buffers).0 (t, e) in
@@ -104,7 +104,7 @@ module _ (cells : List ℕ) (h : ℕ) (theme : List ℕ) (b : Bookmark) (buffers
       ap looks_of (sym e ∙ ap (λ (l : Leaf). l.answer) (plain_leaf cells h theme Written b buffers a)) in
       omega (arith, q, page_within (search_as Written (score_of cells h) theme) (length buffers.columns) b, sum_none (count 1 (length (heard_of (score_of cells h)) + 1 - length theme)))
 
-  pub quick_looks_le : (way : Way) (lent table : List ℕ) → (quick_page cells h theme way b lent table buffers).answer ≡ Turned t → t.looks ≤ most_looks cells h theme
+  pub quick_looks_le : (way : Way) (lent table : List ℕ) → (quick_page cells h theme way b lent table buffers).answer ≡ Ok t → t.looks ≤ most_looks cells h theme
   unfolding looks_of
   quick_looks_le way lent table e =
       let a = (quick_turned cells h theme way b lent table buffers).0 (t, e) in
@@ -132,7 +132,7 @@ ended cells h way = finished_bookmark (range_as way) (column_at (length (score_o
 
 abbrev end_page : (cells : List ℕ) (h : ℕ) → AnyWay → Lent → Leaf
 end_page cells h way buffers =
-    record { answer = Turned (record { written = 0; next = ended cells h way; finished = true; looks = 0 }); buffers = buffers }
+    record { answer = Ok (record { written = 0; next = ended cells h way; finished = true; looks = 0 }); buffers = buffers }
 
 module _ (cells : List ℕ) (h : ℕ) (theme : List ℕ) (a : Accepted most_notes cells h theme) (r : ℕ) (some : 1 ≤ r) (buffers : Lent) (room : Room r buffers) where
   pub plain_again : (way : AnyWay) → plain_page cells h theme way (ended cells h way) buffers ≡ end_page cells h way buffers

@@ -1,6 +1,6 @@
 -- The worked cases, as one table: a question, and what is said of it. `made` asks the definitions the same question, and
 -- that every row comes out as it stands is one theorem (`proofs/Worked`). `negsuc 126` is -127. Assumes nothing.
-use Rattle.std.specs.Prelude.{Bool, true, false, cond, List, [], ◌∷◌, map, ℕ, zero, suc, ◌+◌, ◌-◌, ℤ, pos, negsuc, length, replicate}
+use Rattle.std.specs.Prelude.{Bool, true, false, cond, List, [], ◌∷◌, map, ℕ, zero, suc, ◌+◌, ◌-◌, ℤ, pos, negsuc, length, replicate, Result, Ok, Err}
 use Rattle.theory.specs.Lists.{count}
 use Rattle.theory.specs.Pages.{hits}
 use Rattle.score.specs.Score.{column_at, score_of, heard_of, number_of}
@@ -12,8 +12,6 @@ use Rattle.ways.specs.Way.{range_of, range_as}
 use Rattle.ways.specs.declared.way.Way.TheVariants.{Exact, Octave}
 use Rattle.ways.specs.declared.bookmark.Pair.{Pair}
 use Rattle.ways.specs.declared.bookmark.Bookmark.{Bookmark}
-use Rattle.paging.specs.declared.page.Page.{Page}
-use Rattle.paging.specs.declared.page.Page.TheVariants.{Turned, Refused}
 use Rattle.paging.specs.Lent.{Lent, lent, read_pairs}
 use Rattle.paging.specs.Page.{Leaf}
 use Rattle.filter.specs.Limits.{word_bits}
@@ -21,6 +19,8 @@ use Rattle.filter.specs.Table.{theme_table}
 use Rattle.ways.specs.Bookmarks.{first_bookmark}
 use Rattle.search.specs.Pairs.{candidate_of}
 use Rattle.search.specs.Page.{plain_page, quick_page}
+use Rattle.paging.specs.declared.page.Turn.{Turn}
+use Rattle.score.specs.declared.refusals.Refusal.{Refusal}
 
 -- a page as it is read: its pairs, the next bookmark, whether it is finished, its looks
 pub record Shown : Type 0 where
@@ -54,9 +54,9 @@ pub record Case : Type 0 where
 -- ---- what the definitions answer
 
 -- what a call shows; a refused one shows nothing
-abbrev shown : Lent → Page → List Shown
-shown buffers (Turned t) = page (read_pairs t.written buffers) t.next t.finished t.looks ∷ []
-shown buffers (Refused r) = []
+abbrev shown : Lent → Result Turn Refusal → List Shown
+shown buffers (Ok t) = page (read_pairs t.written buffers) t.next t.finished t.looks ∷ []
+shown buffers (Err r) = []
 
 abbrev go_on : List Shown → (Bookmark → List Shown) → List Shown
 go_on [] on = []

@@ -8,9 +8,9 @@ ghost use Rattle.paging.specs.Lent.{lent};
 ghost use Rattle.paging.specs.Turning.{read_turn};
 ghost use Rattle.search.specs.Along.{AlongPages, QuickAlongPages};
 
-use paging::{Page, turned};
-use score::{Column, columns_in};
-use walking::{Walk, Walked, walk_plain, walk_quick};
+use paging::{Turn, turned};
+use score::{Column, Refusal, columns_in};
+use walking::{Walked, walk_plain, walk_quick};
 use ways::{AnyWay, Bookmark, Way};
 use written::written_page;
 
@@ -23,7 +23,7 @@ pub fn along_page(
     bookmark: Bookmark,
     columns: &mut [u16],
     shifts: &mut [i16],
-) -> Page
+) -> Result<Turn, Refusal>
     ensures { AlongPages cells.now tracks theme.now way bookmark (lent columns.old shifts.old) result (lent columns.new shifts.new) }
 {
     match way {
@@ -41,13 +41,11 @@ fn moved_page(
     bookmark: Bookmark,
     columns: &mut [u16],
     shifts: &mut [i16],
-) -> Page
+) -> Result<Turn, Refusal>
     ensures { AlongPages cells.now tracks theme.now (AnyWay.Moved way) bookmark (lent columns.old shifts.old) result (lent columns.new shifts.new) }
 {
-    match walk_plain(cells, tracks, theme, way, bookmark, columns, shifts) {
-        Walk::Done(w) => page_of(way, columns_in(cells, tracks), w, columns, shifts),
-        Walk::Refused(e) => Page::Refused(e),
-    }
+    let w = walk_plain(cells, tracks, theme, way, bookmark, columns, shifts)?;
+    Ok(turn_of(way, columns_in(cells, tracks), w, columns, shifts))
 }
 
 // The same at the columns that the sets make candidates.
@@ -61,22 +59,20 @@ pub fn quick_along_page(
     table: &mut [u32],
     columns: &mut [u16],
     shifts: &mut [i16],
-) -> Page
+) -> Result<Turn, Refusal>
     ensures { QuickAlongPages cells.now tracks theme.now way bookmark sets.now table.old (lent columns.old shifts.old) result table.new (lent columns.new shifts.new) }
 {
-    match walk_quick(
+    let w = walk_quick(
         cells, tracks, theme, way, bookmark, sets, table, columns, shifts,
-    ) {
-        Walk::Done(w) => page_of(way, columns_in(cells, tracks), w, columns, shifts),
-        Walk::Refused(e) => Page::Refused(e),
-    }
+    )?;
+    Ok(turn_of(way, columns_in(cells, tracks), w, columns, shifts))
 }
 
 // The answer after a walk through n columns.
-fn page_of(way: Way, n: usize, w: Walked, columns: &[u16], shifts: &[i16]) -> Page
+fn turn_of(way: Way, n: usize, w: Walked, columns: &[u16], shifts: &[i16]) -> Turn
     requires { n < 65536 }
-    ensures { result ≡ Page.Turned (read_turn (finished_bookmark (range_of way) (column_at n)) w.found w.looks (lent columns.now shifts.now)) }
+    ensures { result ≡ read_turn (finished_bookmark (range_of way) (column_at n)) w.found w.looks (lent columns.now shifts.now) }
 {
     let end = Bookmark::finished(AnyWay::Moved(way), Column(n as u16));
-    Page::Turned(turned(end, w.found, w.looks, columns, shifts))
+    turned(end, w.found, w.looks, columns, shifts)
 }

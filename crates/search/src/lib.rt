@@ -9,5 +9,5 @@ pub mod page;
 mod passed;
 
 pub use page::{plain_page, quick_page};
-pub use paging::{Page, Turn};
+pub use paging::Turn;
 pub use ways::{AnyWay, Bookmark, Pair, Way};

@@ -9,10 +9,10 @@ ghost use Rattle.search.specs.Along.{goes_along};
 use crate::along::{along_page, quick_along_page};
 use crate::passed::{passed_page, passed_quick_page};
 use asking::{check_plain, check_quick};
-use paging::Page;
+use paging::Turn;
 use passing::any_empty;
 use passing::empties::is_empty;
-use score::{MOST_CELLS, Verdict};
+use score::{MOST_CELLS, Refusal};
 use ways::{AnyWay, Bookmark, Way};
 
 // So few cells go into a small buffer, which is made ready sooner.
@@ -38,13 +38,13 @@ pub fn plain_page(
     bookmark: Bookmark,
     columns: &mut [u16],
     shifts: &mut [i16],
-) -> Page
+) -> Result<Turn, Refusal>
     ensures { PlainPages cells.now tracks theme.now way bookmark (lent columns.old shifts.old) result (lent columns.new shifts.new) }
 {
     if goes_along(cells, tracks) {
         return along_page(cells, tracks, theme, way, bookmark, columns, shifts);
     }
-    if let Verdict::Refused(e) = check_plain(
+    check_plain(
         cells,
         tracks,
         theme,
@@ -52,9 +52,7 @@ pub fn plain_page(
         bookmark,
         columns.len(),
         shifts.len(),
-    ) {
-        return Page::Refused(e);
-    }
+    )?;
     if cells.len() <= FEW {
         let mut few = [0u8; FEW];
         return passed_page(
@@ -79,7 +77,7 @@ pub fn quick_page(
     table: &mut [u32],
     columns: &mut [u16],
     shifts: &mut [i16],
-) -> Page
+) -> Result<Turn, Refusal>
     ensures { QuickPages cells.now tracks theme.now way bookmark sets.now table.old (lent columns.old shifts.old) result table.new (lent columns.new shifts.new) }
 {
     if goes_along(cells, tracks) {
@@ -87,7 +85,7 @@ pub fn quick_page(
             cells, tracks, theme, way, bookmark, sets, table, columns, shifts,
         );
     }
-    if let Verdict::Refused(e) = check_quick(
+    check_quick(
         cells,
         tracks,
         theme,
@@ -97,9 +95,7 @@ pub fn quick_page(
         table.len(),
         columns.len(),
         shifts.len(),
-    ) {
-        return Page::Refused(e);
-    }
+    )?;
     if cells.len() <= FEW {
         let mut few = [0u8; FEW];
         return passed_quick_page(

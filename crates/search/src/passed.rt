@@ -11,31 +11,10 @@ ghost use Rattle.search.specs.Page.{PlainPages, QuickPages};
 ghost use Rattle.search.specs.Along.{among, Leaves, InScore};
 
 use crate::along::{along_page, quick_along_page};
-use paging::{Page, turned};
+use paging::{Turn, turned};
 use passing::{kept_sets, rank, rename, take_out};
-use score::{Column, MOST_COLUMNS, columns_in};
+use score::{Column, MOST_COLUMNS, Refusal, columns_in};
 use ways::{AnyWay, Bookmark, Way};
-
-// A bookmark of the score among the columns with these numbers: at its own column, or, where that is none of them, at the lowest
-// shift of the next.
-fn among(way: AnyWay, bookmark: Bookmark, numbers: &[u16]) -> Bookmark
-    requires { (1 ≤ bookmark.column.0) × (length numbers.now < 65535) }
-    ensures { result ≡ among (range_as way) numbers.now bookmark }
-{
-    let column = bookmark.column;
-    let at = rank(numbers, column.0);
-    if stands_at(numbers, at, column.0) {
-        return Bookmark {
-            column: Column((at + 1) as u16),
-            shift: bookmark.shift,
-        };
-    }
-    let first = Bookmark::first(way);
-    Bookmark {
-        column: Column((at + 1) as u16),
-        shift: first.shift,
-    }
-}
 
 // Whether this number, which is not 0, stands at a place.
 fn stands_at(numbers: &[u16], at: usize, number: u16) -> bool
@@ -48,30 +27,58 @@ fn stands_at(numbers: &[u16], at: usize, number: u16) -> bool
     false
 }
 
-// A page along the columns with these numbers as one of a score of n columns: the columns that it wrote are renamed, and the
-// answer is read off the buffers anew.
-fn in_score(
-    page: Page,
+// The columns with a pitch, by their numbers in a score of n columns, and the way in which the theme is sought along them.
+#[derive(Clone, Copy)]
+struct Heard<'a> {
     way: AnyWay,
     n: usize,
-    numbers: &[u16],
-    columns: &mut [u16],
-    shifts: &[i16],
-) -> Page
-    requires { n < 65536 }
-    ensures { InScore page (finished_bookmark (range_as way) (column_at n)) numbers.now columns.old shifts.now result columns.new }
-{
-    match page {
-        Page::Turned(t) => {
-            rename(columns, t.written, numbers);
-            let end = Bookmark::finished(way, Column(n as u16));
-            Page::Turned(turned(end, t.written, t.looks, columns, shifts))
+    numbers: &'a [u16],
+    ghost columns_few: { n < 65536 },
+    ghost numbers_few: { length numbers.now < 65535 },
+}
+
+impl Heard<'_> {
+    // A bookmark of the score among these columns: at its own column, or, where that is none of them, at the lowest shift of the
+    // next.
+    fn among(&self, bookmark: Bookmark) -> Bookmark
+        requires { 1 ≤ bookmark.column.0 }
+        ensures { result ≡ among (range_as self.now.way) self.now.numbers.now bookmark }
+    {
+        let column = bookmark.column;
+        let at = rank(self.numbers, column.0);
+        if stands_at(self.numbers, at, column.0) {
+            return Bookmark {
+                column: Column((at + 1) as u16),
+                shift: bookmark.shift,
+            };
         }
-        Page::Refused(e) => Page::Refused(e),
+        let first = Bookmark::first(self.way);
+        Bookmark {
+            column: Column((at + 1) as u16),
+            shift: first.shift,
+        }
+    }
+
+    // A page along these columns as one of the score: the columns that it wrote are renamed, and the answer is read off the
+    // buffers anew.
+    fn in_score(
+        &self,
+        page: Result<Turn, Refusal>,
+        columns: &mut [u16],
+        shifts: &[i16],
+    ) -> Result<Turn, Refusal>
+        ensures { InScore page (finished_bookmark (range_as self.now.way) (column_at self.now.n)) self.now.numbers.now
+            columns.old shifts.now result columns.new }
+    {
+        let t = page?;
+        rename(columns, t.written, self.numbers);
+        let end = Bookmark::finished(self.way, Column(self.n as u16));
+        Ok(turned(end, t.written, t.looks, columns, shifts))
     }
 }
 
-// The plain page. The cells that are kept go into the buffer.
+// The plain page. The cells that are kept go into the buffer. What is asked for tells of the buffers too, which are written: so
+// it stays a clause here and in the quick page, and what is lent is passed on as it came.
 pub fn passed_page(
     cells: &[u8],
     tracks: usize,
@@ -81,19 +88,21 @@ pub fn passed_page(
     kept: &mut [u8],
     columns: &mut [u16],
     shifts: &mut [i16],
-) -> Page
+) -> Result<Turn, Refusal>
     requires plain_asks { PlainAsks cells.now tracks theme.now way bookmark columns.old shifts.old }
     requires leaves { Leaves cells.now tracks kept.old }
-    ensures { PlainPages cells.now tracks theme.now way bookmark (lent columns.old shifts.old) result (lent columns.new shifts.new) }
+    ensures { PlainPages cells.now tracks theme.now way bookmark (lent columns.old shifts.old) result
+        (lent columns.new shifts.new) }
 {
     let mut all = [0u16; MOST_COLUMNS];
     let q = take_out(cells, tracks, kept, &mut all);
     let end = q * tracks;
     let numbers = &all[..q];
-    let b = among(way, bookmark, numbers);
-    let p = along_page(&kept[..end], tracks, theme, way, b, columns, shifts);
     let n = columns_in(cells, tracks);
-    in_score(p, way, n, numbers, columns, shifts)
+    let heard = Heard { way, n, numbers };
+    let b = heard.among(bookmark);
+    let p = along_page(&kept[..end], tracks, theme, way, b, columns, shifts);
+    heard.in_score(p, columns, shifts)
 }
 
 // The quick page. The entries of the columns that are kept go with them.
@@ -108,10 +117,11 @@ pub fn passed_quick_page(
     kept: &mut [u8],
     columns: &mut [u16],
     shifts: &mut [i16],
-) -> Page
+) -> Result<Turn, Refusal>
     requires quick_asks { QuickAsks cells.now tracks theme.now way bookmark sets.now table.old columns.old shifts.old }
     requires leaves { Leaves cells.now tracks kept.old }
-    ensures { QuickPages cells.now tracks theme.now way bookmark sets.now table.old (lent columns.old shifts.old) result table.new (lent columns.new shifts.new) }
+    ensures { QuickPages cells.now tracks theme.now way bookmark sets.now table.old (lent columns.old shifts.old) result table.new
+        (lent columns.new shifts.new) }
 {
     let mut all = [0u16; MOST_COLUMNS];
     let q = take_out(cells, tracks, kept, &mut all);
@@ -120,8 +130,13 @@ pub fn passed_quick_page(
     let last = q - 1;
     let mut entries = [0u16; MOST_COLUMNS];
     kept_sets(sets, &numbers[..last], &mut entries);
-    let any = AnyWay::Moved(way);
-    let b = among(any, bookmark, numbers);
+    let n = columns_in(cells, tracks);
+    let heard = Heard {
+        way: AnyWay::Moved(way),
+        n,
+        numbers,
+    };
+    let b = heard.among(bookmark);
     let p = quick_along_page(
         &kept[..end],
         tracks,
@@ -133,6 +148,5 @@ pub fn passed_quick_page(
         columns,
         shifts,
     );
-    let n = columns_in(cells, tracks);
-    in_score(p, any, n, numbers, columns, shifts)
+    heard.in_score(p, columns, shifts)
 }

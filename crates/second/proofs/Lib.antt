@@ -1,2 +1,2 @@
--- What the leaves of `totals` need of signed numbers.
-mod Signs
+-- Laws of the second finder: `Seeking`, what is passed by where a number is sought.
+pub mod Seeking

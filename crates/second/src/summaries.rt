@@ -1,16 +1,10 @@
 // The summary of interval sets, bit by bit.
 
 use crate::finder::bit;
-use crate::totals::set;
 
 // Whether some of so many sets has bit d at 0.
 fn some_zero(sets: &[u16], many: usize, d: u8) -> bool {
-    for k in 0..many {
-        if !bit(set(sets, k), d) {
-            return true;
-        }
-    }
-    false
+    sets.iter().take(many).any(|&set| !bit(usize::from(set), d))
 }
 
 // A number with bit d alone, one of twelve.
@@ -20,11 +14,7 @@ fn alone(d: u8) -> u16 {
 
 // The summary of so many sets: bit d of twelve is 0 exactly where some set has bit d at 0. So of no sets it is 4095.
 pub fn summary(sets: &[u16], many: usize) -> u16 {
-    let mut number: u16 = 0;
-    for d in 0..12 {
-        if !some_zero(sets, many, d) {
-            number = number | alone(d);
-        }
-    }
-    number
+    (0..12u8)
+        .filter(|&d| !some_zero(sets, many, d))
+        .fold(0, |number, d| number | alone(d))
 }

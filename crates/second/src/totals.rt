@@ -1,78 +1,51 @@
-// Small steps that have an answer for every argument, so that what is made of them needs no bounds: a place that is not there is
-// a rest or a 0, and is not written.
+// Small steps that have an answer for every argument, so that what is made of them needs no bounds: who asks says what stands
+// at a place that is not there, and such a place is not written.
 
-// A byte of a slice, or a rest.
-pub fn byte(s: &[u8], i: usize) -> u8 {
-    if i < s.len() { s[i] } else { 255 }
+ghost use Rattle.std.specs.Prelude.{◌≡◌, ◌+◌, ◌-◌, ◌%◌, ◌^◌, ◌↔◌, pos, ◌-ℤ◌, IsTrue, int_rem, slice_index_or, slice_set};
+ghost use Rattle.second.specs.Columns.{small_product};
+
+// A cell with no pitch. So is one that is not there.
+pub const REST: u8 = 255;
+
+// What stands at a place, or something else where there is no such place.
+pub fn get_or<T: Copy>(s: &[T], i: usize, otherwise: T) -> T
+    ensures { result ≡ slice_index_or s.now i otherwise }
+{
+    s.get(i).copied().unwrap_or(otherwise)
 }
 
-// A set, or a column.
-pub fn set(s: &[u16], i: usize) -> usize {
-    if i < s.len() { size16(s[i]) } else { 0 }
-}
-
-// A word of a table.
-pub fn word(s: &[u32], i: usize) -> usize {
-    if i < s.len() { size32(s[i]) } else { 0 }
-}
-
-// A shift.
-pub fn shift(s: &[i16], i: usize) -> i16 {
-    if i < s.len() { s[i] } else { 0 }
-}
-
-// A count.
-pub fn count(s: &[u64], i: usize) -> u64 {
-    if i < s.len() { s[i] } else { 0 }
-}
-
-pub fn put_byte(s: &mut [u8], i: usize, x: u8) {
-    if i < s.len() {
-        s[i] = x;
-    }
-}
-
-pub fn put_set(s: &mut [u16], i: usize, x: u16) {
-    if i < s.len() {
-        s[i] = x;
-    }
-}
-
-pub fn put_word(s: &mut [u32], i: usize, x: u32) {
-    if i < s.len() {
-        s[i] = x;
-    }
-}
-
-pub fn put_shift(s: &mut [i16], i: usize, x: i16) {
+// Writes a value at a place, where there is such a place; the others stay as they were.
+pub fn put<T: Copy>(s: &mut [T], i: usize, x: T)
+    ensures { s.new ≡ slice_set s.old i x }
+{
+    // not by `get_mut`: of what is written through it a contract knows nothing
     if i < s.len() {
         s[i] = x;
     }
 }
 
 // Adds to a count.
-pub fn add(s: &mut [u64], i: usize, x: u64) {
-    if i < s.len() {
-        s[i] = std::num::wrapping_add_u64(s[i], x);
-    }
+pub fn add(count: &mut u64, more: u64) {
+    *count = count.wrapping_add(more);
 }
 
-pub fn more(x: usize, y: usize) -> usize {
-    std::num::wrapping_add_usize(x, y)
+pub fn more(x: usize, y: usize) -> usize
+    ensures { result ≡ (x + y) % 2 ^ 64 }
+{
+    x.wrapping_add(y)
 }
 
-pub fn less_one(x: usize) -> usize {
-    if 0 < x { x - 1 } else { 0 }
+pub fn less_one(x: usize) -> usize
+    ensures { result ≡ x - 1 }
+{
+    x.saturating_sub(1)
 }
 
 // A product of two numbers of 16 bits; of larger ones 0.
-pub fn product(x: usize, y: usize) -> usize {
-    if x < 65536 {
-        if y < 65536 {
-            return x * y;
-        }
-    }
-    0
+pub fn product(x: usize, y: usize) -> usize
+    ensures { result ≡ small_product x y }
+{
+    if x < 65536 && y < 65536 { x * y } else { 0 }
 }
 
 // Where the cell of a column and a track lies: columns count from 1, tracks from 0.
@@ -80,51 +53,21 @@ pub fn place(j: usize, h: usize, track: usize) -> usize {
     more(product(less_one(j), h), track)
 }
 
-pub fn size(x: u8) -> usize {
-    x as usize
-}
-
-pub fn size16(x: u16) -> usize {
-    x as usize
-}
-
-pub fn size32(x: u32) -> usize {
-    x as usize
-}
-
-pub fn whole(x: u8) -> i16 {
-    x as i16
-}
-
 // t - p - c
-pub fn apart(t: u8, p: u8, c: i16) -> i32 {
-    t as i32 - p as i32 - c as i32
+pub fn apart(t: u8, p: u8, c: i16) -> i32
+    ensures { result ≡ pos t -ℤ pos p -ℤ c }
+{
+    i32::from(t) - i32::from(p) - i32::from(c)
 }
 
 // Whether a number is divisible by 12.
-pub fn twelves(z: i32) -> bool {
+pub fn twelves(z: i32) -> bool
+    ensures { IsTrue result ↔ int_rem z (pos 12) ≡ pos 0 }
+{
     z % 12 == 0
 }
 
 // A shift raised by one.
 pub fn raised(c: i16) -> i16 {
-    if c < 32767 { c + 1 } else { c }
-}
-
-// How far a shift is from 0, counted upwards to the higher of the two.
-pub fn distance(c: i16) -> u64 {
-    let mut low = c;
-    let mut high = 0;
-    if 0 < c {
-        low = 0;
-        high = c;
-    }
-    let most: u64 = 32768;
-    for d in 0..most {
-        if low == high {
-            return d;
-        }
-        low = raised(low);
-    }
-    most
+    c.saturating_add(1)
 }

@@ -1,16 +1,14 @@
 -- How the numbers of the columns that are sought are found: those found, with those of the columns that are left, are all of them
 -- (`Seeking`). Assumes nothing.
 use mathlib.Core.Path.{◌≡◌, refl, sym, ap, ◌∙◌}
-use mathlib.Core.Bool.{Bool, true, false, not, ◌&&◌}
+use mathlib.Core.Bool.{Bool, true, false, not}
 use mathlib.Core.List.{List, [], ◌∷◌, ◌++◌, append-nil}
 use Prim.Native.Nat.{ℕ, ◌+◌, ◌-◌, ◌*◌, ◌≤◌, ◌<◌, zero-le}
 use native.Mathlib.Omega.{arith}
-use lib.Dec.{ltb}
 use lib.ListN.{length, get_or, take, drop, set, replicate, length-set, length-append, drop_of_length-le}
 use lib.Seq.{take_all, take-append_seam}
-use borrow.Author.Tests.{ltb-true, ltb-false, not-true, not-false}
+use borrow.Author.Tests.{not-true, not-false}
 use Rattle.theory.specs.Lists.{over}
-use Rattle.theory.proofs.Either.{both_left, both_right}
 use Rattle.theory.proofs.Lists.{over_more}
 use Rattle.score.specs.Score.{columns_in, score_of, heard}
 use Rattle.score.proofs.Columns.{score_length, column_cells}
@@ -31,10 +29,6 @@ pub record Seeking (cells : List ℕ) (h passed : ℕ) (numbers : List ℕ) (k q
 
 pub found_start : (cells : List ℕ) (h passed : ℕ) → Seeking cells h passed zeros passed 0
 found_start cells h passed = record { named = []; so_far = refl; left = refl; many = refl; room = zero-le; long = refl }
-
--- the loop goes on
-pub goes_on : (k n q : ℕ) → (ltb k n && ltb q most_sought) ≡ true → (k < n) × (q < most_sought)
-goes_on k n q e = (ltb-true k n (both_left (ltb k n) (ltb q most_sought) e), ltb-true q most_sought (both_right (ltb k n) (ltb q most_sought) e))
 
 module _ (cells : List ℕ) (h passed : ℕ) {numbers : List ℕ} {k q : ℕ} (f : Seeking cells h passed numbers k q) where
   abbrev score : List (List ℕ)
@@ -72,18 +66,22 @@ module _ (cells : List ℕ) (h passed : ℕ) {numbers : List ℕ} {k q : ℕ} (f
             long = length-set numbers q (k + 1) ∙ f.long;
           }
 
-  pub found_end : {n : ℕ} → n ≡ columns_in cells h → (ltb k n && ltb q most_sought) ≡ false → numbers ≡ sought_behind score passed
+  -- all columns are gone through
+  pub found_end : {n : ℕ} → n ≡ columns_in cells h → n ≤ k → numbers ≡ sought_behind score passed
   unfolding sought_behind
-  found_end {n} e z = f.so_far ∙ ap (λ (l : List ℕ). over zeros l) (step (ltb k n) refl z)
-    where
-      step : (t : Bool) → ltb k n ≡ t → (t && ltb q most_sought) ≡ false → f.named ≡ take most_sought (numbers_behind score passed)
-      step false g z =
-          let past : length score ≤ k = omega (arith, score_length cells h, ltb-false k n g) in
-          let none : drop k score ≡ [] = drop_of_length-le score past in
-          let all : f.named ≡ numbers_behind score passed = sym (append-nil f.named) ∙ (rw none at f.left) in
-          sym (take_all most_sought f.named (omega (arith, f.many, f.room))) ∙ ap (take most_sought) all
-      step true g z =
-          let full : most_sought ≡ length f.named = omega (arith, f.many, f.room, ltb-false q most_sought z) in
-          sym (take-append_seam f.named (numbers_behind score k))
-          ∙ ap (λ (n : ℕ). take n (f.named ++ numbers_behind score k)) (sym full)
-          ∙ ap (take most_sought) f.left
+  found_end {n} e past =
+      let none : drop k score ≡ [] = drop_of_length-le score (omega (arith, score_length cells h)) in
+      let all : f.named ≡ numbers_behind score passed = sym (append-nil f.named) ∙ (rw none at f.left) in
+      f.so_far
+      ∙ ap (over zeros) (sym (take_all most_sought f.named (omega (arith, f.many, f.room))) ∙ ap (take most_sought) all)
+
+  -- or as many are found as are sought
+  pub found_full : most_sought ≤ q → numbers ≡ sought_behind score passed
+  unfolding sought_behind
+  found_full r =
+      let full : most_sought ≡ length f.named = omega (arith, f.many, f.room) in
+      f.so_far
+      ∙ ap (over zeros)
+      (sym (take-append_seam f.named (numbers_behind score k))
+      ∙ ap (λ (n : ℕ). take n (f.named ++ numbers_behind score k)) (sym full)
+      ∙ ap (take most_sought) f.left)

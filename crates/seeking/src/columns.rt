@@ -26,14 +26,14 @@ fn sought_behind(cells: &[u8], tracks: usize, passed: usize) -> [usize; MOST_SOU
 {
     let n = columns_in(cells, tracks);
     let mut numbers = [0usize; MOST_SOUGHT];
-    let mut k = passed;
     let mut q: usize = 0;
-    while (k < n) & (q < MOST_SOUGHT) {
+    for k in passed..n {
+        if q == MOST_SOUGHT {
+            break;
+        }
         let base = k * tracks;
-        let end = base + tracks;
-        k += 1;
-        if !is_empty(&cells[base..end]) {
-            numbers[q] = k;
+        if !is_empty(&cells[base..base + tracks]) {
+            numbers[q] = k + 1;
             q += 1;
         }
     }

@@ -21,24 +21,19 @@ pub fn cell_holds(cell: u8, way: Way, code: u16, p: Pitch) -> bool
     }
 }
 
-// How many cells come before the first that holds the note; all of them where none does. It goes from the last cell to the first,
-// so the lowest is the one that stays.
+// How many cells come before the first that holds the note; all of them where none does.
 fn first_cell(column: &[u8], way: Way, code: u16, p: Pitch) -> usize
     ensures { result ≡ first (cell_holds way code p) column.now }
 {
-    let mut found = column.len();
-    let mut i = column.len();
-    while 0 < i {
-        i -= 1;
-        if cell_holds(column[i], way, code, p) {
-            found = i;
-        }
-    }
-    found
+    column
+        .iter()
+        .position(|&cell| cell_holds(cell, way, code, p))
+        .unwrap_or(column.len())
 }
 
-// The number of the lowest track, from 1, whose cell holds the note p moved by the code's shift; 0 where none does. In octave any
-// pitch of the right class holds it. It may be asked of any column, code and note.
+// The number of the lowest track, from 1, whose cell holds the note p moved by the code's shift; 0 where none does, as in the
+// tracks of an `explanation`, which are these numbers. In octave any pitch of the right class holds it. It may be asked of any
+// column, code and note.
 pub fn lowest_track(column: &[u8], way: Way, code: u16, p: Pitch) -> usize
     ensures { result ≡ lowest_track way code p column.now }
 {

@@ -1,35 +1,16 @@
 // The library's route as plain numbers, on the part of the lent buffers that is asked for.
 
-use judging::answers::part;
-use routing::{Routed, route};
+use judging::answers::{away_in, up_to};
+use routing::route;
 use score::Column;
 use second::asks::Ask;
-use second::totals::size;
+use second::away::Away;
 use ways::{AnyWay, Pair, Way};
 
-// An answer, the route aside: the refusal's number and place, 0 and 0 where there is none, and the changes.
-#[derive(Clone, Copy)]
-pub struct Stray {
-    pub number: u8,
-    pub place: usize,
-    pub changes: usize,
-}
+// The changes of a route, or what is turned away.
+pub type Stray = Result<usize, Away>;
 
-fn plain(r: Routed) -> Stray {
-    match r {
-        Routed::Changes(k) => Stray {
-            number: 0,
-            place: 0,
-            changes: size(k),
-        },
-        Routed::Refused(e) => Stray {
-            number: e.number,
-            place: e.place,
-            changes: 0,
-        },
-    }
-}
-
+// The same match as `way_of` of `turning`: no crate below both sees the library's ways and the second finder's.
 fn way_in(way: second::ways::Way) -> AnyWay {
     match way {
         second::ways::Way::Exact => AnyWay::Moved(Way::Exact),
@@ -38,27 +19,21 @@ fn way_in(way: second::ways::Way) -> AnyWay {
     }
 }
 
-fn pair_of(a: Ask) -> Pair {
-    Pair {
-        column: Column(a.column),
-        shift: a.shift,
-    }
-}
-
 // The room of a page's columns is the number of places lent.
 pub fn ask_route(cells: &[u8], theme: &[u8], places: &mut [u8], a: Ask) -> Stray {
-    let many = part(a.cells, cells.len());
-    let m = part(a.notes, theme.len());
-    let room = part(a.columns, places.len());
-    let way = a.way;
-    let pair = pair_of(a);
-    let r = route(
-        &cells[..many],
+    let room = a.columns.min(places.len());
+    let pair = Pair {
+        column: Column(a.column),
+        shift: a.shift,
+    };
+    let changes = route(
+        up_to(cells, a.cells),
         a.h,
-        &theme[..m],
-        way_in(way),
+        up_to(theme, a.notes),
+        way_in(a.way),
         pair,
         &mut places[..room],
-    );
-    plain(r)
+    )
+    .map_err(away_in)?;
+    Ok(usize::from(changes))
 }

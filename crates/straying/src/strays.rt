@@ -2,96 +2,80 @@
 
 use crate::beside::as_due;
 use crate::calling::{Stray, ask_route};
-use crate::marked::{Places, mark_places};
+use crate::marked::{Places, marked_places};
 use crate::told::{astray, stray_told};
 use detours::detour::{Detour, Method, few_routes, second_route};
-use second::asks::Ask;
-use second::totals::{add, count, more, size};
+use second::asks::{Ask, Case};
+use second::totals::add;
 use second::ways::Way;
 use std::io;
 
-// The counts, by their places: how many were compared, how many had a route and how many of these a change; how many were
-// compared with every route there is, and how many of these had more than one best; how many differed; and how many had places to
-// spare.
-pub type Counts = [u64; 40];
-
-pub const COMPARED: usize = 0;
-
-pub const ROUTED: usize = 1;
-
-pub const CHANGED: usize = 2;
-
-pub const TRIED: usize = 3;
-
-pub const ALIKE: usize = 4;
-
-pub const DIFFERED: usize = 5;
-
-pub const SPARE: usize = 6;
-
-// From here on the routes by their changes, of which the last place has all that have more; by their ways; and the refusals by
-// their numbers.
-pub const BY_CHANGES: usize = 8;
-
+// From so many changes on, routes are counted together.
 pub const MORE_CHANGES: usize = 8;
 
-pub const BY_WAY: usize = 17;
-
-pub const BY_NUMBER: usize = 20;
+#[derive(Clone, Copy, Default)]
+pub struct Counts {
+    // how many were compared, how many had a route and how many of these a change, and how many had places to spare
+    pub compared: u64,
+    pub routed: u64,
+    pub changed: u64,
+    pub spare: u64,
+    // how many were compared with every route there is, and how many of these had more than one best
+    pub tried: u64,
+    pub alike: u64,
+    pub differed: u64,
+    // the routes by their ways, and by their changes, of which the last place has all that have as many or more
+    pub exact: u64,
+    pub octave: u64,
+    pub written: u64,
+    // the routes by their changes, and the refusals by their numbers, as they are written: arrays, since a number says which
+    // is counted
+    pub by_changes: [u64; 9],
+    pub by_number: [u64; 20],
+}
 
 // How many differing cases are written out.
 const WRITTEN_OUT: u64 = 8;
 
-fn add_if(counts: &mut Counts, place: usize, counted: bool) {
-    if counted {
-        add(counts, place, 1);
+fn add_at(counts: &mut [u64], place: usize) {
+    if let Some(count) = counts.get_mut(place) {
+        add(count, 1);
     }
 }
 
-fn way_place(way: Way) -> usize {
-    match way {
-        Way::Exact => 0,
-        Way::Octave => 1,
-        Way::Written => 2,
+fn count_route(counts: &mut Counts, a: Ask, changes: usize) {
+    add(&mut counts.routed, 1);
+    add_at(&mut counts.by_changes, changes.min(MORE_CHANGES));
+    match a.way {
+        Way::Exact => add(&mut counts.exact, 1),
+        Way::Octave => add(&mut counts.octave, 1),
+        Way::Written => add(&mut counts.written, 1),
     }
-}
-
-fn changes_place(changes: usize) -> usize {
-    if changes < MORE_CHANGES {
-        more(BY_CHANGES, changes)
-    } else {
-        more(BY_CHANGES, MORE_CHANGES)
-    }
+    add(&mut counts.changed, u64::from(0 < changes));
+    add(&mut counts.spare, u64::from(a.notes < a.columns));
 }
 
 // Counts a route that is right, or a refusal.
 fn tallied(counts: &mut Counts, a: Ask, answer: Stray) {
-    if 0 < answer.number {
-        add(counts, more(BY_NUMBER, size(answer.number)), 1);
-        return;
+    match answer {
+        Ok(changes) => count_route(counts, a, changes),
+        Err(away) => add_at(&mut counts.by_number, usize::from(away.number)),
     }
-    let way = a.way;
-    add(counts, ROUTED, 1);
-    add(counts, changes_place(answer.changes), 1);
-    add(counts, more(BY_WAY, way_place(way)), 1);
-    add_if(counts, CHANGED, 0 < answer.changes);
-    add_if(counts, SPARE, a.notes < a.columns);
 }
 
 // Counts one that differs, and writes out the first ones.
 fn amiss(
     rt: &impl Print,
-    cells: &[u8],
-    theme: &[u8],
+    case: Case<'_>,
     places: &Places,
     counts: &mut Counts,
     a: Ask,
     answer: Stray,
     due: Detour,
 ) -> io::Result<()> {
-    add(counts, DIFFERED, 1);
-    if count(counts, DIFFERED) <= WRITTEN_OUT {
-        astray(rt, cells, theme, places, a, answer, due)?;
+    add(&mut counts.differed, 1);
+    if counts.differed <= WRITTEN_OUT {
+        astray(rt, case, places, a, answer, due)?;
     }
     Ok(())
 }
@@ -99,70 +83,55 @@ fn amiss(
 // Holds a route against every route there is, where they are few.
 fn weigh_every(
     rt: &impl Print,
-    cells: &[u8],
-    theme: &[u8],
+    case: Case<'_>,
     places: &Places,
     counts: &mut Counts,
     a: Ask,
     answer: Stray,
 ) -> io::Result<()> {
-    let due = second_route(cells, theme, a, Method::Every);
-    add(counts, TRIED, 1);
-    add_if(counts, ALIKE, 1 < due.alike);
+    let due = second_route(case.cells, case.theme, a, Method::Every);
+    add(&mut counts.tried, 1);
+    if let Ok(best) = due {
+        add(&mut counts.alike, u64::from(1 < best.alike));
+    }
     if !as_due(places, a, answer, due) {
-        amiss(rt, cells, theme, places, counts, a, answer, due)?;
+        amiss(rt, case, places, counts, a, answer, due)?;
     }
     Ok(())
 }
 
-// Whether an answer is a route, and every route can be tried beside it.
-fn tried_by_every(a: Ask, answer: Stray) -> bool {
-    if 0 < answer.number {
-        return false;
-    }
-    few_routes(a)
-}
-
-// Holds an answer against the second router's.
+// Holds an answer against the second router's; a route where every one can be tried beside it, against all of them too.
 fn weigh(
     rt: &impl Print,
-    cells: &[u8],
-    theme: &[u8],
+    case: Case<'_>,
     places: &Places,
     counts: &mut Counts,
     a: Ask,
     answer: Stray,
 ) -> io::Result<()> {
-    add(counts, COMPARED, 1);
-    let due = second_route(cells, theme, a, Method::Ahead);
+    add(&mut counts.compared, 1);
+    let due = second_route(case.cells, case.theme, a, Method::Ahead);
     if !as_due(places, a, answer, due) {
-        return amiss(rt, cells, theme, places, counts, a, answer, due);
+        return amiss(rt, case, places, counts, a, answer, due);
     }
     tallied(counts, a, answer);
-    if tried_by_every(a, answer) {
-        weigh_every(rt, cells, theme, places, counts, a, answer)?;
+    if answer.is_ok() && few_routes(a) {
+        weigh_every(rt, case, places, counts, a, answer)?;
     }
     Ok(())
-}
-
-// Asks for a route on marked places.
-fn ask_on(cells: &[u8], theme: &[u8], places: &mut Places, a: Ask) -> Stray {
-    mark_places(places);
-    ask_route(cells, theme, places, a)
 }
 
 // Asks for a route and notes how it compares; a loud one is written.
 pub fn stray(
     rt: &impl Print,
-    cells: &[u8],
-    theme: &[u8],
+    case: Case<'_>,
     counts: &mut Counts,
     a: Ask,
     loud: bool,
 ) -> io::Result<()> {
-    let mut places = [0u8; 80];
-    let answer = ask_on(cells, theme, &mut places, a);
-    weigh(rt, cells, theme, &places, counts, a, answer)?;
+    let mut places = marked_places();
+    let answer = ask_route(case.cells, case.theme, &mut places, a);
+    weigh(rt, case, &places, counts, a, answer)?;
     if loud {
         stray_told(rt, &places, a, answer)?;
     }

@@ -1,5 +1,3 @@
--- Laws of the summary, for every crate above (`Summaries`), and that its contract settles its call (`Unique`). Within this
--- crate: how it is made, one set after another (`Making`).
+-- Laws of the summary, for every crate above (`Summaries`), and that its contract settles its call (`Unique`).
 pub mod Summaries
-mod Making
 pub mod Unique

@@ -1,17 +1,19 @@
 -- The summary: bit d is 0 exactly where some set has bit d at 0 (`summary_bit`), the bits from 12 on are 0, and of no sets it is
--- 4095. A set more takes its bits away (`summary_more`). Assumes nothing.
+-- 4095. A set more takes its bits away (`summary_more`), and is an and where it comes last (`summary_push`). Assumes nothing.
 use mathlib.Core.Path.{◌≡◌, refl, sym, ap, ◌∙◌}
-use mathlib.Core.Bool.{Bool, true, false, cond, true≢false}
+use mathlib.Core.Bool.{Bool, true, false, cond}
 use mathlib.Core.Logic.{◌↔◌}
-use mathlib.Core.List.{List, [], ◌∷◌}
+use mathlib.Core.List.{List, [], ◌∷◌, ◌++◌}
 use Prim.Native.Nat.{ℕ, ◌≤◌, ◌<◌, min}
+use native.Mathlib.Nat.{lt_of_le_of_lt}
 use native.Mathlib.Omega.{arith}
+use lib.Bits.{bit_and, and_le_l}
 use lib.Dec.{eqb}
 use lib.ListN.{length, get_or}
-use borrow.Author.Tests.{eqb-true, eqb-false, eq-eqb, ne_eqb}
+use borrow.Author.Tests.{eqb-true, eqb-false, eq-eqb}
 use Rattle.theory.specs.Bits.{bit, number}
-use Rattle.theory.specs.Lists.{some, first}
-use Rattle.theory.proofs.Bits.{bit_lt, bit_number, number_lt, bit_high}
+use Rattle.theory.specs.Lists.{first}
+use Rattle.theory.proofs.Bits.{bit_lt, bit_number, number_lt, bit_high, bit_and_lem, bit_ext, bit_ones}
 use Rattle.theory.proofs.Lists.{some_first, first_there, some_at}
 use Rattle.score.specs.Limits.{highest_set, table_words}
 use Rattle.summing.specs.Summary.{in_some, summary}
@@ -70,3 +72,15 @@ summary_more set sets d h =
         let z : bit set d ≡ 0 → ⊥ = eqb-false _ _ e in
         let one : bit set d ≡ 1 = omega (arith, bit_lt set d, z) in
         omega (arith, one, k, absent_lt (in_some sets d))
+
+-- a set more at the end is an and
+pub summary_push : (sets : List ℕ) (set : ℕ) → bit_and (summary sets) set ≡ summary (sets ++ (set ∷ []))
+summary_push sets set =
+    bit_ext 12 (bit_and (summary sets) set) (summary (sets ++ (set ∷ []))) (lt_of_le_of_lt (and_le_l (summary sets) set) (summary_lt sets))
+    (summary_lt (sets ++ (set ∷ []))) (λ d h. bit_and_lem (summary sets) set d ∙ sym (bits sets d h))
+  where
+    bits : (sets : List ℕ) (d : ℕ) → d < 12 → bit (summary (sets ++ (set ∷ []))) d ≡ min (bit (summary sets) d) (bit set d)
+    bits [] d h =
+        let none : bit (summary []) d ≡ 1 = ap (λ (n : ℕ). bit n d) summary_nil ∙ bit_ones d 12 h in
+        omega (arith, summary_more set [] d h, none, bit_lt set d)
+    bits (one ∷ sets) d h = omega (arith, summary_more one (sets ++ (set ∷ [])) d h, summary_more one sets d h, bits sets d h)

@@ -13,11 +13,5 @@ pub struct Summary(pub u16);
 pub fn summary_of(sets: &[u16]) -> Summary
     ensures { result ≡ summary_of sets.now }
 {
-    let mut kept: u16 = HIGHEST_SET;
-    let mut k = 0;
-    while k < sets.len() {
-        kept = kept & sets[k];
-        k += 1;
-    }
-    Summary(kept)
+    Summary(sets.iter().fold(HIGHEST_SET, |kept, &set| kept & set))
 }

@@ -14,8 +14,6 @@ use Rattle.ways.specs.declared.way.AnyWay.{AnyWay}
 use Rattle.ways.specs.declared.bookmark.Pair.{Pair}
 use Rattle.ways.specs.declared.bookmark.Bookmark.{Bookmark}
 use Rattle.paging.specs.declared.page.Turn.{Turn}
-use Rattle.paging.specs.declared.page.Page.{Page}
-use Rattle.paging.specs.declared.page.Page.TheVariants.{Turned, Refused}
 use Rattle.paging.specs.Lent.{Lent, Room as PairsRoom, read_pairs}
 use Rattle.paging.specs.Search.{Search}
 use Rattle.paging.proofs.Paging.{Calls}
@@ -26,6 +24,7 @@ use Rattle.telling.specs.Limits.{room, page_pairs, most_pairs}
 use Rattle.telling.specs.Steps.{Wrote, PageTold}
 use Rattle.telling.proofs.Puts.{wrote_then, wrote_room}
 use Rattle.telling.proofs.Searching.{search_of, lines_append, pairs_few, looks_few, lines_few, Paging, own_list, own_looks, call_of, calls}
+use Rattle.std.specs.Prelude.{Result, Ok, Err}
 
 module _ (cells : List ℕ) (h : ℕ) (theme : List ℕ) (way : AnyWay) (lent out₀ : List ℕ) where
   abbrev S : Search (StartAs way)
@@ -73,12 +72,12 @@ module _ (cells : List ℕ) (h : ℕ) (theme : List ℕ) (way : AnyWay) (lent ou
     c : Calls S page_pairs (call_of cells h theme way lent p.accepted p.own table)
     c = calls cells h theme way lent p.accepted p.own table p.room.table_long
 
-    module _ {page : Page} {after : Lent} (q : PageTold cells h theme way b lent table buffers page after) where
+    module _ {page : Result Turn Refusal} {after : Lent} (q : PageTold cells h theme way b lent table buffers page after) where
       -- it is never refused
-      pub turn_refused : {r : Refusal} → page ≡ Refused r → ⊥
+      pub turn_refused : {r : Refusal} → page ≡ Err r → ⊥
       turn_refused e = page_accepted c b p.under_way.marked buffers p.room.pairs_room q.pages e
 
-      module _ {t : Turn} (e : page ≡ Turned t) where
+      module _ {t : Turn} (e : page ≡ Ok t) where
         abbrev read : List Pair
         read = read_pairs t.written after
 
@@ -136,9 +135,6 @@ module _ (cells : List ℕ) (h : ℕ) (theme : List ℕ) (way : AnyWay) (lent ou
 
     end_spent : spent ≡ told_looks way (score_of cells h) theme
     end_spent = under_way_paid S p.under_way ∙ own_looks cells h theme way lent p.accepted p.own
-
-    pub end_few : found ≤ most_pairs
-    end_few = omega (arith, end_found, pairs_few cells h theme p.accepted way)
 
     end_lines : hit_lines p.done ++ end_line found spent ≡ lines_of way (score_of cells h) theme
     unfolding lines_of

@@ -1,18 +1,14 @@
 -- Bytes written at a place of the output, one part after the other. Assumes nothing.
 use mathlib.Core.Path.{◌≡◌, refl, sym, ap, ◌∙◌, subst}
-use mathlib.Core.List.{List, [], ◌∷◌, ◌++◌}
-use Prim.Native.Nat.{ℕ, suc, ◌+◌, ◌≤◌, ◌<◌}
+use mathlib.Core.List.{List, [], ◌∷◌, ◌++◌, append_assoc}
+use Prim.Native.Nat.{ℕ, ◌+◌, ◌≤◌, ◌<◌}
 use native.Mathlib.Nat.{add-zero}
-use native.Mathlib.Numerals.{add-one}
 use native.Mathlib.Omega.{arith}
-use lib.ListN.{length, get_or, take, set, length-append}
-use lib.Seq.{sets, take-suc, take_all, length-take-le, length-sets}
-use Rattle.theory.proofs.Lists.{sets_more}
+use lib.ListN.{length, take, drop, length-append}
+use lib.Seq.{sets, sets-eq, drop-drop, length-sets}
+use borrow.Rule.Slice.PartMut.{put_mid}
+use Rattle.theory.proofs.Lists.{sets_append}
 use Rattle.telling.specs.Steps.{Wrote}
-
-sets_append : (l : List ℕ) (i : ℕ) (vs ws : List ℕ) (k : ℕ) → k ≡ i + length vs → sets (sets l i vs) k ws ≡ sets l i (vs ++ ws)
-sets_append l i [] ws k e = let z : k ≡ i = omega arith in ap (λ (n : ℕ). sets l n ws) z
-sets_append l i (v ∷ vs) ws k e = sets_append (set l i v) (suc i) vs ws k (omega arith)
 
 pub wrote_nil : (at : ℕ) (out : List ℕ) → Wrote [] at out at out
 wrote_nil at out = record { place = sym (add-zero at); is = refl }
@@ -26,7 +22,7 @@ module _ {vs : List ℕ} {at : ℕ} {out : List ℕ} {r : ℕ} {out' : List ℕ}
   wrote_then {ws} g =
       record {
         place = omega (arith, f.place, g.place, length-append vs ws);
-        is = g.is ∙ ap (λ (l : List ℕ). sets l r ws) f.is ∙ sets_append out at vs ws r f.place;
+        is = g.is ∙ ap (λ (l : List ℕ). sets l r ws) f.is ∙ sets_append vs out at r ws f.place;
       }
 
   -- there is room for what is to come
@@ -36,35 +32,15 @@ module _ {vs : List ℕ} {at : ℕ} {out : List ℕ} {r : ℕ} {out' : List ℕ}
 pub room_same : (at : ℕ) {vs ws : List ℕ} (out : List ℕ) → vs ≡ ws → at + length vs ≤ length out → at + length ws ≤ length out
 room_same at out e h = subst (λ (l : List ℕ). at + length l ≤ length out) e h
 
--- ---- a word, byte after byte
+-- ---- a word, copied into its place
 
-pub record Putting (word : List ℕ) (from : ℕ) (out₀ out : List ℕ) (i : ℕ) : Type 0 where
-  pub is : out ≡ sets out₀ from (take i word)
-  pub within : i ≤ length word
-
-module _ (word : List ℕ) (from : ℕ) (out₀ : List ℕ) where
-  pub putting_start : Putting word from out₀ out₀ 0
-  putting_start = record { is = refl; within = omega arith }
-
-  module _ {out : List ℕ} {i : ℕ} (p : Putting word from out₀ out i) where
-    pub putting_length : length out ≡ length out₀
-    putting_length = ap length p.is ∙ length-sets out₀ from (take i word)
-
-    pub putting_more : i < length word → Putting word from out₀ (set out (from + i) (get_or word i 0)) (i + 1)
-    putting_more h =
-        let one : take i word ++ (get_or word i 0 ∷ []) ≡ take (i + 1) word = rw add-one (sym (take-suc word i 0 h)) in
-        record {
-          is =
-              ap (λ (l : List ℕ). set l (from + i) (get_or word i 0)) p.is
-              ∙ sets_more out₀ from (take i word) (get_or word i 0) (from + i) (omega (arith, length-take-le i word p.within))
-              ∙ ap (sets out₀ from) one;
-          within = omega arith;
-        }
-
-    pub putting_end : length word ≤ i → Wrote word from out₀ (from + i) out
-    putting_end h =
-        let e : i ≡ length word = omega (arith, p.within) in
-        record { place = omega arith; is = p.is ∙ ap (sets out₀ from) (take_all i word h) }
+pub wrote_word : (word : List ℕ) (from : ℕ) (out : List ℕ) → from + length word ≤ length out → {k : ℕ} → k ≡ length word → {part : List ℕ} → part ≡ word
+    → Wrote word from out (from + length word) (put_mid from k out part)
+wrote_word word from out room {k} e {part} is =
+    record {
+      place = refl;
+      is = rw (is, e, drop-drop (length word) from out) (sym (append_assoc (take from out) word (drop (from + length word) out)) ∙ sym (sets-eq word out from room));
+    }
 
 -- ---- a line of a word, two fields and the line feed
 

@@ -15,8 +15,6 @@ use Rattle.theory.proofs.Lists.{count_length}
 use Rattle.theory.proofs.Looks.{sum_none}
 use Rattle.theory.proofs.Members.{in_hits, in_count}
 use Rattle.score.specs.Limits.{most_tracks, most_columns, table_words}
-use Rattle.preparing.specs.declared.sets.Preparation.{Preparation}
-use Rattle.preparing.specs.declared.sets.Preparation.TheVariants as Preparations
 use Rattle.score.specs.Score.{columns_in, score_of, heard_of, number_of}
 use Rattle.score.proofs.Heard.{number_is}
 use Rattle.score.specs.Sets.{sets as setsOf}
@@ -40,7 +38,6 @@ use Rattle.filter.specs.Limits.{word_bits}
 use Rattle.filter.specs.Table.{theme_table}
 use Rattle.ways.specs.Bookmarks.{first_bookmark}
 use Rattle.asking.specs.Asking.{Accepted, AcceptedSets}
-use Rattle.paging.specs.declared.page.Page.{Page}
 use Rattle.paging.specs.Lent.{Lent}
 use Rattle.paging.specs.Search.{Search, listed, all_looks}
 use Rattle.paging.specs.Page.{Leaf}
@@ -58,6 +55,10 @@ use Rattle.telling.specs.Limits.{room, page_pairs, most_pairs, most_all_looks}
 use Rattle.telling.specs.Steps.{Wrote, Room, told_page, PageTold}
 use Rattle.telling.proofs.Puts.{wrote_nil}
 use Rattle.telling.proofs.Widths.{shift_le, lines_le, end_le}
+use Rattle.std.specs.Prelude.{Result, Ok, Err}
+use Rattle.paging.specs.declared.page.Turn.{Turn}
+use Rattle.score.specs.declared.refusals.Refusal.{Refusal}
+use Rattle.summing.specs.declared.summary.Summary.{Summary}
 
 -- what is sought: the quick search by the theme's table; or the columns at which the tune stands as it is written
 abbrev by_way : (cells : List ℕ) (h : ℕ) (theme : List ℕ) (way : AnyWay) (lent : List ℕ) → Search (StartAs way)
@@ -70,7 +71,7 @@ search_of cells h theme way lent =
     record { columns = length (score_of cells h); range = range_as way; starts = S.starts; hit = S.hit; looks = S.looks; shown = S.shown }
 
 -- a page of it, as the two calls promise it
-module _ {cells : List ℕ} {h : ℕ} {theme : List ℕ} {b : Bookmark} {buffers : Lent} {answer : Page} {after : Lent} where
+module _ {cells : List ℕ} {h : ℕ} {theme : List ℕ} {b : Bookmark} {buffers : Lent} {answer : Result Turn Refusal} {after : Lent} where
   pub quick_told : {way : Way} {sets table table' : List ℕ} → QuickPages cells h theme way b sets table buffers answer table' after
       → PageTold cells h theme (Moved way) b sets table buffers answer after
   quick_told q = record { pages = q.pages }
@@ -80,14 +81,14 @@ module _ {cells : List ℕ} {h : ℕ} {theme : List ℕ} {b : Bookmark} {buffers
 
 -- ---- the sets that are prepared are the score's own
 
-pub prepared_own : (cells : List ℕ) (h : ℕ) (theme : List ℕ) {lent after : List ℕ} {answer : Preparation} → Accepted most_notes cells h theme → length lent ≡ columns_in cells h - 1
+pub prepared_own : (cells : List ℕ) (h : ℕ) (theme : List ℕ) {lent after : List ℕ} {answer : Result Summary Refusal} → Accepted most_notes cells h theme → length lent ≡ columns_in cells h - 1
     → Prepares cells h lent answer after → after ≡ setsOf (score_of cells h)
 prepared_own cells h theme {lent} a l p =
     let c = (accepted_clear most_notes cells h theme).0 a in
     p.fills
     ∙ ap (λ (f : Filled). f.sets)
-    (judge_clear (λ r. record { answer = Preparations.Refused r; sets = lent })
-    (record { answer = Preparations.Prepared (summary_of (setsOf (score_of cells h))); sets = setsOf (score_of cells h) })
+    (judge_clear (λ r. record { answer = Err r; sets = lent })
+    (record { answer = Ok (summary_of (setsOf (score_of cells h))); sets = setsOf (score_of cells h) })
     (prepare_rows cells h lent) (c.0, (c.1.0, (c.1.1.0, ((row6_clear cells h lent).1 l, tt)))))
 
 -- ---- lines of a list in two parts

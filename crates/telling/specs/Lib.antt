@@ -5,3 +5,4 @@ pub mod Lines
 pub mod Telling
 -- contracts of inner functions, which no public call promises
 pub mod Steps
+pub mod Outputs

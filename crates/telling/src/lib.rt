@@ -1,7 +1,7 @@
 // A whole search told as text: its hit lines and its end line.
 //
-// `limits` names the room that is needed, `writing` puts numbers and lines into the output, `pages` searches and writes out each page as it comes, and `calls` has the
-// two calls: a search is told, or an input is refused.
+// `limits` names the room that is needed, `writing` puts numbers and lines into the output, `pages` searches and writes out each
+// page as it comes, and `calls` has the two calls: a search is told, or an input is refused.
 
 #![tactic(auto)]
 
@@ -10,5 +10,5 @@ pub mod limits;
 mod pages;
 mod writing;
 
-pub use calls::{Telling, refuse, tell};
+pub use calls::{TellError, refuse, tell};
 pub use limits::ROOM;

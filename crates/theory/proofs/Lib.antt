@@ -9,6 +9,7 @@ pub mod Members
 pub mod Counts
 pub mod Lowest
 pub mod Scans
+pub mod Chains
 pub mod Pages
 pub mod Looks
 pub mod Readings

@@ -11,7 +11,6 @@ use mathlib.Core.List.{List, [], ◌∷◌, map, Memᴰ as In}
 use Prim.Native.Nat.{ℕ, zero, suc, ◌+◌, ◌≤◌, ◌<◌}
 use native.Mathlib.Nat.{le_refl, le_trans, le-suc, eq-or-lt_of_le, not-suc-le-zero}
 use native.Mathlib.Omega.{arith}
-use lib.Dec.{ltb}
 use lib.ListN.{length}
 use Rattle.theory.specs.Lists.{count, last}
 use Rattle.theory.specs.Pages.{hits, page_hits, Rising}

@@ -1,25 +1,24 @@
 // The library's pages, each on the part of the lent buffers that is asked for, with the answer as plain numbers.
 
-use judging::answers::{Got, Lengths, part, refused, too_short, unasked};
+use jobs::buffers::Rooms;
+use judging::answers::{Denied, Page, first, first_mut};
 use score::Column;
-use search::{AnyWay, Bookmark, Page, Way, plain_page, quick_page};
-use second::asks::Ask;
+use search::{AnyWay, Bookmark, Turn, Way, plain_page, quick_page};
+use second::asks::{Ask, Case, Pair};
 
-fn answer(p: Page) -> Got {
-    match p {
-        Page::Turned(t) => Got {
-            number: 0,
-            place: 0,
-            written: t.written,
-            column: t.next.column.0,
+fn page_of(t: Turn) -> Page {
+    Page {
+        written: t.written,
+        next: Pair {
+            column: usize::from(t.next.column.0),
             shift: t.next.shift,
-            finished: t.finished,
-            looks: t.looks,
         },
-        Page::Refused(r) => refused(r.number, r.place),
+        finished: t.finished,
+        looks: t.looks as usize,
     }
 }
 
+// The same match as `way_in` of `straying`: no crate below both sees the library's ways and the second finder's.
 fn way_of(way: second::ways::Way) -> AnyWay {
     match way {
         second::ways::Way::Exact => AnyWay::Moved(Way::Exact),
@@ -28,100 +27,44 @@ fn way_of(way: second::ways::Way) -> AnyWay {
     }
 }
 
-fn bookmark_of(column: u16, shift: i16) -> Bookmark {
+fn bookmark_of(a: Ask) -> Bookmark {
     Bookmark {
-        column: Column(column),
-        shift,
+        column: Column(a.column),
+        shift: a.shift,
     }
 }
 
-pub fn ask_plain(
-    cells: &[u8],
-    theme: &[u8],
-    columns: &mut [u16],
-    shifts: &mut [i16],
-    a: Ask,
-) -> Got {
-    let way = a.way;
-    let many = part(a.cells, cells.len());
-    let m = part(a.notes, theme.len());
-    let r = part(a.columns, columns.len());
-    let s = part(a.shifts, shifts.len());
-    let lent = Lengths {
-        cells: many,
-        theme: m,
-        sets: a.sets,
-        table: a.table,
-        columns: r,
-        shifts: s,
-    };
-    if too_short(lent, a) {
-        return unasked();
-    }
-    answer(plain_page(
-        &cells[..many],
-        a.h,
-        &theme[..m],
-        way_of(way),
-        bookmark_of(a.column, a.shift),
-        &mut columns[..r],
-        &mut shifts[..s],
-    ))
-}
-
-fn ask_moved(
-    cells: &[u8],
-    theme: &[u8],
-    sets: &[u16],
-    table: &mut [u32],
-    columns: &mut [u16],
-    shifts: &mut [i16],
-    a: Ask,
-    way: Way,
-) -> Got {
-    let many = part(a.cells, cells.len());
-    let m = part(a.notes, theme.len());
-    let last = part(a.sets, sets.len());
-    let words = part(a.table, table.len());
-    let r = part(a.columns, columns.len());
-    let s = part(a.shifts, shifts.len());
-    let lent = Lengths {
-        cells: many,
-        theme: m,
-        sets: last,
-        table: words,
-        columns: r,
-        shifts: s,
-    };
-    if too_short(lent, a) {
-        return unasked();
-    }
-    answer(quick_page(
-        &cells[..many],
-        a.h,
-        &theme[..m],
-        way,
-        bookmark_of(a.column, a.shift),
-        &sets[..last],
-        &mut table[..words],
-        &mut columns[..r],
-        &mut shifts[..s],
-    ))
+pub fn ask_plain(case: Case<'_>, rooms: &mut Rooms, a: Ask) -> Result<Page, Denied> {
+    let cells = first(case.cells, a.cells)?;
+    let theme = first(case.theme, a.notes)?;
+    let columns = first_mut(&mut rooms.columns, a.columns)?;
+    let shifts = first_mut(&mut rooms.shifts, a.shifts)?;
+    let way = way_of(a.way);
+    let turn = plain_page(cells, a.h, theme, way, bookmark_of(a), columns, shifts)?;
+    Ok(page_of(turn))
 }
 
 // A quick page, which only the ways that move a theme have.
-pub fn ask_quick(
-    cells: &[u8],
-    theme: &[u8],
-    sets: &[u16],
-    table: &mut [u32],
-    columns: &mut [u16],
-    shifts: &mut [i16],
-    a: Ask,
-) -> Got {
-    let asked = a.way;
-    match way_of(asked) {
-        AnyWay::Moved(way) => ask_moved(cells, theme, sets, table, columns, shifts, a, way),
-        AnyWay::Written => unasked(),
-    }
+pub fn ask_quick(case: Case<'_>, rooms: &mut Rooms, a: Ask) -> Result<Page, Denied> {
+    let AnyWay::Moved(way) = way_of(a.way) else {
+        return Err(Denied::Unasked);
+    };
+    let cells = first(case.cells, a.cells)?;
+    let theme = first(case.theme, a.notes)?;
+    let sets = first(case.sets, a.sets)?;
+    let table = first_mut(&mut rooms.table, a.table)?;
+    let columns = first_mut(&mut rooms.columns, a.columns)?;
+    let shifts = first_mut(&mut rooms.shifts, a.shifts)?;
+    let turn = quick_page(
+        cells,
+        a.h,
+        theme,
+        way,
+        bookmark_of(a),
+        sets,
+        table,
+        columns,
+        shifts,
+    )?;
+    Ok(page_of(turn))
 }

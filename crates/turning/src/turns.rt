@@ -1,100 +1,99 @@
 // A call of the library beside the second finder: what is lent is marked, the call is made, and what it did is compared.
 
+ghost use Rattle.std.specs.Prelude.{◌≡◌};
+
 use crate::calls::{ask_plain, ask_quick};
-use jobs::buffers::{Columns, Sets, Shifts, Table};
-use judging::answers::ask_prepare;
-use judging::compare::{Seen, beside_fault, differs, page_fault, quick_fault, sets_fault};
-use judging::marks::{mark_sets, mark_shifts, mark_words};
-use second::asks::{Ask, Call};
+use jobs::buffers::{Buffers, Rooms};
+use judging::answers::{Denied, Page, ask_prepare};
+use judging::compare::{
+    Fault, Left, Made, Seen, both_right, plain_right, prepared_right, quick_right,
+};
+use judging::marks::put_marks;
+use second::asks::{Ask, Call, Case};
 use second::totals::more;
 
-fn mark_page(columns: &mut Columns, shifts: &mut Shifts, a: Ask) {
-    mark_sets(columns, more(a.columns, 1));
-    mark_shifts(shifts, more(a.shifts, 1));
-}
-
-pub fn turn_plain(
-    cells: &[u8],
-    theme: &[u8],
-    sets: &[u16],
-    columns: &mut Columns,
-    shifts: &mut Shifts,
-    a: Ask,
-) -> Seen {
-    mark_page(columns, shifts, a);
-    let got = ask_plain(cells, theme, columns, shifts, a);
-    let fault = page_fault(cells, theme, sets, columns, shifts, a, Call::Plain, got);
-    Seen {
-        call: Call::Plain,
-        fault,
-        got,
+// The buffers as a call left them.
+pub fn left_in(rooms: &Rooms) -> Left<'_>
+    ensures table { result.table.now ≡ rooms.now.table }
+    ensures columns { result.columns.now ≡ rooms.now.columns }
+    ensures shifts { result.shifts.now ≡ rooms.now.shifts }
+{
+    Left {
+        table: &rooms.table,
+        columns: &rooms.columns,
+        shifts: &rooms.shifts,
     }
 }
 
-// Deep: the whole table is marked before the call, and looked at afterwards.
-pub fn turn_quick(
-    cells: &[u8],
-    theme: &[u8],
-    sets: &[u16],
-    table: &mut Table,
-    columns: &mut Columns,
-    shifts: &mut Shifts,
+fn mark_page(rooms: &mut Rooms, a: Ask) {
+    put_marks(&mut rooms.columns, 0, more(a.columns, 1));
+    put_marks(&mut rooms.shifts, 0, more(a.shifts, 1));
+}
+
+// What was seen of a page.
+fn page_seen(call: Call, got: Result<Page, Denied>, verdict: Result<(), Fault>) -> Seen {
+    Seen {
+        call,
+        got: got.map(|page| Made::Page(page)),
+        verdict,
+    }
+}
+
+// A plain page and what differs of it.
+fn plain(case: Case<'_>, rooms: &mut Rooms, a: Ask) -> (Result<Page, Denied>, Result<(), Fault>) {
+    mark_page(rooms, a);
+    let got = ask_plain(case, rooms, a);
+    let verdict = plain_right(case, left_in(rooms), a, Call::Plain, got);
+    (got, verdict)
+}
+
+// A quick one. Deep: the whole table is marked before the call, and looked at afterwards.
+fn quick(
+    case: Case<'_>,
+    rooms: &mut Rooms,
     a: Ask,
     deep: bool,
-) -> Seen {
-    mark_page(columns, shifts, a);
-    mark_words(table, marked_from(a, deep), more(a.table, 1));
-    let got = ask_quick(cells, theme, sets, table, columns, shifts, a);
-    let fault = quick_fault(cells, theme, sets, table, columns, shifts, a, deep, got);
-    Seen {
-        call: Call::Quick,
-        fault,
-        got,
-    }
+) -> (Result<Page, Denied>, Result<(), Fault>) {
+    mark_page(rooms, a);
+    let from = if deep { 0 } else { a.table };
+    put_marks(&mut rooms.table, from, more(a.table, 1));
+    let got = ask_quick(case, rooms, a);
+    let verdict = quick_right(case, left_in(rooms), a, deep, got);
+    (got, verdict)
 }
 
-fn marked_from(a: Ask, deep: bool) -> usize {
-    if deep { 0 } else { a.table }
+pub fn turn_plain(case: Case<'_>, rooms: &mut Rooms, a: Ask) -> Seen {
+    let (got, verdict) = plain(case, rooms, a);
+    page_seen(Call::Plain, got, verdict)
 }
 
-pub fn turn_prepare(cells: &[u8], theme: &[u8], sets: &mut Sets, a: Ask) -> Seen {
-    mark_sets(sets, more(a.sets, 1));
-    let got = ask_prepare(cells, sets, a);
-    let fault = sets_fault(cells, theme, sets, a, got);
-    Seen {
-        call: Call::Prepare,
-        fault,
-        got,
-    }
+pub fn turn_quick(case: Case<'_>, rooms: &mut Rooms, a: Ask, deep: bool) -> Seen {
+    let (got, verdict) = quick(case, rooms, a, deep);
+    page_seen(Call::Quick, got, verdict)
 }
 
 // A plain page and a quick one by the score's own sets, each beside the second finder's and beside one another.
-pub fn turn_both(
-    cells: &[u8],
-    theme: &[u8],
-    sets: &[u16],
-    table: &mut Table,
-    columns: &mut Columns,
-    shifts: &mut Shifts,
-    a: Ask,
-    deep: bool,
-) -> Seen {
-    let p = turn_plain(cells, theme, sets, columns, shifts, a);
-    let fault_of_plain = p.fault;
-    if differs(fault_of_plain) {
-        return p;
+pub fn turn_both(case: Case<'_>, rooms: &mut Rooms, a: Ask, deep: bool) -> Seen {
+    let (p, plain_verdict) = plain(case, rooms, a);
+    if plain_verdict.is_err() {
+        return page_seen(Call::Plain, p, plain_verdict);
     }
-    let q = turn_quick(cells, theme, sets, table, columns, shifts, a, deep);
-    let fault_of_quick = q.fault;
-    if differs(fault_of_quick) {
-        return q;
+    let (q, quick_verdict) = quick(case, rooms, a, deep);
+    if quick_verdict.is_err() {
+        return page_seen(Call::Quick, q, quick_verdict);
     }
-    let plain = p.got;
-    let got = q.got;
-    let fault = beside_fault(plain, got);
+    page_seen(Call::Both, q, both_right(p, q))
+}
+
+// The score of a case, prepared into its sets. That of `changing` judges the summary too, and its callers note what
+// updates and questions do.
+pub fn turn_prepare(buffers: &mut Buffers, a: Ask) -> Seen {
+    put_marks(&mut buffers.sets, 0, more(a.sets, 1));
+    let prepared = ask_prepare(&buffers.cells, &mut buffers.sets, a);
+    let verdict = prepared_right(&buffers.cells, &buffers.sets, a, prepared.err());
     Seen {
-        call: Call::Both,
-        fault,
-        got,
+        call: Call::Prepare,
+        got: prepared.map(|_| Made::Sets),
+        verdict,
     }
 }

@@ -3,10 +3,11 @@
 use mathlib.Core.Path.{◌≡◌, refl, sym, ap, ap₂, ◌∙◌}
 use mathlib.Core.Bool.{Bool, true, false, cond, ◌&&◌, ◌||◌}
 use mathlib.Core.List.{List, [], map}
-use Prim.Native.Nat.{ℕ, ◌+◌, ◌-◌, ◌*◌, ◌≤◌, ◌<◌}
+use Prim.Native.Nat.{ℕ, ◌+◌, ◌-◌, ◌≤◌, ◌<◌}
 use native.Mathlib.Omega.{arith}
 use lib.Dec.{ltb, eqb}
-use lib.ListN.{length, get_or, take, drop, set, length-set, get_or-eq_default}
+use borrow.Author.Tests.{lt-ltb, le-ltb}
+use lib.ListN.{length, get_or, drop, set, length-set, get_or-eq_default}
 use lib.Seq.{ext_get_or, get_or-set_same, get_or-set_other}
 use borrow.Author.Tests.{eqb-true, eqb-false, lt-ltb, ltb-true}
 use Rattle.theory.specs.Lists.{count, first}
@@ -19,7 +20,7 @@ use Rattle.score.specs.Sets.{sets, interval_set, next_heard}
 use Rattle.score.proofs.Columns.{cut_length}
 use Rattle.score.proofs.IntervalSets.{sets_at, set_alone}
 use Rattle.updating.specs.Updating.{heard_before, rests_on, updated_sets, rewritten}
-use Rattle.updating.proofs.Neighbours.{next_is, column_cells}
+use Rattle.updating.proofs.Neighbours.{next_is}
 
 -- ---- the set of column k, by the number of the next with a pitch
 
@@ -42,13 +43,9 @@ module _ (cells : List ℕ) (h n k : ℕ) (low : 1 ≤ k) (high : k < n) {next :
       sym (set_here ∙ ap (interval_set (get_or score (k - 1) [])) (get_or-eq_default score [] past) ∙ set_alone (get_or score (k - 1) []) [] refl)
 
   -- it is made of the cells of both
-  pub set_follows : {r : ℕ} → next ≤ n
-      → r ≡ interval_set (take (k * h - (k * h - h)) (drop (k * h - h) cells)) (take (next * h - (next * h - h)) (drop (next * h - h) cells))
+  pub set_follows : {own later : List ℕ} {r : ℕ} → own ≡ get_or score (k - 1) [] → later ≡ get_or score (next - 1) [] → r ≡ interval_set own later
       → r ≡ get_or (sets score) (k - 1) 0
-  set_follows l g =
-      g
-      ∙ ap₂ interval_set (column_cells cells h n k low (omega arith)) (column_cells cells h n next (omega (arith, e)) l)
-      ∙ sym set_here
+  set_follows e f g = g ∙ ap₂ interval_set e f ∙ sym set_here
 
 -- ---- one set made anew, or none
 
@@ -57,12 +54,16 @@ pub inside : (k n : ℕ) → (ltb 0 k && ltb k n) ≡ true → (1 ≤ k) × (k <
 inside k n e = (ltb-true 0 k (both_left (ltb 0 k) (ltb k n) e), ltb-true k n (both_right (ltb 0 k) (ltb k n) e))
 
 module _ (cells : List ℕ) (h n k : ℕ) (lent : List ℕ) where
-  pub rewritten_one : {v : ℕ} → (ltb 0 k && ltb k n) ≡ true → v ≡ get_or (sets (cut n h cells)) (k - 1) 0
+  pub rewritten_one : {v : ℕ} → 0 < k → k < n → v ≡ get_or (sets (cut n h cells)) (k - 1) 0
       → set lent (k - 1) v ≡ rewritten (cut n h cells) (column_at k) lent
-  rewritten_one t e = ap (set lent (k - 1)) e ∙ rw (cut_length n h cells, t)
+  rewritten_one l m e = ap (set lent (k - 1)) e ∙ rw (cut_length n h cells, lt-ltb 0 k l, lt-ltb k n m)
 
-  pub rewritten_none : (ltb 0 k && ltb k n) ≡ false → lent ≡ rewritten (cut n h cells) (column_at k) lent
-  rewritten_none t = rw (cut_length n h cells, t)
+  -- there is no set of column 0, nor of the last
+  pub rewritten_before : k ≤ 0 → lent ≡ rewritten (cut n h cells) (column_at k) lent
+  rewritten_before l = rw (cut_length n h cells, le-ltb 0 k l)
+
+  pub rewritten_last : 0 < k → n ≤ k → lent ≡ rewritten (cut n h cells) (column_at k) lent
+  rewritten_last l m = rw (cut_length n h cells, lt-ltb 0 k l, le-ltb k n m)
 
 -- ---- set by set
 

@@ -11,10 +11,9 @@ use native.Mathlib.Omega.{arith}
 use lib.Dec.{eqb, ltb}
 use lib.ListN.{length}
 use borrow.Author.Tests.{eqb-false, ltb-false}
+use Rattle.score.specs.declared.refusals.Rule.{Rule}
 use Rattle.score.specs.declared.quantities.Column.{Column}
 use Rattle.score.specs.declared.refusals.Refusal.{Refusal}
-use Rattle.score.specs.declared.refusals.Verdict.{Verdict}
-use Rattle.score.specs.declared.refusals.Verdict.TheVariants.{Accepted as Passed, Refused as Away}
 use Rattle.score.specs.Score.{columns_in, score_of}
 use Rattle.score.specs.Refusals.{Row, verdict, row1, row2, row3, row6, row7, GivenBy, place_by}
 use Rattle.score.proofs.Columns.{columns_whole}
@@ -23,16 +22,15 @@ use Rattle.score.proofs.Judged.{Clear, clear_split, judge_either, judge_clear, j
 use Rattle.score.proofs.Sound.{score_sound, sets_sound}
 use Rattle.summing.specs.declared.summary.Summary.{Summary}
 use Rattle.summing.specs.Summary.{summary_of}
-use Rattle.updating.specs.declared.changes.Change.{Change}
-use Rattle.updating.specs.declared.changes.Change.TheVariants.{Updated, Refused}
 use Rattle.updating.specs.Updating.{row19, update_rows, updated_sets, Renewed, renewed, Updates}
+use Rattle.std.specs.Prelude.{Result, Ok, Err}
 
 -- an accepted answer is no refusal
-abbrev is_updated : Change → Bool
-is_updated (Updated s) = true
-is_updated (Refused r) = false
+abbrev is_updated : Result Summary Refusal → Bool
+is_updated (Ok s) = true
+is_updated (Err r) = false
 
-updated_refused : {s : Summary} {r : Refusal} → Updated s ≡ Refused r → ⊥
+updated_refused : {s : Summary} {r : Refusal} → Ok s ≡ Err r → ⊥
 updated_refused e = true≢false (ap is_updated e)
 
 none_or : (a b : Bool) → (a || b) ≡ false → (a ≡ false) × (b ≡ false)
@@ -55,30 +53,30 @@ module _ (cells : List ℕ) (h : ℕ) (c : Column) (lent : List ℕ) where
   after = updated_sets (score_of cells h) c lent
 
   abbrev refuse : Refusal → Renewed
-  refuse r = record { answer = Refused r; sets = lent }
+  refuse r = record { answer = Err r; sets = lent }
 
   abbrev full : Renewed
-  full = record { answer = Updated (summary_of after); sets = after }
+  full = record { answer = Ok (summary_of after); sets = after }
 
-  pub update_accepted : ((s : Summary) × ((renewed cells h c lent).answer ≡ Updated s)) ↔ Clear rows
+  pub update_accepted : ((s : Summary) × ((renewed cells h c lent).answer ≡ Ok s)) ↔ Clear rows
   update_accepted = (
-    λ e. judge_clear_of refuse full (λ (x : Renewed). x.answer ≡ Updated e.0) (λ r k. updated_refused (sym k)) rows e.1,
+    λ e. judge_clear_of refuse full (λ (x : Renewed). x.answer ≡ Ok e.0) (λ r k. updated_refused (sym k)) rows e.1,
     λ k. (summary_of after, ap (λ (x : Renewed). x.answer) (judge_clear refuse full rows k)),
   )
 
-  pub update_refused : (k p : ℕ) → ((renewed cells h c lent).answer ≡ Refused (record { number = k; place = p }))
+  pub update_refused : (k : Rule) (p : ℕ) → ((renewed cells h c lent).answer ≡ Err (record { rule = k; place = p }))
       ↔ (GivenBy rows k × (p ≡ place_by rows k))
   update_refused k p =
-      answer_refused (λ (x : Renewed). x.answer) Refused (λ r s e. cc) refuse full (λ r. refl) (λ r e. updated_refused e) rows refl k p
+      answer_refused (λ (x : Renewed). x.answer) Err (λ r s e. cc) refuse full (λ r. refl) (λ r e. updated_refused e) rows refl k p
 
   -- a refused call writes nothing; an accepted one leaves the updated sets, and answers their summary
-  pub update_kept : (r : Refusal) → (renewed cells h c lent).answer ≡ Refused r → (renewed cells h c lent).sets ≡ lent
+  pub update_kept : (r : Refusal) → (renewed cells h c lent).answer ≡ Err r → (renewed cells h c lent).sets ≡ lent
   update_kept r =
-      judge_either refuse full (λ (x : Renewed). x.answer ≡ Refused r → x.sets ≡ lent) (λ s e. refl) (λ e. absurd (updated_refused e)) rows
+      judge_either refuse full (λ (x : Renewed). x.answer ≡ Err r → x.sets ≡ lent) (λ s e. refl) (λ e. absurd (updated_refused e)) rows
 
-  pub update_leaves : {s : Summary} → (renewed cells h c lent).answer ≡ Updated s → ((renewed cells h c lent).sets ≡ after) × (s ≡ summary_of after)
+  pub update_leaves : {s : Summary} → (renewed cells h c lent).answer ≡ Ok s → ((renewed cells h c lent).sets ≡ after) × (s ≡ summary_of after)
   update_leaves {s} =
-      judge_either refuse full (λ (x : Renewed). x.answer ≡ Updated s → (x.sets ≡ after) × (s ≡ summary_of after))
+      judge_either refuse full (λ (x : Renewed). x.answer ≡ Ok s → (x.sets ≡ after) × (s ≡ summary_of after))
       (λ r e. absurd (updated_refused (sym e))) (λ e. (refl, cc)) rows
 
   -- ---- from the checks to the verdict
@@ -92,31 +90,31 @@ module _ (cells : List ℕ) (h : ℕ) (c : Column) (lent : List ℕ) where
   abbrev column_row : Row
   column_row = row19 (columns_in cells h) c
 
-  module _ {v : Verdict} (checked : v ≡ verdict score_rows) where
-    pub score_away : {e : Refusal} → v ≡ Away e → Away e ≡ verdict rows
+  module _ {v : Result (Unit {0}) Refusal} (checked : v ≡ verdict score_rows) where
+    pub score_away : {e : Refusal} → v ≡ Err e → Err e ≡ verdict rows
     score_away k = turned_away score_rows (sets_rows ++ column_row ∷ []) checked k
 
-    module _ (passed : v ≡ Passed) {w : Verdict} (lent-checked : w ≡ verdict sets_rows) where
-      pub sets_away : {e : Refusal} → w ≡ Away e → Away e ≡ verdict rows
+    module _ (passed : v ≡ Ok tt) {w : Result (Unit {0}) Refusal} (lent-checked : w ≡ verdict sets_rows) where
+      pub sets_away : {e : Refusal} → w ≡ Err e → Err e ≡ verdict rows
       sets_away k = gone_on score_rows (sets_rows ++ column_row ∷ []) checked passed (turned_away sets_rows (column_row ∷ []) lent-checked k)
 
-      module _ (lent-passed : w ≡ Passed) where
-        on : {x : Verdict} → x ≡ verdict (column_row ∷ []) → x ≡ verdict rows
+      module _ (lent-passed : w ≡ Ok tt) where
+        on : {x : Result (Unit {0}) Refusal} → x ≡ verdict (column_row ∷ []) → x ≡ verdict rows
         on e = gone_on score_rows (sets_rows ++ column_row ∷ []) checked passed (gone_on sets_rows (column_row ∷ []) lent-checked lent-passed e)
 
-        pub column_away : column_row.applies ≡ true → Away column_row.given ≡ verdict rows
+        pub column_away : column_row.applies ≡ true → Err column_row.given ≡ verdict rows
         column_away k = on (rw k)
 
-        pub column_passed : column_row.applies ≡ false → Passed ≡ verdict rows
+        pub column_passed : column_row.applies ≡ false → (Ok tt) ≡ verdict rows
         column_passed k = on (rw k)
 
   -- ---- from the verdict to what the call promises
 
-  settled : {x : Renewed} {answer : Change} {sets : List ℕ} → renewed cells h c lent ≡ x → answer ≡ x.answer → sets ≡ x.sets
+  settled : {x : Renewed} {answer : Result Summary Refusal} {sets : List ℕ} → renewed cells h c lent ≡ x → answer ≡ x.answer → sets ≡ x.sets
       → Updates cells h c lent answer sets
   settled e a s = record { answers = a ∙ sym (ap (λ (x : Renewed). x.answer) e); writes = s ∙ sym (ap (λ (x : Renewed). x.sets) e) }
 
-  pub updates_away : {r : Refusal} → verdict rows ≡ Away r → Updates cells h c lent (Refused r) lent
+  pub updates_away : {r : Refusal} → verdict rows ≡ Err r → Updates cells h c lent (Err r) lent
   updates_away e = settled (judge_away refuse full rows e) refl refl
 
   -- what is known where no row applies
@@ -124,8 +122,8 @@ module _ (cells : List ℕ) (h : ℕ) (c : Column) (lent : List ℕ) where
   clear_renewable clear =
       let first = clear_split score_rows (sets_rows ++ column_row ∷ []) clear in
       let second = clear_split sets_rows (column_row ∷ []) first.1 in
-      let score = score_sound cells h (judge_clear Away Passed score_rows first.0) in
-      let sets = sets_sound cells h lent (judge_clear Away Passed sets_rows second.0) in
+      let score = score_sound cells h (judge_clear Err (Ok tt) score_rows first.0) in
+      let sets = sets_sound cells h lent (judge_clear Err (Ok tt) sets_rows second.0) in
       let column = none_or (eqb c.0 0) (ltb (columns_in cells h) c.0) second.1.0 in
       record {
         long = omega (arith, sets.long, score.columns);
@@ -135,16 +133,16 @@ module _ (cells : List ℕ) (h : ℕ) (c : Column) (lent : List ℕ) where
         to_last = ltb-false (columns_in cells h) c.0 column.1;
       }
 
-  module _ (e : verdict rows ≡ Passed) where
+  module _ (e : verdict rows ≡ Ok tt) where
     clear : Clear rows
     clear = verdict_clear rows e
 
-    pub updates_done : {sets : List ℕ} {s : Summary} → sets ≡ after → s ≡ summary_of sets → Updates cells h c lent (Updated s) sets
-    updates_done q m = settled (judge_clear refuse full rows clear) (ap Updated (m ∙ ap summary_of q)) q
+    pub updates_done : {sets : List ℕ} {s : Summary} → sets ≡ after → s ≡ summary_of sets → Updates cells h c lent (Ok s) sets
+    updates_done q m = settled (judge_clear refuse full rows clear) (ap Ok (m ∙ ap summary_of q)) q
 
     pub renewable : Renewable cells h c lent
     renewable = clear_renewable clear
 
   -- one answer, and one content of the sets
-  pub updates_unique : {a b : Change} {s t : List ℕ} → Updates cells h c lent a s → Updates cells h c lent b t → (a ≡ b) × (s ≡ t)
+  pub updates_unique : {a b : Result Summary Refusal} {s t : List ℕ} → Updates cells h c lent a s → Updates cells h c lent b t → (a ≡ b) × (s ≡ t)
   updates_unique p q = (p.answers ∙ sym q.answers, p.writes ∙ sym q.writes)

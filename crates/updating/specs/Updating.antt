@@ -1,15 +1,16 @@
 -- The update after one column of a score was changed: the whole answer, and what the lent sets hold afterwards. Refusals 1, 2,
 -- 3, 6, 7 and 19, in this order; a refused update writes nothing. The definition that matters is `updated_sets`; `OneChanged`
 -- says that two scores differ in one column only. Assumes nothing.
-use Rattle.std.specs.Prelude.{◌≡◌, Bool, cond, ◌&&◌, ◌||◌, List, [], ◌∷◌, map, ℕ, ◌-◌, ◌≤◌, ltb, eqb, length, get_or, take, set}
+use Rattle.std.specs.Prelude.{◌≡◌, Bool, cond, ◌&&◌, ◌||◌, List, [], ◌∷◌, map, ℕ, ◌-◌, ◌≤◌, ltb, eqb, length, get_or, take, set, Result, Ok, Err}
 use Rattle.theory.specs.Lists.{count, last}
+use Rattle.score.specs.declared.refusals.Rule.TheVariants as rule
 use Rattle.score.specs.declared.quantities.Column.{Column}
 use Rattle.score.specs.Score.{column_at, column, columns_in, score_of, heard_from}
 use Rattle.score.specs.Sets.{sets}
 use Rattle.score.specs.Refusals.{Row, row, judge, row1, row2, row3, row6, row7}
 use Rattle.summing.specs.Summary.{summary_of}
-use Rattle.updating.specs.declared.changes.Change.{Change}
-use Rattle.updating.specs.declared.changes.Change.TheVariants.{Updated, Refused}
+use Rattle.score.specs.declared.refusals.Refusal.{Refusal}
+use Rattle.summing.specs.declared.summary.Summary.{Summary}
 
 -- the number of the nearest column with a pitch before column c; 0 where there is none
 abbrev pub heard_before : (score : List (List ℕ)) → Column → ℕ
@@ -28,7 +29,7 @@ updated_sets score c lent =
 
 -- 19: the changed column is 0, or above n
 abbrev pub row19 : (n : ℕ) → Column → Row
-row19 n c = row 19 (eqb c.0 0 || ltb n c.0) 0
+row19 n c = row rule.Column (eqb c.0 0 || ltb n c.0) 0
 
 -- 1, 2, 3, 6, 7, 19, in this order
 abbrev pub update_rows : (cells : List ℕ) (h : ℕ) → Column → (lent : List ℕ) → List Row
@@ -38,17 +39,17 @@ update_rows cells h c lent = row1 h ∷ row2 cells h ∷ row3 cells ∷ row6 cel
 
 -- the answer, and the lent sets after the call
 pub record Renewed : Type 0 where
-  pub answer : Change
+  pub answer : Result Summary Refusal
   pub sets : List ℕ
 
 abbrev pub renewed : (cells : List ℕ) (h : ℕ) → Column → (lent : List ℕ) → Renewed
 renewed cells h c lent =
     let after = updated_sets (score_of cells h) c lent in
     judge (update_rows cells h c lent)
-    (λ r. record { answer = Refused r; sets = lent })
-    (record { answer = Updated (summary_of after); sets = after })
+    (λ r. record { answer = Err r; sets = lent })
+    (record { answer = Ok (summary_of after); sets = after })
 
-pub record Updates (cells : List ℕ) (h : ℕ) (c : Column) (lent : List ℕ) (answer : Change) (after : List ℕ) : Type 0 where
+pub record Updates (cells : List ℕ) (h : ℕ) (c : Column) (lent : List ℕ) (answer : Result Summary Refusal) (after : List ℕ) : Type 0 where
   pub answers : answer ≡ (renewed cells h c lent).answer
   pub writes : after ≡ (renewed cells h c lent).sets
 

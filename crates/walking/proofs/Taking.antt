@@ -2,15 +2,12 @@
 -- starts `rest` are left. Laws: start; few (the looks of a part are among those of the whole); part (a part of the rest is tried); over.
 -- What is tried from the first place on is a walk. Assumes nothing.
 use mathlib.Core.Path.{◌≡◌, refl, sym, ap, ◌∙◌}
-use mathlib.Core.Bool.{Bool, true, false, ◌&&◌}
 use mathlib.Core.List.{List, [], ◌++◌, map-append}
 use Prim.Native.Nat.{ℕ, ◌+◌, ◌-◌, ◌≤◌}
 use native.Mathlib.Omega.{arith}
-use lib.Dec.{ltb}
 use lib.IntN.{ℤ, pos}
 use lib.ListN.{length, length-append, length-map}
 use lib.Seq.{sets, length-sets}
-use borrow.Author.Tests.{ltb-false}
 use Rattle.theory.specs.Pages.{page_hits, page_looks}
 use Rattle.theory.proofs.Lists.{sets_append, over_sets}
 use Rattle.theory.proofs.Going.{Going, Made, page_le, looks_append, going_start, going_part, going_full, going_end}
@@ -90,11 +87,6 @@ module _ (way : Way) (score : List (List ℕ)) (theme : List ℕ) (whole : List 
       take_full h =
           let z : length columns₀ - at ≡ 0 = omega (arith, t.long) in
           done (going_full _ _ _ _ (rw z at t.going))
-
-      pub take_over : (more : Bool) → (more ≡ false → rest ≡ []) → (more && ltb at (length columns)) ≡ false
-          → Tries way score theme whole found columns₀ shifts₀ at spent columns shifts
-      take_over false none stop = take_end (none refl)
-      take_over true none stop = take_full (ltb-false at (length columns) stop)
 
 -- what is tried from the first place on is a walk
 pub tries_walks : (way : Way) (score : List (List ℕ)) (theme : List ℕ) (whole : List Place) (columns : List ℕ) (shifts : List ℤ) (found spent : ℕ)

@@ -4,7 +4,7 @@ use Rattle.std.specs.Prelude.{◌≡◌, Bool, cond, List, [], ◌∷◌, ℕ, �
 use Rattle.theory.specs.Lists.{count, over}
 use Rattle.theory.specs.Pages.{hits}
 use Rattle.theory.specs.Register.{reg_from}
-use Rattle.score.specs.Limits.{most_columns, table_words}
+use Rattle.score.specs.Limits.{most_columns}
 use Rattle.filter.specs.Limits.{word_bits}
 use Rattle.walking.specs.Candidates.{candidate}
 
@@ -25,17 +25,15 @@ pub record Filters (table sets : List ℕ) (m register j : ℕ) : Type 0 where
   pub before : start < j
   pub runs : Runs table sets start register (j + m - 3)
 
--- what deciding the columns from column j up to column `end`, without that one, asks for: there is one, the sets are accepted and have an
--- entry for each, and the table is as long as it must be
-pub record Lent (sets table : List ℕ) (m j end : ℕ) : Type 0 where
+-- what deciding the columns from column j up to column `end`, without that one, asks for: there is one, and the sets have an entry for each.
+-- That the sets are accepted and the table is as long as it must be, `Entries` says of itself
+pub record Lent (sets : List ℕ) (m j end : ℕ) : Type 0 where
   pub notes : 2 ≤ m
   pub notes_most : m ≤ word_bits
   pub from_first : 1 ≤ j
   pub some : j < end
   pub to_last : end + m ≤ length sets + 3
   pub sets_few : length sets < most_columns
-  pub sets_small : (k : ℕ) → get_or sets k 0 < table_words
-  pub table_long : length table ≡ table_words
 
 -- the columns from column j up to column j', without that one, are decided: these are the candidates among them
 pub record Decides (table sets : List ℕ) (m j end : ℕ) (register' j' : ℕ) (candidates : List ℕ) : Type 0 where

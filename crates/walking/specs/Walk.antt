@@ -2,7 +2,7 @@
 -- trying a column writes, what a whole walk writes. No public call promises any of this by itself. Assumes nothing.
 use Rattle.std.specs.Prelude.{◌≡◌, Bool, cond, List, [], ◌∷◌, ◌++◌, map, ℕ, ◌+◌, ◌-◌, ◌*◌, ◌^◌, ◌≤◌, ◌<◌, eqb, ℤ, length, get_or}
 use Rattle.std.proofs.lemmas.List.Edits.{sets as stored}
-use Rattle.theory.specs.Lists.{over, count as numbers}
+use Rattle.theory.specs.Lists.{over}
 use Rattle.theory.specs.Pages.{page_hits, page_looks, from}
 use Rattle.score.specs.declared.quantities.Column.{Column}
 use Rattle.score.specs.Score.{column_at, column, columns_in, score_of}
@@ -68,10 +68,6 @@ at_column spot k found = record { column = k; code = cond (eqb spot.column.0 k.0
 abbrev pub list_starts : Way → (score : List (List ℕ)) (theme : List ℕ) (j x : ℕ) (list : List ℕ) → List Place
 list_starts way score theme j x [] = []
 list_starts way score theme j x (k ∷ list) = column_starts way score theme k (cond (eqb j k) x 0) ++ list_starts way score theme j x list
-
--- as many columns as are counted, from column j on, are listed in front
-pub record ListsEvery (j many : ℕ) (list list' : List ℕ) : Type 0 where
-  pub listed : list' ≡ over list (numbers j many)
 
 -- ---- what trying starts leaves in the buffers
 

@@ -6,15 +6,8 @@ use crate::walk::{walk_candidates, walk_every};
 use crate::walked::Walked;
 use asking::{check_plain, check_quick};
 use filter::fill_table;
-use score::{Refusal, Verdict};
+use score::Refusal;
 use ways::{AnyWay, Bookmark, Way};
-
-// What a walk comes to: how far it came, or why it is turned away.
-#[derive(Clone, Copy)]
-pub enum Walk {
-    Done(Walked),
-    Refused(Refusal),
-}
 
 // Walks from the bookmark on along every start and writes the hits from the front, until there is no room or no start left;
 // places behind them keep their contents. Refuses 1 to 5, 9 and 10, and then writes nothing.
@@ -26,11 +19,11 @@ pub fn walk_plain(
     bookmark: Bookmark,
     columns: &mut [u16],
     shifts: &mut [i16],
-) -> Walk
+) -> Result<Walked, Refusal>
     ensures { PlainWalks cells.now tracks theme.now way bookmark
         columns.old shifts.old result columns.new shifts.new }
 {
-    if let Verdict::Refused(e) = check_plain(
+    check_plain(
         cells,
         tracks,
         theme,
@@ -38,10 +31,8 @@ pub fn walk_plain(
         bookmark,
         columns.len(),
         shifts.len(),
-    ) {
-        return Walk::Refused(e);
-    }
-    Walk::Done(walk_every(cells, tracks, theme, way, bookmark, columns, shifts))
+    )?;
+    Ok(walk_every(cells, tracks, theme, way, bookmark, columns, shifts))
 }
 
 // The same along the starts whose column the sets make a candidate. Fills the theme's table first, whatever it held. Refuses
@@ -56,11 +47,11 @@ pub fn walk_quick(
     table: &mut [u32],
     columns: &mut [u16],
     shifts: &mut [i16],
-) -> Walk
+) -> Result<Walked, Refusal>
     ensures { QuickWalks cells.now tracks theme.now way bookmark sets.now table.old
         columns.old shifts.old result table.new columns.new shifts.new }
 {
-    if let Verdict::Refused(e) = check_quick(
+    check_quick(
         cells,
         tracks,
         theme,
@@ -70,11 +61,9 @@ pub fn walk_quick(
         table.len(),
         columns.len(),
         shifts.len(),
-    ) {
-        return Walk::Refused(e);
-    }
+    )?;
     fill_table(theme, table);
-    Walk::Done(walk_candidates(
+    Ok(walk_candidates(
         cells, tracks, theme, way, bookmark, sets, table, columns, shifts,
     ))
 }

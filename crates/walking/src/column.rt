@@ -2,45 +2,39 @@
 
 ghost use Rattle.std.specs.Prelude.{length};
 ghost use Rattle.score.specs.Score.{columns_in};
-ghost use Rattle.walking.specs.Walk.{Ready, Stands, TriesColumn};
+ghost use Rattle.walking.specs.Walk.{Stands, TriesColumn};
 
 use crate::starts::try_start;
+use crate::tune::Tune;
 use crate::walked::{Spot, Walked};
 use hits::keep;
 use holding::next_code;
 use score::Pitch;
-use ways::{Way, span_of};
+use ways::span_of;
 
 // Tries the starts of the spot's column from its code on, until none is left or no room.
-pub fn try_column(
-    cells: &[u8],
-    h: usize,
-    theme: &[u8],
-    way: Way,
-    spot: Spot,
-    columns: &mut [u16],
-    shifts: &mut [i16],
-) -> Walked
-    requires ready { Ready cells.now h theme.now }
-    requires stands { Stands way (columns_in cells.now h) (length theme.now) spot columns.old shifts.old }
-    ensures { TriesColumn way cells.now h theme.now spot
+pub fn try_column(tune: &Tune, spot: Spot, columns: &mut [u16], shifts: &mut [i16]) -> Walked
+    requires stands { Stands tune.now.way (columns_in tune.now.cells.now tune.now.tracks) (length tune.now.theme.now)
+        spot columns.old shifts.old }
+    ensures { TriesColumn tune.now.way tune.now.cells.now tune.now.tracks tune.now.theme.now spot
         columns.old shifts.old result columns.new shifts.new }
 {
-    let from = (spot.column.0 as usize - 1) * h;
-    let to = from + h;
-    let p = Pitch(theme[0]);
-    let end = span_of(way);
+    let from = (spot.column.0 as usize - 1) * tune.tracks;
+    let to = from + tune.tracks;
+    let p = Pitch(tune.theme[0]);
+    let end = span_of(tune.way);
     let mut code = spot.code;
     let mut at = spot.found;
     let mut looks: u32 = 0;
+    // from one code to the next that the column holds, which may lie far on
     while at < columns.len() {
-        let next = next_code(&cells[from..to], way, p, code);
+        let next = next_code(&tune.cells[from..to], tune.way, p, code);
         if end <= next {
             return Walked { found: at, looks };
         }
-        let t = try_start(cells, h, theme, way, spot.column, next);
+        let t = try_start(tune, spot.column, next);
         looks += t.looks;
-        at = keep(columns, shifts, at, t.hit, spot.column, way, next);
+        at = keep(columns, shifts, at, t.hit, spot.column, tune.way, next);
         code = next + 1;
     }
     Walked { found: at, looks }

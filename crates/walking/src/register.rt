@@ -9,7 +9,8 @@ ghost use Rattle.walking.specs.Scan.{entry_word, Filters, Lent, Seeks, ListsCand
 use filter::{marks, step};
 use score::Column;
 
-// How many columns are passed, whether the last of them is a candidate, and what the register is behind it.
+// How many columns are passed, whether the last of them is a candidate, and what the register is behind it. Both numbers mean the
+// same whether it is one or not, so the flag guards neither.
 #[derive(Clone, Copy)]
 pub struct Sought {
     pub register: u32,
@@ -25,35 +26,6 @@ pub struct Listed {
     pub count: usize,
 }
 
-// One entry of the sets more: the table's word for it.
-pub fn taken(register: u32, sets: &[u16], table: &[u32], at: usize) -> u32
-    requires at_in_bounds { at < length sets.now }
-    requires table_len { length table.now ≡ table_words }
-    requires by_index { (k : ℕ) → get_or sets.now k 0 < table_words }
-    ensures { result ≡ Register.step word_bits register (entry_word table.now sets.now at) }
-{
-    let set = sets[at] as usize;
-    step(register, table[set])
-}
-
-// The register that begins, all ones, at an entry of the sets and takes as many as are counted. For a theme of m notes
-// they are m - 2, and the next one makes the first column a candidate or not.
-pub fn warmed(sets: &[u16], table: &[u32], from: usize, count: usize) -> u32
-    requires count_in_bounds { from + count ≤ length sets.now }
-    requires table_len { length table.now ≡ table_words }
-    requires by_index { (k : ℕ) → get_or sets.now k 0 < table_words }
-    ensures { result ≡ Register.reg_from word_bits (entry_word table.now sets.now) from (from + count) }
-{
-    let end = from + count;
-    let mut register: u32 = 0xffff_ffff;
-    let mut at = from;
-    while at < end {
-        register = taken(register, sets, table, at);
-        at += 1;
-    }
-    register
-}
-
 // Writes the last of the columns that are passed, from the first on, at its place of the list where it is marked, and gives
 // the next place; otherwise the place is given back.
 fn noted(list: &mut [u16], at: usize, first: Column, passed: usize, marked: bool) -> usize
@@ -67,72 +39,101 @@ fn noted(list: &mut [u16], at: usize, first: Column, passed: usize, marked: bool
     at + 1
 }
 
-// Decides column after column of so many from the first on, behind those already passed: up to a candidate, or to the last
-// where there is none.
-fn seek(
-    register: u32,
-    sets: &[u16],
-    table: &[u32],
-    m: usize,
-    first: Column,
-    passed: usize,
-    many: usize,
-) -> Sought
-    requires lent { Lent sets.now table.now m (first.0 + passed) (first.0 + many) }
-    requires filters { Filters table.now sets.now m register (first.0 + passed) }
-    ensures { Seeks table.now sets.now m (first.0 + passed) (first.0 + many) result.register (first.0 + result.passed) result.marked }
-{
-    let top = (m - 2) as u32;
-    let j = first.0 as usize;
-    let mut word = register;
-    let mut i = passed;
-    while i < many {
-        word = taken(word, sets, table, j + i + m - 3);
-        i += 1;
-        if marks(word, top) {
-            return Sought {
-                register: word,
-                passed: i,
-                marked: true,
-            };
-        }
-    }
-    Sought {
-        register: word,
-        passed: i,
-        marked: false,
-    }
+// The sets of a score, and the theme's table, which has a word for each set that may be.
+#[derive(Clone, Copy)]
+pub struct Entries<'a> {
+    pub sets: &'a [u16],
+    pub table: &'a [u32],
+    ghost table_long: { length table.now ≡ table_words },
+    ghost sets_small: { (k : ℕ) → get_or sets.now k 0 < table_words },
 }
 
-// Lists, from the front, the candidates among so many columns from the first on, until as many are listed as are wanted.
-pub fn list_candidates(
-    register: u32,
-    sets: &[u16],
-    table: &[u32],
-    m: usize,
-    first: Column,
-    many: usize,
-    wanted: usize,
-    list: &mut [u16],
-) -> Listed
-    requires lent { Lent sets.now table.now m first.0 (first.0 + many) }
-    requires filters { Filters table.now sets.now m register first.0 }
-    requires le_wanted { (1 ≤ wanted) × (wanted ≤ length list.old) }
-    ensures { ListsCandidates table.now sets.now m first.0 (first.0 + many) list.old
-        result.register (first.0 + result.passed) result.count list.new }
-{
-    let mut word = register;
-    let mut passed: usize = 0;
-    let mut count: usize = 0;
-    while (passed < many) & (count < wanted) {
-        let s = seek(word, sets, table, m, first, passed, many);
-        word = s.register;
-        passed = s.passed;
-        count = noted(list, count, first, passed, s.marked);
+impl Entries<'_> {
+    // One entry of the sets more: the table's word for it.
+    fn taken(&self, register: u32, at: usize) -> u32
+        requires { at < length self.now.sets.now }
+        ensures { result ≡ Register.step word_bits register (entry_word self.now.table.now self.now.sets.now at) }
+    {
+        let set = self.sets[at] as usize;
+        step(register, self.table[set])
     }
-    Listed {
-        register: word,
-        passed,
-        count,
+
+    // The register that begins, all ones, at an entry of the sets and takes as many as are counted. For a theme of m notes
+    // they are m - 2, and the next one makes the first column a candidate or not.
+    pub fn warmed(&self, from: usize, count: usize) -> u32
+        requires { from + count ≤ length self.now.sets.now }
+        ensures { result ≡ Register.reg_from word_bits (entry_word self.now.table.now self.now.sets.now) from (from + count) }
+    {
+        let end = from + count;
+        let mut register: u32 = 0xffff_ffff;
+        for at in from..end {
+            register = self.taken(register, at);
+        }
+        register
+    }
+
+    // Decides column after column of so many from the first on, behind those already passed: up to a candidate, or to the last
+    // where there is none.
+    fn seek(&self, register: u32, m: usize, first: Column, passed: usize, many: usize) -> Sought
+        requires lent { Lent self.now.sets.now m (first.0 + passed) (first.0 + many) }
+        requires filters { Filters self.now.table.now self.now.sets.now m register (first.0 + passed) }
+        ensures { Seeks self.now.table.now self.now.sets.now m (first.0 + passed) (first.0 + many)
+            result.register (first.0 + result.passed) result.marked }
+    {
+        let top = (m - 2) as u32;
+        // the entry that decides the next column, and the one behind the last
+        let next = first.0 as usize + passed + m - 3;
+        let end = next + (many - passed);
+        let mut word = register;
+        for at in next..end {
+            word = self.taken(word, at);
+            if marks(word, top) {
+                return Sought {
+                    register: word,
+                    passed: at + 1 - next + passed,
+                    marked: true,
+                };
+            }
+        }
+        Sought {
+            register: word,
+            passed: many,
+            marked: false,
+        }
+    }
+
+    // Lists, from the front, the candidates among so many columns from the first on, until as many are listed as are wanted. What
+    // goes on is given back by value: a struct of register, column and columns left would hold again what the walk's spot and
+    // count hold, and each clause would have to say what of it stays.
+    pub fn list_candidates(
+        &self,
+        register: u32,
+        m: usize,
+        first: Column,
+        many: usize,
+        wanted: usize,
+        list: &mut [u16],
+    ) -> Listed
+        requires lent { Lent self.now.sets.now m first.0 (first.0 + many) }
+        requires filters { Filters self.now.table.now self.now.sets.now m register first.0 }
+        requires le_wanted { (1 ≤ wanted) × (wanted ≤ length list.old) }
+        ensures { ListsCandidates self.now.table.now self.now.sets.now m first.0 (first.0 + many) list.old
+            result.register (first.0 + result.passed) result.count list.new }
+    {
+        let mut word = register;
+        let mut passed: usize = 0;
+        let mut count: usize = 0;
+        // a turn passes as many columns as it takes to the next candidate
+        while passed < many && count < wanted {
+            let s = self.seek(word, m, first, passed, many);
+            word = s.register;
+            passed = s.passed;
+            count = noted(list, count, first, passed, s.marked);
+        }
+        Listed {
+            register: word,
+            passed,
+            count,
+        }
     }
 }

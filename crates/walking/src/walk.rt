@@ -3,12 +3,14 @@
 ghost use Rattle.std.specs.Prelude.{◌≡◌, ◌+◌, ◌-◌, ◌≤◌, length};
 ghost use Rattle.asking.specs.Asking.{PlainAsks, QuickAsks};
 ghost use Rattle.walking.specs.Alive.{Cached};
-ghost use Rattle.walking.specs.Walk.{Ready, ListsEvery, Along, TriesList, WalksEvery, WalksCandidates, listed, end_of};
+ghost use Rattle.theory.specs.Lists.{count as numbers};
+ghost use Rattle.walking.specs.Walk.{Along, TriesList, WalksEvery, WalksCandidates, listed, end_of};
 
 use crate::alive::try_all;
-use crate::register::{list_candidates, warmed};
-use crate::ring::RING;
-use crate::walked::{Spot, Walked, at_column, begin, go_on};
+use crate::register::Entries;
+use crate::ring::Ring;
+use crate::tune::Tune;
+use crate::walked::{Spot, Walked};
 use score::{Column, columns_in};
 use ways::{AnyWay, Bookmark, Way};
 
@@ -20,108 +22,87 @@ const LOOKS_AHEAD: usize = 16;
 
 // Tries the listed columns one after another, until none is left or no room. The spot's code counts on its own column only.
 fn walk_along(
-    cells: &[u8],
-    h: usize,
-    theme: &[u8],
-    way: Way,
+    tune: &Tune,
     spot: Spot,
     list: &[u16],
     columns: &mut [u16],
     shifts: &mut [i16],
-    ring: &mut [u64],
+    ring: &mut Ring,
 ) -> Walked
-    requires ready { Ready cells.now h theme.now }
-    requires along { Along way cells.now h theme.now spot list.now columns.old shifts.old }
-    requires cached { Cached way cells.now h ring.old }
-    ensures { TriesList way cells.now h theme.now spot list.now
-        columns.old shifts.old result columns.new shifts.new × Cached way cells.now h ring.new }
+    requires along { Along tune.now.way tune.now.cells.now tune.now.tracks tune.now.theme.now spot list.now
+        columns.old shifts.old }
+    requires cached { Cached tune.now.way tune.now.cells.now tune.now.tracks ring.old }
+    ensures { TriesList tune.now.way tune.now.cells.now tune.now.tracks tune.now.theme.now spot list.now
+        columns.old shifts.old result columns.new shifts.new × Cached tune.now.way tune.now.cells.now tune.now.tracks ring.new }
 {
+    // a copy that no write to the buffers can reach, so that its fields stay in registers
+    let own = *tune;
     let mut found = spot.found;
     let mut looks: u32 = 0;
-    let mut i: usize = 0;
-    while (i < list.len()) & (found < columns.len()) {
-        let next = at_column(spot, Column(list[i]), found);
-        i += 1;
-        let t = try_all(cells, h, theme, way, next, columns, shifts, ring);
+    for &column in list {
+        if found == columns.len() {
+            break;
+        }
+        let next = spot.at(Column(column), found);
+        let t = try_all(&own, next, columns, shifts, ring);
         found = t.found;
         looks += t.looks;
     }
     Walked { found, looks }
 }
 
-// Lists as many columns as are counted, from the first on.
-fn list_every(first: Column, many: usize, list: &mut [u16])
-    requires { (first.0 + many ≤ 65535) × (many ≤ length list.old) }
-    ensures { ListsEvery first.0 many list.old list.new }
+// Lists as many columns as the list has places, from the first on.
+fn list_every(first: Column, list: &mut [u16])
+    requires { first.0 + length list.old ≤ 65535 }
+    ensures { list.new ≡ numbers first.0 (length list.old) }
 {
-    let j = first.0 as usize;
-    let mut i: usize = 0;
-    while i < many {
-        list[i] = (j + i) as u16;
-        i += 1;
+    for (i, place) in list.iter_mut().enumerate() {
+        *place = first.0 + i as u16;
     }
-}
-
-// As many as are left, or as a list has places.
-fn some_of(left: usize) -> usize
-    requires { 1 ≤ left }
-    ensures { (1 ≤ result) × (result ≤ left) × (result ≤ listed) }
-{
-    if left < LISTED {
-        return left;
-    }
-    LISTED
 }
 
 // How many columns, from this one on, the theme has room in.
-fn columns_left(cells: &[u8], h: usize, theme: &[u8], column: Column) -> usize
-    requires { Ready cells.now h theme.now }
-    ensures { result ≡ end_of cells.now h theme.now - column.0 }
+fn columns_left(tune: &Tune, column: Column) -> usize
+    ensures { result ≡ end_of tune.now.cells.now tune.now.tracks tune.now.theme.now - column.0 }
 {
-    let past = columns_in(cells, h) + 2;
-    let before = theme.len() + column.0 as usize;
-    if past < before {
-        return 0;
-    }
-    past - before
+    let past = columns_in(tune.cells, tune.tracks) + 2;
+    past.saturating_sub(tune.theme.len() + column.0 as usize)
 }
 
 // Walks along every column, until the page is full or no start is left.
 pub fn walk_every(
     cells: &[u8],
-    h: usize,
+    tracks: usize,
     theme: &[u8],
     way: Way,
     bookmark: Bookmark,
     columns: &mut [u16],
     shifts: &mut [i16],
 ) -> Walked
-    requires { PlainAsks cells.now h theme.now (AnyWay.Moved way) bookmark columns.old shifts.old }
-    ensures { WalksEvery way cells.now h theme.now bookmark
+    requires { PlainAsks cells.now tracks theme.now (AnyWay.Moved way) bookmark columns.old shifts.old }
+    ensures { WalksEvery way cells.now tracks theme.now bookmark
         columns.old shifts.old result columns.new shifts.new }
 {
-    let mut spot = begin(way, bookmark);
-    let mut left = columns_left(cells, h, theme, spot.column);
+    let tune = Tune {
+        cells,
+        tracks,
+        theme,
+        way,
+    };
+    let mut spot = Spot::begin(way, bookmark);
+    let mut left = columns_left(&tune, spot.column);
     let mut looks: u32 = 0;
-    let mut ring = [0u64; RING];
+    let mut ring = Ring::new();
     let mut list = [0u16; LISTED];
-    while (0 < left) & (spot.found < columns.len()) {
-        let many = some_of(left);
-        list_every(spot.column, many, &mut list);
+    // a turn walks along as many columns as it lists
+    while 0 < left && spot.found < columns.len() {
+        let many = left.min(LISTED);
+        let some = &mut list[..many];
+        list_every(spot.column, some);
         left -= many;
-        let t = walk_along(
-            cells,
-            h,
-            theme,
-            way,
-            spot,
-            &list[0..many],
-            columns,
-            shifts,
-            &mut ring,
-        );
+        let t = walk_along(&tune, spot, some, columns, shifts, &mut ring);
         looks += t.looks;
-        spot = go_on(spot.column, many, t.found);
+        spot = spot.go_on(many, t.found);
     }
     Walked {
         found: spot.found,
@@ -135,16 +116,15 @@ fn wanted_of(room: usize, looks: u32) -> usize
     requires { 1 ≤ room }
     ensures { (1 ≤ result) × (result ≤ listed) }
 {
-    if room < LISTED {
-        return some_of(room + looks as usize / LOOKS_AHEAD);
-    }
-    LISTED
+    room.saturating_add(looks as usize / LOOKS_AHEAD)
+        .min(LISTED)
 }
 
-// The same along candidates. The register begins anew at the bookmark's column.
+// The same along candidates. The register begins anew at the bookmark's column. It shares its inner functions with the walk along
+// every column; between them stand the sets, the table and the register, which that one has not.
 pub fn walk_candidates(
     cells: &[u8],
-    h: usize,
+    tracks: usize,
     theme: &[u8],
     way: Way,
     bookmark: Bookmark,
@@ -153,13 +133,19 @@ pub fn walk_candidates(
     columns: &mut [u16],
     shifts: &mut [i16],
 ) -> Walked
-    requires { QuickAsks cells.now h theme.now way bookmark sets.now table.now columns.old shifts.old }
-    ensures { WalksCandidates way cells.now h theme.now bookmark sets.now table.now
+    requires { QuickAsks cells.now tracks theme.now way bookmark sets.now table.now columns.old shifts.old }
+    ensures { WalksCandidates way cells.now tracks theme.now bookmark sets.now table.now
         columns.old shifts.old result columns.new shifts.new }
 {
     let m = theme.len();
-    let mut spot = begin(way, bookmark);
-    let mut left = columns_left(cells, h, theme, spot.column);
+    let tune = Tune {
+        cells,
+        tracks,
+        theme,
+        way,
+    };
+    let mut spot = Spot::begin(way, bookmark);
+    let mut left = columns_left(&tune, spot.column);
     let mut looks: u32 = 0;
     // what follows is made ready only where a column is left
     if left == 0 {
@@ -168,37 +154,19 @@ pub fn walk_candidates(
             looks,
         };
     }
-    let mut register = warmed(sets, table, spot.column.0 as usize - 1, m - 2);
-    let mut ring = [0u64; RING];
+    let entries = Entries { sets, table };
+    let mut register = entries.warmed(spot.column.0 as usize - 1, m - 2);
+    let mut ring = Ring::new();
     let mut list = [0u16; LISTED];
-    while (0 < left) & (spot.found < columns.len()) {
+    // a turn walks along as many columns as it lists
+    while 0 < left && spot.found < columns.len() {
         let wanted = wanted_of(columns.len() - spot.found, looks);
-        let l = list_candidates(
-            register,
-            sets,
-            table,
-            m,
-            spot.column,
-            left,
-            wanted,
-            &mut list,
-        );
+        let l = entries.list_candidates(register, m, spot.column, left, wanted, &mut list);
         register = l.register;
         left -= l.passed;
-        let count = l.count;
-        let t = walk_along(
-            cells,
-            h,
-            theme,
-            way,
-            spot,
-            &list[0..count],
-            columns,
-            shifts,
-            &mut ring,
-        );
+        let t = walk_along(&tune, spot, &list[..l.count], columns, shifts, &mut ring);
         looks += t.looks;
-        spot = go_on(spot.column, l.passed, t.found);
+        spot = spot.go_on(l.passed, t.found);
     }
     Walked {
         found: spot.found,

@@ -3,12 +3,12 @@
 // on end. Empty columns stand between the notes, or none; before and behind are columns by chance. In one round of six a note is
 // left out.
 
-use crate::moves::{Move, move_of, moved_at, octave_in, up_by};
+use crate::moves::{move_of, moved_at, octave_in, up_by};
 use gapped::drawing::draw;
-use jobs::buffers::{Cells, Theme};
+use jobs::buffers::{Cells, Theme, fill_by};
 use jobs::shapes::{ask_of, way_of};
 use second::asks::{Ask, columns_of};
-use second::totals::{more, place, product, put_byte};
+use second::totals::{more, product};
 
 // How many rounds there are.
 pub fn broad_rounds() -> usize {
@@ -71,14 +71,11 @@ fn note_at(round: usize, k: usize) -> usize {
     }
 }
 
+const BASES: [u8; 4] = [60, 62, 64, 65];
+
 // The base of note i.
 fn base_at(round: usize, i: usize) -> u8 {
-    match draw(round, more(i, 700), 4) {
-        0 => 60,
-        1 => 62,
-        2 => 64,
-        _ => 65,
-    }
+    BASES[draw(round, more(i, 700), 4)]
 }
 
 // Whether note i is put into a track by chance.
@@ -94,24 +91,17 @@ fn chance(round: usize, i: usize, track: usize) -> bool {
 
 // Whether note i is put into a track; the one that is left out into none.
 fn put_into(round: usize, i: usize, track: usize, a: Ask) -> bool {
-    if draw(round, 8, 6) == 0 {
-        if i == draw(round, 9, a.notes as u64) {
-            return false;
-        }
+    if draw(round, 8, 6) == 0 && i == draw(round, 9, a.notes as u64) {
+        return false;
     }
-    if track == draw(round, more(i, 900), a.h as u64) {
-        return true;
-    }
-    chance(round, i, track)
+    track == draw(round, more(i, 900), a.h as u64) || chance(round, i, track)
 }
 
 // The cell of note i in a track. Where the note is not put into it: a rest, or another pitch, which can be an octave above.
 fn note_cell(round: usize, a: Ask, i: usize, track: usize) -> u8 {
-    let way = a.way;
-    let moved: Move = move_of(way, round);
-    let p = up_by(base_at(round, i), moved.score);
+    let p = up_by(base_at(round, i), move_of(a.way, round).score);
     if put_into(round, i, track, a) {
-        return octave_in(way, p, track);
+        return octave_in(a.way, p, track);
     }
     match draw(round, more(product(i, 16), more(track, 4000)), 8) {
         0..=3 => 255,
@@ -131,11 +121,9 @@ fn chance_cell(round: usize, column: usize, track: usize) -> u8 {
 
 // The cell of a column and a track, both from 0.
 fn broad_cell(round: usize, a: Ask, column: usize, track: usize) -> u8 {
-    let before = columns_before(round);
-    if column < before {
+    let Some(k) = column.checked_sub(columns_before(round)) else {
         return chance_cell(round, column, track);
-    }
-    let k = column - before;
+    };
     let i = note_at(round, k);
     if a.notes <= i {
         return chance_cell(round, column, track);
@@ -146,28 +134,19 @@ fn broad_cell(round: usize, a: Ask, column: usize, track: usize) -> u8 {
     note_cell(round, a, i, track)
 }
 
-fn put_tracks(cells: &mut [u8], a: Ask, round: usize, column: usize) {
-    for track in 0..a.h {
-        put_byte(
-            cells,
-            place(more(column, 1), a.h, track),
-            broad_cell(round, a, column, track),
-        );
-    }
-}
-
 fn put_columns(cells: &mut [u8], a: Ask, round: usize) {
-    for column in 0..columns_of(a.cells, a.h) {
-        put_tracks(cells, a, round, column);
+    if a.h == 0 {
+        return;
+    }
+    let columns = columns_of(a.cells, a.h);
+    for (column, tracks) in cells.chunks_exact_mut(a.h).enumerate().take(columns) {
+        fill_by(tracks, a.h, |track| broad_cell(round, a, column, track));
     }
 }
 
 fn put_notes(theme: &mut [u8], a: Ask, round: usize) {
-    let way = a.way;
-    let moved = move_of(way, round);
-    for i in 0..a.notes {
-        put_byte(theme, i, up_by(base_at(round, i), moved.theme));
-    }
+    let up = move_of(a.way, round).theme;
+    fill_by(theme, a.notes, |i| up_by(base_at(round, i), up));
 }
 
 // A round put into the lent buffers.

@@ -30,39 +30,35 @@ pub fn move_of(way: Way, k: usize) -> Move {
 
 // A pitch that is up by so much.
 pub fn up_by(base: u8, up: u8) -> u8 {
-    std::num::wrapping_add_u8(base, up)
+    base.wrapping_add(up)
 }
 
 // The shift of a theme that is moved: the score's part less the theme's.
 fn shift_by(way: Way, m: Move) -> i16 {
     match way {
-        Way::Exact => shift_at(way, std::num::wrapping_sub_u8(up_by(127, m.score), m.theme)),
+        Way::Exact => shift_at(way, up_by(127, m.score).wrapping_sub(m.theme)),
         _ => shift_at(way, m.score),
     }
 }
 
 // What is asked, at a column at which the moved theme stands.
 pub fn moved_at(a: Ask, column: u16, m: Move) -> Ask {
-    let way = a.way;
-    at(a, column, shift_by(way, m))
+    at(a, column, shift_by(a.way, m))
 }
 
 // A note in a track: in octave it is any number of octaves off, by the track.
 pub fn octave_in(way: Way, p: u8, track: usize) -> u8 {
-    if let Way::Octave = way {
-        return match track % 3 {
+    match way {
+        Way::Exact | Way::Written => p,
+        Way::Octave => match track % 3 {
             0 => p,
-            1 => std::num::wrapping_sub_u8(p, 24),
+            1 => p.wrapping_sub(24),
             _ => up_by(p, 12),
-        };
+        },
     }
-    p
 }
 
 // The track of cell i, from 0, in a score of h tracks.
 pub fn track_of(i: usize, h: usize) -> usize {
-    if h == 0 {
-        return 0;
-    }
-    i % h
+    i.checked_rem(h).unwrap_or(0)
 }

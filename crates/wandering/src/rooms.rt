@@ -30,7 +30,8 @@ pub fn enough_for(m: usize, k: usize) -> usize {
 
 // What is asked, with so many places.
 pub fn lending(a: Ask, places: usize) -> Ask {
-    let mut b = a;
-    b.columns = places;
-    b
+    Ask {
+        columns: places,
+        ..a
+    }
 }

@@ -2,11 +2,11 @@
 // pitches alone, at the lower end, at the upper end or in the middle, and the theme is of the same ones there or elsewhere: so
 // many pairs stand, and many tracks share a note. One column of six is empty.
 
-use gapped::drawing::draw;
-use jobs::buffers::{Cells, Theme};
+use gapped::drawing::{draw, tone_at};
+use jobs::buffers::{Cells, Theme, fill_by};
 use jobs::shapes::{ask_of, way_of};
 use second::asks::{Ask, columns_of};
-use second::totals::{more, put_byte};
+use second::totals::more;
 use second::ways::Way;
 
 // How many rounds there are.
@@ -25,66 +25,38 @@ pub fn thick_ask(round: usize) -> Ask {
     )
 }
 
-// The k-th pitch, at one of the three places.
-fn tone_at(lowest: usize, k: usize) -> u8 {
-    let above: u8 = match k {
-        0 => 0,
-        1 => 12,
-        _ => 2,
-    };
-    match lowest % 3 {
-        0 => above,
-        1 => std::num::wrapping_add_u8(115, above),
-        _ => std::num::wrapping_add_u8(60, above),
-    }
-}
+// How far the pitches lie above the lowest.
+const ABOVE: [u8; 3] = [0, 12, 2];
 
 // Where the theme is: in written where the score is.
 fn theme_place(round: usize, way: Way) -> usize {
-    if let Way::Written = way {
-        return round / 3;
+    match way {
+        Way::Exact | Way::Octave => round / 9,
+        Way::Written => round / 3,
     }
-    round / 9
 }
 
-// How many pitches there are.
-fn tones_in(round: usize) -> u64 {
-    if round / 2 % 2 == 0 { 2 } else { 3 }
+// One of the pitches, by a purpose: there are two of them, or three.
+fn above(round: usize, purpose: usize) -> u8 {
+    let tones = if round / 2 % 2 == 0 { 2 } else { 3 };
+    ABOVE[draw(round, purpose, tones)]
 }
 
 // Cell i: one of eight is a rest.
 fn thick_cell(round: usize, i: usize, column: usize) -> u8 {
-    if draw(round, more(column, 600), 6) == 0 {
+    if draw(round, more(column, 600), 6) == 0 || draw(round, more(i, 400), 8) == 0 {
         return 255;
     }
-    if draw(round, more(i, 400), 8) == 0 {
-        return 255;
-    }
-    tone_at(round / 3, draw(round, more(i, 500), tones_in(round)))
-}
-
-fn fill_cells(cells: &mut [u8], a: Ask, round: usize) {
-    for i in 0..a.cells {
-        put_byte(cells, i, thick_cell(round, i, columns_of(i, a.h)));
-    }
-}
-
-fn fill_notes(theme: &mut [u8], a: Ask, round: usize) {
-    let way = a.way;
-    for i in 0..a.notes {
-        put_byte(
-            theme,
-            i,
-            tone_at(
-                theme_place(round, way),
-                draw(round, more(i, 700), tones_in(round)),
-            ),
-        );
-    }
+    tone_at(round / 3, above(round, more(i, 500)))
 }
 
 // A round put into the lent buffers.
 pub fn arrange_thick(cells: &mut Cells, theme: &mut Theme, a: Ask, round: usize) {
-    fill_cells(cells, a, round);
-    fill_notes(theme, a, round);
+    let theme_at = theme_place(round, a.way);
+    fill_by(cells, a.cells, |i| thick_cell(round, i, columns_of(i, a.h)));
+    fill_by(
+        theme,
+        a.notes,
+        |i| tone_at(theme_at, above(round, more(i, 700))),
+    );
 }

@@ -7,7 +7,8 @@ pub enum Way {
     Octave,
 }
 
-// All ways. Written: each note stands in its column as it is, which is exact with shift 0.
+// All ways. Written: each note stands in its column as it is, which is exact with shift 0. It is a way of its own and not the
+// lack of one, so no `Option` of a way says it more plainly.
 #[derive(Clone, Copy)]
 pub enum AnyWay {
     Moved(Way),

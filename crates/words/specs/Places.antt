@@ -1,25 +1,29 @@
 -- What is promised of a place of a text: what is seen and read there, as what `Words` reads of the text from there on. The
 -- definition that matters is `Numbered`. Assumes nothing.
-use Rattle.std.specs.Prelude.{◌≡◌, List, ℕ, ◌≤◌, ◌<◌, length, drop}
+use Rattle.std.specs.Prelude.{◌≡◌, false, true, List, ℕ, ◌+◌, ◌≤◌, ◌<◌, length, drop, Option, Some, None, MatchOption}
 use Rattle.words.specs.declared.numbers.Numeral.{Numeral}
-use Rattle.words.specs.declared.numbers.Numeral.TheVariants as Number
-use Rattle.words.specs.Words.{Read, got, bad, front}
+use Rattle.words.specs.Words.{Read, got, bad, front, is_digit}
 
--- the byte at a place; one that is not 0 stands within the text
-pub record Seen (text : List ℕ) (at b : ℕ) : Type 0 where
-  pub byte : b ≡ front (drop at text)
-  pub within : 1 ≤ b → at < length text
+-- the byte at a place is a digit, whose number this is, and stands within the text
+pub record IsDigit (text : List ℕ) (at d : ℕ) : Type 0 where
+  pub digit : is_digit (front (drop at text)) ≡ true
+  pub byte : front (drop at text) ≡ 48 + d
+  pub within : at < length text
+
+-- the digit at a place, or none
+abbrev pub DigitAt : (text : List ℕ) (at : ℕ) → Option ℕ → Type 0
+DigitAt text at r = MatchOption r (is_digit (front (drop at text)) ≡ false) (IsDigit text at)
 
 -- ---- what an answer stands for: the value, and what is left of the text
 
-abbrev pub number_read : (text : List ℕ) → Numeral → Read ℕ
-number_read text (Number.At value next) = got value (drop next text)
-number_read text Number.Bad = bad
+abbrev pub number_read : (text : List ℕ) → Option Numeral → Read ℕ
+number_read text (Some n) = got n.value (drop n.next text)
+number_read text None = bad
 
-abbrev pub number_next : Numeral → ℕ
-number_next (Number.At value next) = next
-number_next Number.Bad = 0
+abbrev pub number_next : Option Numeral → ℕ
+number_next (Some n) = n.next
+number_next None = 0
 
-pub record Numbered (text : List ℕ) (r : Numeral) (want : Read ℕ) : Type 0 where
+pub record Numbered (text : List ℕ) (r : Option Numeral) (want : Read ℕ) : Type 0 where
   pub is : number_read text r ≡ want
   pub within : number_next r ≤ length text

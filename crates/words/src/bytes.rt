@@ -2,30 +2,22 @@
 
 ghost use Rattle.std.specs.Prelude.{◌≡◌, drop};
 ghost use Rattle.words.specs.Words.{begins};
-ghost use Rattle.words.specs.Places.{Seen};
+ghost use Rattle.words.specs.Places.{DigitAt};
 
-// The byte at the place, and 0 behind the last byte.
-pub fn byte_at(text: &[u8], at: usize) -> u8
-    ensures { Seen text.now at result }
+// The digit at the place, as a number.
+pub fn digit_at(text: &[u8], at: usize) -> Option<u8>
+    ensures { DigitAt text.now at result }
 {
-    if at < text.len() { text[at] } else { 0 }
+    match text.get(at) {
+        Some(b) if b.is_ascii_digit() => Some(b - b'0'),
+        _ => None,
+    }
 }
 
 // Whether the word stands at the place.
+#[tactic(auto, using(crate::proofs::Standing::stands_is))]
 pub fn stands(text: &[u8], from: usize, word: &[u8]) -> bool
     ensures { result ≡ begins word.now (drop from text.now) }
 {
-    let mut at = from;
-    let mut i = 0;
-    while i < word.len() {
-        if text.len() <= at {
-            return false;
-        }
-        if word[i] != text[at] {
-            return false;
-        }
-        at += 1;
-        i += 1;
-    }
-    true
+    text.get(from..).unwrap_or(&[]).starts_with(word)
 }

@@ -1,6 +1,6 @@
 // What stands at a place of a text: a word, a number, a cell.
 //
-// `bytes` reads one byte or a word, `numbers` a number or a cell. Places only go forward.
+// `bytes` reads a digit or a word, `numbers` a number or a cell. Places only go forward.
 
 #![tactic(auto)]
 

@@ -1,25 +1,24 @@
 -- A walk along the columns lists where the theme stands. After the columns before k, counted from 0, it has decided the starts
 -- of which the last note stands before k, and listed those at which the theme stands (`Along`). One column more decides one
 -- start more, or none yet (`along_hit`, `along_miss`); and where the columns end, or the room, the page is listed
--- (`along_end`). Assumes nothing.
+-- (`along_end`, `along_full`). Assumes nothing.
 use mathlib.Core.Path.{◌≡◌, refl, sym, ap, ◌∙◌}
-use mathlib.Core.Bool.{Bool, true, false, ◌&&◌}
+use mathlib.Core.Bool.{Bool, true, false}
 use mathlib.Core.Logic.{◌↔◌}
 use mathlib.Core.List.{List, [], ◌∷◌, ◌++◌, map, map-append, append-nil}
 use Prim.Native.Nat.{ℕ, suc, ◌+◌, ◌-◌, ◌*◌, ◌%◌, ◌^◌, ◌≤◌, ◌<◌, zero-le}
 use native.Mathlib.Nat.{mod-eq_of_lt, suc-mul, mul-le-mul_right}
 use native.Mathlib.Decide.{dec_le}
 use native.Mathlib.Omega.{arith}
-use lib.Dec.{eqb, ltb}
+use lib.Dec.{eqb}
 use lib.IntN.{ℤ, pos}
 use lib.ListN.{length, set, take, length-append, length-map}
 use lib.Seq.{take_all, take-append_seam}
-use borrow.Author.Tests.{eqb-true, eqb-false, ltb-false}
+use borrow.Author.Tests.{eqb-true, eqb-false}
 use Rattle.theory.specs.Lists.{over, count}
 use Rattle.theory.specs.Pages.{hits}
 use Rattle.theory.specs.Bits.{bit}
 use Rattle.theory.specs.Register.{step, reg_from}
-use Rattle.theory.proofs.Either.{either}
 use Rattle.theory.proofs.Lists.{count_append, over_more, over_length}
 use Rattle.theory.proofs.Pages.{page_take, hits_append}
 use Rattle.theory.proofs.Register.{Diagonal, reg_from_none, reg_from_turn, reg_from_iff}
@@ -98,32 +97,35 @@ module _ {cells : List ℕ} {h : ℕ} {theme : List ℕ} {from : ℕ} {columns�
         ∙ over_length shifts₀ (map (λ j. pos 0) (decided score theme from k))
         (omega (arith, length-map (decided score theme from k) (λ (j : ℕ). pos 0), a.counted, a.few, w.same_room))
 
-    -- the columns end, or the room: the page is listed
-    pub along_end : {n : ℕ} → n ≡ columns_in cells h → (ltb k n && ltb found (length columns₀)) ≡ false → ListsFrom cells h theme from columns₀ shifts₀ found columns shifts
-    along_end {n} e stop = record { counted = rw page a.counted; in_columns = rw page a.in_columns; in_shifts = rw page a.in_shifts }
+    -- those left out where the columns end, or the room
+    abbrev left : ℕ
+    left = columns_in cells h + 1 - (length theme + from) - (k + 1 - (length theme + from))
+
+    abbrev rest : List ℕ
+    rest = hits (stands_at score theme) (count (from + 1 + (k + 1 - (length theme + from))) left)
+
+    whole : hits (stands_at score theme) (count (from + 1) (length score + 1 - (length theme + from))) ≡ decided score theme from k ++ rest
+    whole =
+        let f : length score + 1 - (length theme + from) ≡ k + 1 - (length theme + from) + left = omega (arith, score_length cells h, a.to_end) in
+        rw (f, count_append (from + 1) (k + 1 - (length theme + from)) left, hits_append (stands_at score theme) (count (from + 1) (k + 1 - (length theme + from))) (count (from + 1 + (k + 1 - (length theme + from))) left))
+
+    lists : take (length columns₀) (decided score theme from k ++ rest) ≡ decided score theme from k
+        → ListsFrom cells h theme from columns₀ shifts₀ found columns shifts
+    lists front = record { counted = rw page a.counted; in_columns = rw page a.in_columns; in_shifts = rw page a.in_shifts }
       where
-        -- those left out
-        left : ℕ
-        left = columns_in cells h + 1 - (length theme + from) - (k + 1 - (length theme + from))
-
-        rest : List ℕ
-        rest = hits (stands_at score theme) (count (from + 1 + (k + 1 - (length theme + from))) left)
-
-        whole : hits (stands_at score theme) (count (from + 1) (length score + 1 - (length theme + from))) ≡ decided score theme from k ++ rest
-        whole =
-            let f : length score + 1 - (length theme + from) ≡ k + 1 - (length theme + from) + left = omega (arith, score_length cells h, a.to_end) in
-            rw (f, count_append (from + 1) (k + 1 - (length theme + from)) left, hits_append (stands_at score theme) (count (from + 1) (k + 1 - (length theme + from))) (count (from + 1 + (k + 1 - (length theme + from))) left))
-
-        front : take (length columns₀) (decided score theme from k ++ rest) ≡ decided score theme from k
-        front =
-            either (ltb k n)
-            (λ t. let r : length columns₀ ≡ length (decided score theme from k) = omega (arith, a.few, a.counted, ltb-false found (length columns₀) (rw t at stop)) in
-            rw r (take-append_seam (decided score theme from k) rest))
-            (λ t. let z : left ≡ 0 = omega (arith, ltb-false k n t, e) in
-            rw (z, append-nil) (take_all (length columns₀) (decided score theme from k) (omega (arith, a.few, a.counted))))
-
         page : shown_from score theme from (length columns₀) ≡ decided score theme from k
         page = page_take (stands_at score theme) (length columns₀) (count (from + 1) (length score + 1 - (length theme + from))) ∙ ap (take (length columns₀)) whole ∙ front
+
+    -- the columns end, or the room: the page is listed
+    pub along_end : columns_in cells h ≤ k → ListsFrom cells h theme from columns₀ shifts₀ found columns shifts
+    along_end end =
+        let z : left ≡ 0 = omega arith in
+        lists (rw (z, append-nil) (take_all (length columns₀) (decided score theme from k) (omega (arith, a.few, a.counted))))
+
+    pub along_full : found ≡ length columns₀ → ListsFrom cells h theme from columns₀ shifts₀ found columns shifts
+    along_full full =
+        let r : length columns₀ ≡ length (decided score theme from k) = omega (arith, full, a.counted) in
+        lists (rw r (take-append_seam (decided score theme from k) rest))
 
     -- one column more
     module _ (more : k < columns_in cells h) {register' : ℕ} (e : register' ≡ step word_bits register (word_at word_bits cells h theme k))

@@ -22,8 +22,6 @@ use Rattle.theory.proofs.Integers.{not_le_z}
 use Rattle.theory.proofs.Looks.{page_looks_le, sum_none}
 use Rattle.theory.proofs.Members.{in_count}
 use Rattle.score.specs.declared.refusals.Refusal.{Refusal}
-use Rattle.score.specs.declared.refusals.Verdict.{Verdict}
-use Rattle.score.specs.declared.refusals.Verdict.TheVariants.{Accepted as Passed, Refused as Away}
 use Rattle.score.specs.Refusals.{Row, verdict}
 use Rattle.score.specs.Score.{column_at, columns_in, score_of}
 use Rattle.score.proofs.Columns.{columns_whole, score_length}
@@ -38,7 +36,6 @@ use Rattle.asking.specs.Asking.{PlainAsks}
 use Rattle.asking.specs.Refusals.{plain_rows}
 use Rattle.asking.proofs.Rows.{plain_clear}
 use Rattle.paging.specs.declared.page.Turn.{Turn}
-use Rattle.paging.specs.declared.page.Page.TheVariants.{Turned, Refused}
 use Rattle.paging.specs.Lent.{lent, written}
 use Rattle.paging.specs.Order.{at_or_after}
 use Rattle.paging.specs.Search.{Search, left, found, spent}
@@ -47,6 +44,7 @@ use Rattle.paging.specs.Turning.{read_turn}
 use Rattle.paging.proofs.Turnings.{away_pages, went_pages}
 use Rattle.written.specs.Written.{written_search, written_page, WrittenPages}
 use Rattle.written.specs.Walk.{passed, Walkable, shown_from, ListsFrom}
+use Rattle.std.specs.Prelude.{Result, Ok, Err}
 
 -- ---- what is left from a bookmark on
 
@@ -111,11 +109,11 @@ module _ (cells : List ℕ) (h : ℕ) (theme : List ℕ) (b : Bookmark) (columns
   rows = plain_rows cells h theme Written b columns shifts
 
   -- what was checked is asked right
-  pub checked : {v : Verdict} → v ≡ verdict rows → v ≡ Passed → PlainAsks cells h theme Written b columns shifts
+  pub checked : {v : Result (Unit {0}) Refusal} → v ≡ verdict rows → v ≡ Ok tt → PlainAsks cells h theme Written b columns shifts
   checked e p = (plain_clear cells h theme Written b columns shifts).1 (verdict_clear rows (sym e ∙ p))
 
   -- and turned away it writes nothing
-  pub written_away : {v : Verdict} {r : Refusal} → v ≡ verdict rows → v ≡ Away r → WrittenPages cells h theme b (lent columns shifts) (Refused r) (lent columns shifts)
+  pub written_away : {v : Result (Unit {0}) Refusal} {r : Refusal} → v ≡ verdict rows → v ≡ Err r → WrittenPages cells h theme b (lent columns shifts) (Err r) (lent columns shifts)
   unfolding written_page
   written_away e p =
       record {
@@ -143,7 +141,7 @@ module _ (cells : List ℕ) (h : ℕ) (theme : List ℕ) (b : Bookmark) (columns
     -- what the walk left is what the page shows
     pub written_turns : {count : ℕ} {columns' : List ℕ} {shifts' : List ℤ} → ListsFrom cells h theme from columns shifts count columns' shifts'
         → {n : ℕ} {t : Turn} → n ≡ columns_in cells h → t ≡ read_turn (finished_bookmark (range_as Written) (column_at n)) count 0 (lent columns' shifts')
-        → WrittenPages cells h theme b (lent columns shifts) (Turned t) (lent columns' shifts')
+        → WrittenPages cells h theme b (lent columns shifts) (Ok t) (lent columns' shifts')
     unfolding written_page
     written_turns {count} l {n} {t} is e =
         record {

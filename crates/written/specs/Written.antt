@@ -2,17 +2,18 @@
 -- The definition that matters is `stands_at`; that these are the exact pairs with shift 0 is proved (in `search`). The page call
 -- promises `WrittenPages`. The search goes along the columns that it is handed, one after another; empty columns, those without
 -- a pitch, are taken out before, by its caller. Assumes nothing.
-use Rattle.std.specs.Prelude.{Bool, true, false, cond, List, [], ◌∷◌, ℕ, ◌+◌, ◌-◌, eqb, pos, length, get_or, drop}
+use Rattle.std.specs.Prelude.{Bool, true, false, cond, List, [], ◌∷◌, ℕ, ◌+◌, ◌-◌, eqb, pos, length, get_or, drop, Result}
 use Rattle.theory.specs.Lists.{some, count}
 use Rattle.score.specs.Score.{column_at, score_of, columns_from, pitches}
 use Rattle.ways.specs.declared.way.AnyWay.TheVariants.{Written}
 use Rattle.ways.specs.declared.bookmark.Bookmark.{Bookmark}
 use Rattle.ways.specs.Way.{range_as}
 use Rattle.asking.specs.Refusals.{plain_rows}
-use Rattle.paging.specs.declared.page.Page.{Page}
 use Rattle.paging.specs.Lent.{Lent}
 use Rattle.paging.specs.Search.{Search}
 use Rattle.paging.specs.Page.{Leaf, paged, Pages}
+use Rattle.paging.specs.declared.page.Turn.{Turn}
+use Rattle.score.specs.declared.refusals.Refusal.{Refusal}
 
 -- the column has this pitch
 abbrev pub has : (column : List ℕ) (p : ℕ) → Bool
@@ -46,5 +47,5 @@ written_page cells h theme b buffers =
     paged (plain_rows cells h theme Written b buffers.columns buffers.shifts) (written_search (score_of cells h) theme) b buffers
 
 -- what the call promises: this answer, and these buffers
-pub record WrittenPages (cells : List ℕ) (h : ℕ) (theme : List ℕ) (b : Bookmark) (buffers : Lent) (answer : Page) (after : Lent) : Type 0 where
+pub record WrittenPages (cells : List ℕ) (h : ℕ) (theme : List ℕ) (b : Bookmark) (buffers : Lent) (answer : Result Turn Refusal) (after : Lent) : Type 0 where
   pub pages : Pages (written_page cells h theme b buffers) answer after

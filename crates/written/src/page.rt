@@ -13,8 +13,8 @@ ghost use Rattle.written.specs.Walk.{passed, ListsFrom};
 use crate::walk::list_from;
 use crate::words::words_of;
 use asking::check_plain;
-use paging::{Page, Turn, turned};
-use score::{Column, Verdict, columns_in};
+use paging::{Turn, turned};
+use score::{Column, Refusal, columns_in};
 use ways::{AnyWay, Bookmark};
 
 // How many columns lie before the first pair to consider, at this column and shift or later: a shift above 0 means the next
@@ -24,10 +24,7 @@ fn passed(column: Column, shift: i16) -> usize
     ensures { result ≡ passed column.0 shift }
 {
     let j = column.0 as usize;
-    if 0 < shift {
-        return j;
-    }
-    j - 1
+    if 0 < shift { j } else { j - 1 }
 }
 
 // Lists what a page from the bookmark on shows, and gives how many pairs it wrote.
@@ -57,8 +54,8 @@ fn answer(n: usize, found: usize, columns: &[u16], shifts: &[i16]) -> Turn
     turned(end, found, 0, columns, shifts)
 }
 
-// The first pairs at or after the bookmark, as many as there is room for, listed from the front of the buffers; what stands behind them
-// stays. Refuses 1 to 5, 9 and 10, and then writes nothing.
+// The first pairs at or after the bookmark, as many as there is room for, listed from the front of the buffers; what stands
+// behind them stays. Refuses 1 to 5, 9 and 10, and then writes nothing.
 pub fn written_page(
     cells: &[u8],
     tracks: usize,
@@ -66,10 +63,10 @@ pub fn written_page(
     bookmark: Bookmark,
     columns: &mut [u16],
     shifts: &mut [i16],
-) -> Page
+) -> Result<Turn, Refusal>
     ensures { WrittenPages cells.now tracks theme.now bookmark (lent columns.old shifts.old) result (lent columns.new shifts.new) }
 {
-    if let Verdict::Refused(e) = check_plain(
+    check_plain(
         cells,
         tracks,
         theme,
@@ -77,9 +74,7 @@ pub fn written_page(
         bookmark,
         columns.len(),
         shifts.len(),
-    ) {
-        return Page::Refused(e);
-    }
+    )?;
     let found = list(cells, tracks, theme, bookmark, columns, shifts);
-    Page::Turned(answer(columns_in(cells, tracks), found, columns, shifts))
+    Ok(answer(columns_in(cells, tracks), found, columns, shifts))
 }

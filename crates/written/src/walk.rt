@@ -39,13 +39,14 @@ pub fn list_from(
     let m = theme.len();
     let top = (m - 1) as u32;
     let mut register: u32 = 0xffff_ffff;
-    let mut k = from;
     let mut found: usize = 0;
-    while (k < n) & (found < columns.len()) {
+    for k in from..n {
+        if found == columns.len() {
+            break;
+        }
         register = taken(register, cells, h, words, k);
-        k += 1;
         if marks(register, top) {
-            columns[found] = (k + 1 - m) as u16;
+            columns[found] = (k + 2 - m) as u16;
             shifts[found] = 0;
             found += 1;
         }

@@ -8,12 +8,12 @@ use native.Mathlib.Omega.{arith}
 use lib.Dec.{eqb, ltb}
 use borrow.Author.Tests.{eq-eqb, ne_eqb, lt-ltb, le-ltb, ltb-true, ltb-false}
 use Rattle.score.specs.Limits.{table_words}
+use Rattle.score.specs.declared.refusals.Rule.TheVariants as rule
 use Rattle.score.specs.declared.refusals.Refusal.{Refusal}
-use Rattle.score.specs.declared.refusals.Verdict.{Verdict}
-use Rattle.score.specs.declared.refusals.Verdict.TheVariants.{Accepted, Refused}
 use Rattle.score.specs.Refusals.{Row, verdict, row1, row2, row3, row6, row7}
 use Rattle.score.proofs.Judging.{turned_away, gone_on}
 use Rattle.asking.specs.Refusals.{row8, sets_rows}
+use Rattle.std.specs.Prelude.{Result, Ok, Err}
 
 -- the rows of `check_score` and of `check_sets`
 abbrev pub score_rows : (cells : List ℕ) (h : ℕ) → List Row
@@ -23,22 +23,22 @@ abbrev lent_rows : (cells : List ℕ) (h : ℕ) (sets : List ℕ) → List Row
 lent_rows cells h sets = row6 cells h sets ∷ row7 sets ∷ []
 
 -- a quick call, which goes on from the rows of the score and the theme to the sets, and from those to the table
-module _ (request : List Row) (cells : List ℕ) (h : ℕ) (sets : List ℕ) (table : ℕ) (page : List Row) {v w : Verdict} (checked : v ≡ verdict request)
-    (passed : v ≡ Accepted) (lent : w ≡ verdict (lent_rows cells h sets)) where
-  abbrev quickly : Verdict
+module _ (request : List Row) (cells : List ℕ) (h : ℕ) (sets : List ℕ) (table : ℕ) (page : List Row) {v w : Result (Unit {0}) Refusal} (checked : v ≡ verdict request)
+    (passed : v ≡ Ok tt) (lent : w ≡ verdict (lent_rows cells h sets)) where
+  abbrev quickly : Result (Unit {0}) Refusal
   quickly = verdict (request ++ (sets_rows cells h sets table ++ page))
 
-  pub sets_away : {e : Refusal} → w ≡ Refused e → Refused e ≡ quickly
+  pub sets_away : {e : Refusal} → w ≡ Err e → Err e ≡ quickly
   sets_away k = gone_on request (sets_rows cells h sets table ++ page) checked passed (turned_away (lent_rows cells h sets) (row8 table ∷ page) lent k)
 
-  pub sets_on : w ≡ Accepted → {x : Verdict} → x ≡ verdict (row8 table ∷ page) → x ≡ quickly
+  pub sets_on : w ≡ Ok tt → {x : Result (Unit {0}) Refusal} → x ≡ verdict (row8 table ∷ page) → x ≡ quickly
   sets_on k e = gone_on request (sets_rows cells h sets table ++ page) checked passed (gone_on (lent_rows cells h sets) (row8 table ∷ page) lent k e)
 
 -- a table of another length, and one of the right length
-pub table_away : (table : ℕ) (more : List Row) → (table ≡ table_words → ⊥) → {v : Verdict} → v ≡ Refused (record { number = 8; place = 0 }) → v ≡ verdict (row8 table ∷ more)
+pub table_away : (table : ℕ) (more : List Row) → (table ≡ table_words → ⊥) → {v : Result (Unit {0}) Refusal} → v ≡ Err (record { rule = rule.TableLength; place = 0 }) → v ≡ verdict (row8 table ∷ more)
 table_away table more n e = e ∙ rw (ne_eqb table table_words n)
 
-pub table_on : (table : ℕ) (more : List Row) → table ≡ table_words → {v : Verdict} → v ≡ verdict more → v ≡ verdict (row8 table ∷ more)
+pub table_on : (table : ℕ) (more : List Row) → table ≡ table_words → {v : Result (Unit {0}) Refusal} → v ≡ verdict more → v ≡ verdict (row8 table ∷ more)
 table_on table more q e = e ∙ rw (eq-eqb table table_words q)
 
 -- a column past n + 1, without the sum

@@ -1,6 +1,6 @@
--- A table that is filled from its last entry downward: the entries from some place on are right. `RightFrom` is over any
--- entries, `FromEven` of the theme's table. Assumes nothing.
-use Rattle.std.proofs.Common.{◌≡◌, ℕ, ◌+◌, ◌-◌, ◌%◌, ◌^◌, ◌<◌, ◌≤◌, List, map, length, get_or, set, sym, refl, ap, ◌∙◌, zero-add, arith, length-set, get_or-set_other, get_or-set_same, ext_get_or}
+-- A table that is filled from its last entry downward: the entries from some place on are right (`RightFrom`). Of any
+-- entries, and then of the theme's table. Assumes nothing.
+use Rattle.std.proofs.Common.{◌≡◌, ℕ, ◌+◌, ◌-◌, ◌*◌, ◌%◌, ◌^◌, ◌<◌, ◌≤◌, List, map, length, get_or, set, sym, refl, ap, ◌∙◌, zero-add, arith, length-set, get_or-set_other, get_or-set_same, ext_get_or}
 use native.Mathlib.Decide.{ℕ_discrete}
 use lib.Bits.{bit_and, bit_or, or_lt, or_add_and, and_le_l}
 use Rattle.theory.specs.Lists.{count}
@@ -8,7 +8,7 @@ use Rattle.theory.proofs.Lists.{count_map_length, count_map_at}
 use Rattle.score.specs.Limits.{table_words, highest_set}
 use Rattle.filter.specs.Table.{word}
 use Rattle.filter.specs.LowestInterval.{interval_words, LowestInterval}
-use Rattle.filter.proofs.LowestInterval.{even_lowest, even_without, word_none}
+use Rattle.filter.proofs.LowestInterval.{even_lowest, even_without, lowest_lt, word_none}
 use Rattle.filter.proofs.table.IntervalWords.{words_at, lowest_by_words}
 
 pub record RightFrom (entry : ℕ → ℕ) (table : List ℕ) (from : ℕ) : Type 0 where
@@ -56,52 +56,51 @@ right_all {entry} {table} {from} f z =
     let k : s < table_words = omega (arith, f.long) in
     f.each s (omega arith) k ∙ sym (count_map_at entry 0 table_words s 0 k ∙ ap entry (zero-add s)))
 
--- ---- the theme's table: an odd entry and the even one before it
-
-pub record FromEven (w : ℕ) (theme table : List ℕ) (even : ℕ) : Type 0 where
-  pub right : RightFrom (word w theme) table even
-  pub is_even : even % 2 ≡ 0
+-- ---- the theme's table: an odd entry and the even one before it, by half of that
 
 module _ (w : ℕ) (theme : List ℕ) {words : List ℕ} (e : words ≡ interval_words w theme) where
-  pub even_first : (table : List ℕ) → length table ≡ table_words
-      → FromEven w theme (set (set table highest_set (2 ^ w - 1)) (highest_set - 1) (get_or words 0 0)) (highest_set - 1)
-  even_first table l =
-      record {
-        right = right_more (highest_set - 1) (right_last table (2 ^ w - 1) l (word_none w theme)) refl (get_or words 0 0) (words_at w theme e 0 (omega arith));
-        is_even = refl;
-      }
+  pub pairs_first : (table : List ℕ) → length table ≡ table_words
+      → RightFrom (word w theme) (set (set table highest_set (2 ^ w - 1)) (highest_set - 1) (get_or words 0 0)) (highest_set - 1)
+  pairs_first table l =
+      right_more (highest_set - 1) (right_last table (2 ^ w - 1) l (word_none w theme)) refl (get_or words 0 0) (words_at w theme e 0 (omega arith))
 
-  module _ {table : List ℕ} {even : ℕ} (f : FromEven w theme table even) (h : 0 < even) where
+  module _ {table : List ℕ} {half : ℕ} (f : RightFrom (word w theme) table (2 * half)) (h : 0 < half) where
+    abbrev even : ℕ
+    even = 2 * (half - 1)
+
     abbrev odd : ℕ
-    odd = even - 2 + 1
+    odd = even + 1
 
-    next : odd + 1 ≡ even
-    next = omega (arith, f.is_even)
+    next : odd + 1 ≡ 2 * half
+    next = omega arith
 
     pub odd_source : bit_or odd (odd + 1) < table_words
-    odd_source = source_within odd f.right next
+    odd_source = source_within odd f next
 
     module _ {d : ℕ} (low : LowestInterval odd d) where
+      pub odd_lowest_lt : d < 12
+      odd_lowest_lt = lowest_lt low (omega (arith, f.within, next))
+
       abbrev v : ℕ
       v = bit_and (get_or table (bit_or odd (odd + 1)) 0) (get_or words d 0)
 
       abbrev x : ℕ
       x = bit_and (get_or (set table odd v) odd 0) (get_or words 0 0)
 
-      same : (even - 2) % 2 ≡ 0
-      same = omega (arith, f.is_even)
+      is_even : even % 2 ≡ 0
+      is_even = omega arith
 
       odd_right : RightFrom (word w theme) (set table odd v) odd
       odd_right =
-          right_more odd f.right next v
-          (ap (λ (z : ℕ). bit_and z (get_or words d 0)) (source_right odd f.right next)
-          ∙ sym (lowest_by_words w theme e low (omega (arith, f.right.within))))
+          right_more odd f next v
+          (ap (λ (z : ℕ). bit_and z (get_or words d 0)) (source_right odd f next)
+          ∙ sym (lowest_by_words w theme e low (omega (arith, f.within, next))))
 
-      even_right : x ≡ word w theme (even - 2)
+      even_right : x ≡ word w theme even
       even_right =
           ap (λ (z : ℕ). bit_and z (get_or words 0 0)) (odd_right.each odd (omega arith) odd_right.within)
-          ∙ ap (λ (z : ℕ). bit_and (word w theme z) (get_or words 0 0)) (sym (even_without (even - 2) same))
-          ∙ sym (lowest_by_words w theme e (even_lowest (even - 2) same) (omega (arith, odd_right.within)))
+          ∙ ap (λ (z : ℕ). bit_and (word w theme z) (get_or words 0 0)) (sym (even_without even is_even))
+          ∙ sym (lowest_by_words w theme e (even_lowest even is_even) (omega (arith, odd_right.within)))
 
-      pub even_more : FromEven w theme (set (set table odd v) (even - 2) x) (even - 2)
-      even_more = record { right = right_more (even - 2) odd_right refl x even_right; is_even = same }
+      pub pairs_more : RightFrom (word w theme) (set (set table odd v) even x) even
+      pairs_more = right_more even odd_right refl x even_right

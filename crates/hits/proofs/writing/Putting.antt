@@ -1,9 +1,9 @@
 -- What the loop that writes marked codes keeps: those written so far and those that are still marked are all that were marked.
 -- Then what is written in two parts, and what is not written. Assumes nothing.
 use mathlib.Core.Path.{◌≡◌, refl, sym, ap, ◌∙◌}
-use mathlib.Core.Bool.{Bool, true, false, not, ◌&&◌, true≢false}
+use mathlib.Core.Bool.{Bool, true, false, ◌&&◌}
 use mathlib.Core.List.{List, [], ◌∷◌, ◌++◌, map, map-append, append_assoc, append-nil}
-use Prim.Native.Nat.{ℕ, zero, suc, ◌+◌, ◌-◌, ◌*◌, ◌%◌, ◌^◌, ◌≤◌, ◌<◌}
+use Prim.Native.Nat.{ℕ, zero, suc, ◌+◌, ◌-◌, ◌*◌, ◌%◌, ◌^◌, ◌≤◌, ◌<◌, min}
 use native.Mathlib.Decide.{dec_le}
 use native.Mathlib.Omega.{arith}
 use lib.Bits.{bit_or}
@@ -13,7 +13,7 @@ use lib.IntN.{ℤ}
 use lib.ListN.{length, set, length-append, length-map, length-set}
 use lib.Pow.{pow_pos}
 use lib.Seq.{sets}
-use borrow.Author.Tests.{leb-true, le-leb, lt-leb, not-true}
+use borrow.Author.Tests.{leb-true, leb-false, le-leb, lt-leb}
 use Rattle.theory.specs.Marks.{marks}
 use Rattle.theory.proofs.Marks.{marks_zero, marks_ones, Lowest, marks_lowest}
 use Rattle.theory.proofs.Masks.{one_shl}
@@ -32,16 +32,22 @@ pub record Putting (way : Way) (j from half first : ℕ) (columns₀ : List ℕ)
   pub counted : at ≡ from + length out
   pub in_columns : columns ≡ sets columns₀ from (map (λ c. j) out)
   pub in_shifts : shifts ≡ sets shifts₀ from (map (shift_of way) out)
+  pub whole : half < 2 ^ 64
   pub small : left < 2 ^ 64
   pub long : length columns ≡ length columns₀
   pub long_shifts : length shifts ≡ length shifts₀
 
-module _ (way : Way) (j from half first : ℕ) (columns₀ : List ℕ) (shifts₀ : List ℤ) where
+-- both buffers have room for so many from a place on
+pub record Room (n at a b : ℕ) : Type 0 where
+  pub in_columns : at + n ≤ a
+  pub in_shifts : at + n ≤ b
+
+module _ {way : Way} {j from half first : ℕ} {columns₀ : List ℕ} {shifts₀ : List ℤ} where
   pub put_start : half < 2 ^ 64 → Putting way j from half first columns₀ shifts₀ columns₀ shifts₀ half from
   put_start h =
-      record { out = []; split = refl; counted = omega arith; in_columns = refl; in_shifts = refl; small = h; long = refl; long_shifts = refl }
+      record { out = []; split = refl; counted = omega arith; in_columns = refl; in_shifts = refl; whole = h; small = h; long = refl; long_shifts = refl }
 
-  module _ (columns : List ℕ) (shifts : List ℤ) (left at : ℕ) (t : Putting way j from half first columns₀ shifts₀ columns shifts left at) where
+  module _ {columns : List ℕ} {shifts : List ℤ} {left at : ℕ} (t : Putting way j from half first columns₀ shifts₀ columns shifts left at) where
     pub put_end : left ≡ 0 → Puts way j (marks 64 first half) from columns₀ shifts₀ at columns shifts
     put_end z =
         let e : t.out ≡ marks 64 first half = sym (append-nil t.out) ∙ rw (z, marks_zero 64 first) at t.split in
@@ -55,13 +61,14 @@ module _ (way : Way) (j from half first : ℕ) (columns₀ : List ℕ) (shifts�
           some zero n = absurd (n refl)
           some (suc x) n = omega arith
 
-      -- there is room, where there is room for all
-      pub put_room : half < 2 ^ 64 → at + 1 ≤ from + ones half
-      put_room h =
-          let a : length (marks 64 first half) ≡ ones half = marks_ones 64 first half h in
+      -- there is room for one more, where there is room for all
+      pub put_room : from + ones half ≤ length columns₀ → from + ones half ≤ length shifts₀ → Room 1 at (length columns) (length shifts)
+      put_room p q =
+          let a : length (marks 64 first half) ≡ ones half = marks_ones 64 first half t.whole in
           let b : length (t.out ++ marks 64 first left) ≡ length (marks 64 first half) = ap length t.split in
           let c : length (marks 64 first left) ≡ suc (length (marks 64 first (left - 2 ^ count_trailing_zeros 64 left))) = ap length lowest.splits in
-          omega (arith, a, b, c, length-append t.out (marks 64 first left), t.counted)
+          let r : at + 1 ≤ from + ones half = omega (arith, a, b, c, length-append t.out (marks 64 first left), t.counted) in
+          record { in_columns = omega (arith, t.long); in_shifts = omega (arith, t.long_shifts) }
 
       pub put_within : count_trailing_zeros 64 left < 64
       put_within = lowest.within
@@ -82,6 +89,7 @@ module _ (way : Way) (j from half first : ℕ) (columns₀ : List ℕ) (shifts�
             counted = omega (arith, t.counted, length-append t.out ((first + count_trailing_zeros 64 left) ∷ []));
             in_columns = rw (t.in_columns, map-append) (sets_more columns₀ from (map (λ c. j) t.out) j at (t.counted ∙ ap (λ (i : ℕ). from + i) (sym (length-map t.out _))));
             in_shifts = rw (e, t.in_shifts, map-append) (sets_more shifts₀ from (map (shift_of way) t.out) (shift_of way (first + count_trailing_zeros 64 left)) at (t.counted ∙ ap (λ (i : ℕ). from + i) (sym (length-map t.out _))));
+            whole = t.whole;
             small = omega (arith, t.small);
             long = length-set columns at j ∙ t.long;
             long_shifts = length-set shifts at c ∙ t.long_shifts;
@@ -104,30 +112,20 @@ puts_both way j some more at columns shifts middle columns₁ shifts₁ p end co
 
 -- ---- a word, where it fits and where not
 
--- room is counted from the place on, or from the beginning
-pub room_from : (n at hits : ℕ) → at ≤ n → leb hits (n - at) ≡ leb (at + hits) n
-room_from n at hits h = sides (dec_le hits (n - at))
-  where
-    sides : Dec (hits ≤ n - at) → leb hits (n - at) ≡ leb (at + hits) n
-    sides (yes l) = le-leb _ _ l ∙ sym (le-leb (at + hits) n (omega arith))
-    sides (no l) = lt-leb hits (n - at) (omega arith) ∙ sym (lt-leb (at + hits) n (omega arith))
+-- both buffers have room where the shorter one has it
+module _ (n at a b : ℕ) {least : ℕ} (e : least ≡ min a b) {fits : Bool} (f : fits ≡ leb (at + n) least) where
+  pub room_both : fits ≡ true → Room n at a b
+  room_both y = let l = leb-true (at + n) least (sym f ∙ y) in record { in_columns = omega (arith, e, l); in_shifts = omega (arith, e, l) }
 
--- both buffers have room for so many
-pub record Room (n at a b : ℕ) : Type 0 where
-  pub in_columns : at + n ≤ a
-  pub in_shifts : at + n ≤ b
-
-module _ (n at a b : ℕ) (x y : Bool) (p : x ≡ leb (at + n) a) (q : y ≡ leb (at + n) b) where
-  pub room_both : not (x && y) ≡ false → Room n at a b
-  room_both e = step x y p q e
+  pub room_none : fits ≡ false → (leb (at + n) a && leb (at + n) b) ≡ false
+  room_none y = pick (dec_le (at + n) a)
     where
-      step : (x y : Bool) → x ≡ leb (at + n) a → y ≡ leb (at + n) b → not (x && y) ≡ false → Room n at a b
-      step true true p q e = record { in_columns = leb-true _ _ (sym p); in_shifts = leb-true _ _ (sym q) }
-      step true false p q e = absurd (true≢false e)
-      step false y p q e = absurd (true≢false e)
+      l : least < at + n
+      l = leb-false (at + n) least (sym f ∙ y)
 
-  pub room_none : not (x && y) ≡ true → (leb (at + n) a && leb (at + n) b) ≡ false
-  room_none e = rw (← p, ← q) (not-true (x && y) e)
+      pick : Dec (at + n ≤ a) → (leb (at + n) a && leb (at + n) b) ≡ false
+      pick (yes h) = rw (le-leb (at + n) a h, lt-leb (at + n) b (omega (arith, e, l, h)))
+      pick (no h) = rw (lt-leb (at + n) a (omega arith))
 
 module _ (way : Way) (j : ℕ) (first : Pitch) (low high at : ℕ) (columns : List ℕ) (shifts : List ℤ) (h : Halves low high) where
   abbrev word : ℕ

@@ -1,53 +1,32 @@
--- What a loop along a column keeps that seeks a pitch which passes a test: none passed among the cells gone by (`Seeking`); and a cell that is a
--- pitch of a class. Assumes nothing.
-use mathlib.Core.Path.{◌≡◌, refl, sym, ◌∙◌}
-use mathlib.Core.Bool.{Bool, true, false, cond, ◌&&◌, true≢false}
-use mathlib.Core.List.{List, ◌∷◌}
-use Prim.Native.Nat.{ℕ, ◌+◌, ◌%◌, ◌≤◌, ◌<◌, zero-le}
-use native.Mathlib.Numerals.{add-one}
+-- A column asked cell by cell for a pitch that passes a test: some cell is a pitch that does exactly where some pitch of the
+-- column does (`some_cell`). Assumes nothing.
+use mathlib.Core.Path.{◌≡◌, refl}
+use mathlib.Core.Bool.{Bool, true, false, cond, ◌||◌, ◌&&◌}
+use mathlib.Core.List.{List, [], ◌∷◌}
+use Prim.Native.Nat.{ℕ, ◌≤◌}
 use native.Mathlib.Omega.{arith}
 use lib.Dec.{leb, eqb}
-use lib.ListN.{length, get_or, drop, drop_of_length-le}
-use lib.Seq.{drop-cons}
-use borrow.Author.Tests.{le-leb, leb-true}
+use borrow.Author.Tests.{leb-false, ne_eqb}
+use Rattle.std.specs.List.{list_any}
 use Rattle.theory.specs.Lists.{some}
 use Rattle.score.specs.declared.quantities.Pitch.{Pitch}
 use Rattle.score.specs.Score.{pitch, pitches}
 
-pub record Seeking (test : Pitch → Bool) (column : List ℕ) (i : ℕ) : Type 0 where
-  pub up_to : i ≤ length column
-  pub same : some test (pitches (drop i column)) ≡ some test (pitches column)
-
-pub seek_start : (test : Pitch → Bool) (column : List ℕ) → Seeking test column 0
-seek_start test column = record { up_to = zero-le; same = refl }
-
-module _ (test : Pitch → Bool) (column : List ℕ) (i : ℕ) (k : i < length column) (s : Seeking test column i) where
-  split : some test (pitches (get_or column i 0 ∷ drop (i + 1) column)) ≡ some test (pitches column)
-  split =
-      let e : drop i column ≡ get_or column i 0 ∷ drop (i + 1) column = rw add-one (drop-cons column i 0 k) in
-      rw e at s.same
-
-  pub seek_found : get_or column i 0 ≤ 127 → test (pitch (get_or column i 0)) ≡ true → true ≡ some test (pitches column)
-  seek_found low e = rw (le-leb (get_or column i 0) 127 low, e) at split
-
-  pub seek_turn : (get_or column i 0 ≤ 127 → test (pitch (get_or column i 0)) ≡ false) → Seeking test column (i + 1)
-  seek_turn e = record { up_to = omega arith; same = passed (leb (get_or column i 0) 127) refl ∙ split }
+module _ (passes : ℕ → Bool) (test : Pitch → Bool) (same : (cell : ℕ) → passes cell ≡ (leb cell 127 && test (pitch cell))) where
+  pub some_cell : (column : List ℕ) → list_any passes column ≡ some test (pitches column)
+  some_cell [] = refl
+  some_cell (cell ∷ cells) = rw same (step (leb cell 127) (test (pitch cell)) refl (some_cell cells))
     where
-      passed : (t : Bool) → leb (get_or column i 0) 127 ≡ t
-          → some test (pitches (drop (i + 1) column)) ≡ some test (cond t (pitch (get_or column i 0) ∷ pitches (drop (i + 1) column)) (pitches (drop (i + 1) column)))
-      passed true l = rw (e (leb-true (get_or column i 0) 127 l))
-      passed false l = refl
+      step : (low t : Bool) → test (pitch cell) ≡ t → list_any passes cells ≡ some test (pitches cells)
+          → ((low && t) || list_any passes cells) ≡ some test (cond low (pitch cell ∷ pitches cells) (pitches cells))
+      step true true q e = rw q
+      step true false q e = rw q e
+      step false t q e = e
 
-pub seek_end : (test : Pitch → Bool) (column : List ℕ) (i : ℕ) → length column ≤ i → Seeking test column i → false ≡ some test (pitches column)
-seek_end test column i k s = rw (drop_of_length-le column {i = i} k) at s.same
-
--- a cell that is a pitch of a class, and one that is not
-pub class_true : (cell class : ℕ) → (leb cell 127 && eqb (cell % 12) class) ≡ true → (cell ≤ 127) × (eqb (cell % 12) class ≡ true)
-class_true cell class e = step (leb cell 127) refl e
+-- a pitch is sought: a cell that is the same is one too
+pub same_cell : (p : ℕ) → p ≤ 127 → (cell : ℕ) → eqb cell p ≡ (leb cell 127 && eqb cell p)
+same_cell p h cell = pick (leb cell 127) refl
   where
-    step : (t : Bool) → leb cell 127 ≡ t → (t && eqb (cell % 12) class) ≡ true → (cell ≤ 127) × (eqb (cell % 12) class ≡ true)
-    step true l k = (leb-true cell 127 l, k)
-    step false l k = absurd (true≢false (sym k))
-
-pub class_false : (cell class : ℕ) → (leb cell 127 && eqb (cell % 12) class) ≡ false → cell ≤ 127 → eqb (cell % 12) class ≡ false
-class_false cell class e l = rw (le-leb cell 127 l) at e
+    pick : (b : Bool) → leb cell 127 ≡ b → eqb cell p ≡ (b && eqb cell p)
+    pick true e = refl
+    pick false e = let l = leb-false cell 127 e in ne_eqb cell p (λ o. omega (arith, l, o))

@@ -21,15 +21,12 @@ use Rattle.asking.specs.Asking.{PlainAsks, QuickAsks}
 use Rattle.asking.proofs.Rows.{plain_clear, quick_clear}
 use Rattle.filter.specs.Limits.{word_bits}
 use Rattle.filter.specs.Table.{theme_table}
-use Rattle.paging.specs.declared.page.Page.{Page}
-use Rattle.paging.specs.declared.page.Page.TheVariants.{Turned, Refused}
 use Rattle.paging.specs.Lent.{Lent, lent, written}
 use Rattle.paging.specs.Search.{Search, left}
 use Rattle.paging.specs.Page.{leaf, away, paged, Pages}
 use Rattle.paging.specs.Turning.{read_turn}
 use Rattle.paging.proofs.Turnings.{away_pages, went_pages}
 use Rattle.walking.specs.declared.walked.Walked.{Walked}
-use Rattle.walking.specs.declared.calls.Walk.TheVariants.{Done, Refused as Away}
 use Rattle.walking.specs.Starts.{Place, key, starts, hit, looks}
 use Rattle.walking.specs.Candidates.{quick_starts}
 use Rattle.walking.specs.Found.{Finds, PlainWalks, QuickWalks}
@@ -39,6 +36,8 @@ use Rattle.search.specs.Pairs.{pair_at}
 use Rattle.search.specs.Page.{rows_of_plain, rows_of_quick, quick_table}
 use Rattle.search.specs.Along.{along_page, AlongPages, quick_along_page, QuickAlongPages}
 use Rattle.search.proofs.Reached.{left_plain, left_quick, places_written}
+use Rattle.std.specs.Prelude.{Result, Ok, Err}
+use Rattle.paging.specs.declared.page.Turn.{Turn}
 
 -- ---- any search along the starts of a way
 
@@ -46,15 +45,15 @@ module _ (rows : List Row) (way : Way) (score : List (List ℕ)) (theme : List �
   abbrev S : Search Place
   S = record { columns = length score; range = range_of way; starts = reached; hit = hit way score theme; looks = looks way score theme; shown = pair_at way }
 
-  search_away : {e : Refusal} {columns' : List ℕ} {shifts' : List ℤ} → Finds rows way score theme reached b columns shifts (Away e) columns' shifts'
-      → Pages (paged rows S b (lent columns shifts)) (Refused e) (lent columns' shifts')
+  search_away : {e : Refusal} {columns' : List ℕ} {shifts' : List ℤ} → Finds rows way score theme reached b columns shifts (Err e) columns' shifts'
+      → Pages (paged rows S b (lent columns shifts)) (Err e) (lent columns' shifts')
   search_away l =
       let f = finds_refused rows way score theme reached b columns shifts l in
       away_pages rows S b (lent columns shifts) (judge_away (away (lent columns shifts)) (leaf S b (lent columns shifts)) rows f.0) (rw (f.1, f.2))
 
   search_turns : 1 ≤ length columns → length shifts ≡ length columns → from key (key_of way b) reached ≡ left S b → {w : Walked} {columns' : List ℕ} {shifts' : List ℤ}
-      → Finds rows way score theme reached b columns shifts (Done w) columns' shifts' → {n : ℕ} {page : Page} → n ≡ length score
-      → page ≡ Turned (read_turn (finished_bookmark (range_of way) (column_at n)) w.found w.looks (lent columns' shifts'))
+      → Finds rows way score theme reached b columns shifts (Ok w) columns' shifts' → {n : ℕ} {page : Result Turn Refusal} → n ≡ length score
+      → page ≡ Ok (read_turn (finished_bookmark (range_of way) (column_at n)) w.found w.looks (lent columns' shifts'))
       → Pages (paged rows S b (lent columns shifts)) page (lent columns' shifts')
   search_turns some same e {w} {columns'} {shifts'} l {n} {page} is r =
       let v = finds_went rows way score theme reached b columns shifts l in
@@ -71,15 +70,15 @@ module _ (rows : List Row) (way : Way) (score : List (List ℕ)) (theme : List �
 -- ---- plain
 
 module _ (cells : List ℕ) (h : ℕ) (theme : List ℕ) (way : Way) (b : Bookmark) (columns : List ℕ) (shifts : List ℤ) {columns' : List ℕ} {shifts' : List ℤ} where
-  pub plain_away : {e : Refusal} → PlainWalks cells h theme way b columns shifts (Away e) columns' shifts'
-      → AlongPages cells h theme (Moved way) b (lent columns shifts) (Refused e) (lent columns' shifts')
+  pub plain_away : {e : Refusal} → PlainWalks cells h theme way b columns shifts (Err e) columns' shifts'
+      → AlongPages cells h theme (Moved way) b (lent columns shifts) (Err e) (lent columns' shifts')
   unfolding along_page
   plain_away l =
       record {
         pages = search_away (rows_of_plain cells h theme (Moved way) b (lent columns shifts)) way (score_of cells h) theme (starts way (score_of cells h) theme) b columns shifts l;
       }
 
-  module _ {w : Walked} (l : PlainWalks cells h theme way b columns shifts (Done w) columns' shifts') where
+  module _ {w : Walked} (l : PlainWalks cells h theme way b columns shifts (Ok w) columns' shifts') where
     asked : PlainAsks cells h theme (Moved way) b columns shifts
     asked = (plain_clear cells h theme (Moved way) b columns shifts).1 (finds_clear _ _ _ _ _ _ _ _ l)
 
@@ -87,8 +86,8 @@ module _ (cells : List ℕ) (h : ℕ) (theme : List ℕ) (way : Way) (b : Bookma
     pub plain_fits : {n : ℕ} → n ≡ columns_in cells h → n < 65536
     plain_fits e = omega (arith, e, asked.accepted.columns_few)
 
-    pub plain_turns : {n : ℕ} {page : Page} → n ≡ columns_in cells h
-        → page ≡ Turned (read_turn (finished_bookmark (range_of way) (column_at n)) w.found w.looks (lent columns' shifts'))
+    pub plain_turns : {n : ℕ} {page : Result Turn Refusal} → n ≡ columns_in cells h
+        → page ≡ Ok (read_turn (finished_bookmark (range_of way) (column_at n)) w.found w.looks (lent columns' shifts'))
         → AlongPages cells h theme (Moved way) b (lent columns shifts) page (lent columns' shifts')
     unfolding along_page
     plain_turns e r =
@@ -100,7 +99,7 @@ module _ (cells : List ℕ) (h : ℕ) (theme : List ℕ) (way : Way) (b : Bookma
         }
 
 -- a page of the tune as it is written is one of the call of all ways
-pub written_along : {cells : List ℕ} {h : ℕ} {theme : List ℕ} {b : Bookmark} {buffers : Lent} {answer : Page} {after : Lent}
+pub written_along : {cells : List ℕ} {h : ℕ} {theme : List ℕ} {b : Bookmark} {buffers : Lent} {answer : Result Turn Refusal} {after : Lent}
     → WrittenPages cells h theme b buffers answer after → AlongPages cells h theme Written b buffers answer after
 unfolding along_page written_page
 written_along p = record { pages = p.pages }
@@ -108,8 +107,8 @@ written_along p = record { pages = p.pages }
 -- ---- quick
 
 module _ (cells : List ℕ) (h : ℕ) (theme : List ℕ) (way : Way) (b : Bookmark) (sets table columns : List ℕ) (shifts : List ℤ) {table' columns' : List ℕ} {shifts' : List ℤ} where
-  pub quick_away : {e : Refusal} → QuickWalks cells h theme way b sets table columns shifts (Away e) table' columns' shifts'
-      → QuickAlongPages cells h theme way b sets table (lent columns shifts) (Refused e) table' (lent columns' shifts')
+  pub quick_away : {e : Refusal} → QuickWalks cells h theme way b sets table columns shifts (Err e) table' columns' shifts'
+      → QuickAlongPages cells h theme way b sets table (lent columns shifts) (Err e) table' (lent columns' shifts')
   unfolding quick_along_page quick_table quick_starts
   quick_away l =
       record {
@@ -117,15 +116,15 @@ module _ (cells : List ℕ) (h : ℕ) (theme : List ℕ) (way : Way) (b : Bookma
         fills_table = l.fills_table;
       }
 
-  module _ {w : Walked} (l : QuickWalks cells h theme way b sets table columns shifts (Done w) table' columns' shifts') where
+  module _ {w : Walked} (l : QuickWalks cells h theme way b sets table columns shifts (Ok w) table' columns' shifts') where
     asked_quick : QuickAsks cells h theme way b sets table columns shifts
     asked_quick = (quick_clear cells h theme way b sets table columns shifts).1 (finds_clear _ _ _ _ _ _ _ _ l.finds)
 
     pub quick_fits : {n : ℕ} → n ≡ columns_in cells h → n < 65536
     quick_fits e = omega (arith, e, asked_quick.plain.accepted.columns_few)
 
-    pub quick_turns : {n : ℕ} {page : Page} → n ≡ columns_in cells h
-        → page ≡ Turned (read_turn (finished_bookmark (range_of way) (column_at n)) w.found w.looks (lent columns' shifts'))
+    pub quick_turns : {n : ℕ} {page : Result Turn Refusal} → n ≡ columns_in cells h
+        → page ≡ Ok (read_turn (finished_bookmark (range_of way) (column_at n)) w.found w.looks (lent columns' shifts'))
         → QuickAlongPages cells h theme way b sets table (lent columns shifts) page table' (lent columns' shifts')
     unfolding quick_along_page quick_table quick_starts
     quick_turns e r =

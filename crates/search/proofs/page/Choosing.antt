@@ -14,8 +14,6 @@ use borrow.Author.Tests.{not-true, not-false}
 use Rattle.theory.specs.Lists.{count}
 use Rattle.theory.proofs.Lists.{count_length, count_at, map_at}
 use Rattle.score.specs.declared.refusals.Refusal.{Refusal}
-use Rattle.score.specs.declared.refusals.Verdict.{Verdict}
-use Rattle.score.specs.declared.refusals.Verdict.TheVariants.{Accepted as Passed, Refused as Away}
 use Rattle.score.specs.Score.{columns_in, score_of, heard, has_empty, heard_of, number_of}
 use Rattle.score.specs.Refusals.{Row, verdict, judge}
 use Rattle.score.specs.Limits.{most_columns, most_cells}
@@ -31,8 +29,6 @@ use Rattle.asking.specs.Asking.{Accepted, PlainAsks, QuickAsks}
 use Rattle.asking.proofs.Rows.{plain_clear, quick_clear}
 use Rattle.filter.specs.Limits.{word_bits}
 use Rattle.filter.specs.Table.{theme_table}
-use Rattle.paging.specs.declared.page.Page.{Page}
-use Rattle.paging.specs.declared.page.Page.TheVariants.{Refused}
 use Rattle.paging.specs.Lent.{Lent, lent}
 use Rattle.paging.specs.Search.{Search, Right}
 use Rattle.paging.specs.Page.{Leaf, leaf, away, paged, Pages}
@@ -45,6 +41,8 @@ use Rattle.search.specs.Page.{rows_of_plain, plain_page, PlainPages, rows_of_qui
 use Rattle.search.specs.Along.{along_page, AlongPages, quick_along, quick_along_page, QuickAlongPages, goes_along, Leaves}
 use Rattle.search.proofs.Searches.{along_right}
 use Rattle.search.proofs.page.Silent.{none_heard, some_heard, silent_leaf, silent_quick_leaf}
+use Rattle.std.specs.Prelude.{Result, Ok, Err}
+use Rattle.paging.specs.declared.page.Turn.{Turn}
 
 -- ---- no column is empty
 
@@ -142,16 +140,16 @@ module _ (cells : List ℕ) (h : ℕ) (theme : List ℕ) (way : AnyWay) (b : Boo
       judge_where (away buffers) (leaf (search_as way score theme) b buffers) (leaf (along_as way score theme) b buffers) rows
       (λ c. let a = ((plain_clear cells h theme way b columns shifts).1 c).accepted in silent_leaf score theme silent (omega (arith, a.notes_some)) b buffers way)
 
-  pub along_pages : {t : Bool} → t ≡ goes_along cells h → t ≡ true → {answer : Page} {after : Lent} → AlongPages cells h theme way b buffers answer after
+  pub along_pages : {t : Bool} → t ≡ goes_along cells h → t ≡ true → {answer : Result Turn Refusal} {after : Lent} → AlongPages cells h theme way b buffers answer after
       → PlainPages cells h theme way b buffers answer after
   along_pages e g {answer} {after} p =
       record { pages = subst (λ (l : Leaf). Pages l answer after) (sym (goes_either cells h (sym e ∙ g) full_page silent_page)) p.pages }
 
   -- what was checked is asked right, or turned away
-  pub plain_checked : {v : Verdict} → v ≡ verdict rows → v ≡ Passed → PlainAsks cells h theme way b columns shifts
+  pub plain_checked : {v : Result (Unit {0}) Refusal} → v ≡ verdict rows → v ≡ Ok tt → PlainAsks cells h theme way b columns shifts
   plain_checked e p = (plain_clear cells h theme way b columns shifts).1 (verdict_clear rows (sym e ∙ p))
 
-  pub plain_refused : {v : Verdict} {r : Refusal} → v ≡ verdict rows → v ≡ Away r → PlainPages cells h theme way b buffers (Refused r) buffers
+  pub plain_refused : {v : Result (Unit {0}) Refusal} {r : Refusal} → v ≡ verdict rows → v ≡ Err r → PlainPages cells h theme way b buffers (Err r) buffers
   unfolding plain_page
   plain_refused e p =
       let S = search_as way (score_of cells h) theme in
@@ -190,7 +188,7 @@ module _ (cells : List ℕ) (h : ℕ) (theme : List ℕ) (way : Way) (b : Bookma
       (λ c. let a = ((quick_clear cells h theme way b sets table columns shifts).1 c).plain.accepted in
       silent_quick_leaf score theme silent (omega (arith, a.notes_some)) b lents word_bits way T sets)
 
-  pub along_quick_pages : {t : Bool} → t ≡ goes_along cells h → t ≡ true → {answer : Page} {table' : List ℕ} {after : Lent}
+  pub along_quick_pages : {t : Bool} → t ≡ goes_along cells h → t ≡ true → {answer : Result Turn Refusal} {table' : List ℕ} {after : Lent}
       → QuickAlongPages cells h theme way b sets table lents answer table' after → QuickPages cells h theme way b sets table lents answer table' after
   along_quick_pages e g {answer} {table'} {after} p =
       record {
@@ -198,10 +196,10 @@ module _ (cells : List ℕ) (h : ℕ) (theme : List ℕ) (way : Way) (b : Bookma
         fills_table = p.fills_table;
       }
 
-  pub quick_checked : {v : Verdict} → v ≡ verdict quickly → v ≡ Passed → QuickAsks cells h theme way b sets table columns shifts
+  pub quick_checked : {v : Result (Unit {0}) Refusal} → v ≡ verdict quickly → v ≡ Ok tt → QuickAsks cells h theme way b sets table columns shifts
   quick_checked e p = (quick_clear cells h theme way b sets table columns shifts).1 (verdict_clear quickly (sym e ∙ p))
 
-  pub quick_refused : {v : Verdict} {r : Refusal} → v ≡ verdict quickly → v ≡ Away r → QuickPages cells h theme way b sets table lents (Refused r) table lents
+  pub quick_refused : {v : Result (Unit {0}) Refusal} {r : Refusal} → v ≡ verdict quickly → v ≡ Err r → QuickPages cells h theme way b sets table lents (Err r) table lents
   unfolding quick_page quick_table
   quick_refused {v} {r} e p =
       let S = quick_search word_bits way (score_of cells h) theme (theme_table word_bits theme) sets in

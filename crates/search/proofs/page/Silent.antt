@@ -23,7 +23,6 @@ use Rattle.ways.specs.declared.way.AnyWay.TheVariants.{Moved, Written}
 use Rattle.ways.specs.declared.bookmark.Pair.{Pair}
 use Rattle.ways.specs.declared.bookmark.Bookmark.{Bookmark}
 use Rattle.ways.specs.Way.{Range, range_of, range_as, span, holds}
-use Rattle.paging.specs.declared.page.Page.TheVariants.{Turned}
 use Rattle.paging.specs.Lent.{Lent, written}
 use Rattle.paging.specs.Order.{at_or_after}
 use Rattle.paging.specs.Search.{Search, left, found, spent}
@@ -33,6 +32,7 @@ use Rattle.walking.specs.Candidates.{candidate}
 use Rattle.written.specs.Written.{stands_at}
 use Rattle.search.specs.Pairs.{along_as, search_as, candidate_of, quick_search}
 use Rattle.search.specs.Along.{quick_along}
+use Rattle.std.specs.Prelude.{Ok}
 
 -- ---- cells and columns
 
@@ -120,7 +120,7 @@ pub record Nothing {Start : Type 0} (S : Search Start) : Type 0 where
 -- two of them have the same pages
 module _ (range : Range) (n : ℕ) (b : Bookmark) (buffers : Lent) where
   abbrev page : List Pair → ℕ → Leaf
-  page pairs looks = record { answer = Turned (turn range n (length buffers.columns) pairs looks); buffers = written buffers pairs }
+  page pairs looks = record { answer = Ok (turn range n (length buffers.columns) pairs looks); buffers = written buffers pairs }
 
   pub nothing_leaf : {A B : Type 0} (S : Search A) (T : Search B) → Nothing S → Nothing T → S.range ≡ range → T.range ≡ range → S.columns ≡ n → T.columns ≡ n
       → leaf S b buffers ≡ leaf T b buffers

@@ -34,8 +34,6 @@ use Rattle.asking.proofs.Rows.{plain_clear, quick_clear}
 use Rattle.filter.specs.Limits.{word_bits}
 use Rattle.filter.specs.Table.{theme_table}
 use Rattle.paging.specs.declared.page.Turn.{Turn}
-use Rattle.paging.specs.declared.page.Page.{Page}
-use Rattle.paging.specs.declared.page.Page.TheVariants.{Turned, Refused}
 use Rattle.paging.specs.Lent.{lent}
 use Rattle.paging.specs.Order.{at_or_after}
 use Rattle.paging.specs.Search.{Search, Right, renamed}
@@ -51,6 +49,7 @@ use Rattle.search.specs.Along.{along_page, AlongPages, quick_along, quick_along_
 use Rattle.search.proofs.Numbers.{heard_few}
 use Rattle.search.proofs.Kept.{kept_length, kept_columns, kept_score, kept_accepted, among_range, among_same}
 use Rattle.search.proofs.Searches.{along_right}
+use Rattle.std.specs.Prelude.{Result, Ok, Err}
 
 -- ---- a bookmark among columns with these numbers
 
@@ -70,12 +69,12 @@ module _ (range : Range) (numbers : List ℕ) (b : Bookmark) {at : ℕ} {t : Boo
 
 -- ---- a page along columns as one of the score
 
-module _ {page : Page} {numbers columns : List ℕ} {shifts : List ℤ} where
-  pub in_turned : {columns' : List ℕ} {t u : Turn} {last end : Bookmark} → page ≡ Turned t → Renames columns t.written numbers columns' → last ≡ end
-      → u ≡ read_turn last t.written t.looks (lent columns' shifts) → InScore page end numbers columns shifts (Turned u) columns'
-  in_turned e r l a = rw e (record { renames = r.renamed; answers = rw (← l) (ap Turned a) })
+module _ {page : Result Turn Refusal} {numbers columns : List ℕ} {shifts : List ℤ} where
+  pub in_turned : {columns' : List ℕ} {t u : Turn} {last end : Bookmark} → page ≡ Ok t → Renames columns t.written numbers columns' → last ≡ end
+      → u ≡ read_turn last t.written t.looks (lent columns' shifts) → InScore page end numbers columns shifts (Ok u) columns'
+  in_turned e r l a = rw e (record { renames = r.renamed; answers = rw (← l) (ap Ok a) })
 
-  pub in_refused : {r : Refusal} {end : Bookmark} → page ≡ Refused r → InScore page end numbers columns shifts (Refused r) columns
+  pub in_refused : {r : Refusal} {end : Bookmark} → page ≡ Err r → InScore page end numbers columns shifts (Err r) columns
   in_refused e = rw e (record { renames = refl; answers = refl })
 
 -- ---- what was taken out
@@ -204,15 +203,15 @@ module _ (cells : List ℕ) (h : ℕ) (theme : List ℕ) (way : AnyWay) (b : Boo
       ∙ ap (λ (s : List (List ℕ)). leaf (along_as way s theme) b' (lent columns shifts)) (kept_score most_notes cells h theme a)
 
   -- a page along them, renamed and read anew
-  in_score : {columns' columns'' : List ℕ} {shifts' : List ℤ} {answer : Page} (page : Page) → Pages (leaf along b' (lent columns shifts)) page (lent columns' shifts')
+  in_score : {columns' columns'' : List ℕ} {shifts' : List ℤ} {answer : Result Turn Refusal} (page : Result Turn Refusal) → Pages (leaf along b' (lent columns shifts)) page (lent columns' shifts')
       → InScore page (finished_bookmark (range_as way) (column_at (length score))) (heard_from 1 score) columns' shifts' answer columns''
       → Pages (plain_page cells h theme way b (lent columns shifts)) answer (lent columns'' shifts')
   unfolding plain_page
-  in_score (Turned u) p i =
+  in_score (Ok u) p i =
       rw i.answers
       (renumbered_pages (length score) (number_of score) along b b' same (rows_of_plain cells h theme way b (lent columns shifts)) columns shifts asks.room asks.same_room plain_rows p
       i.renames refl)
-  in_score (Refused r) p i = absurd (turned_refused (sym p.answers))
+  in_score (Err r) p i = absurd (turned_refused (sym p.answers))
 
   -- a page along them, renamed, is one of the score
   module _ {n q k : ℕ} {kept numbers : List ℕ} (t : Took cells h theme a q kept numbers) (counted : n ≡ columns_in cells h) (e : k ≡ q * h) where
@@ -220,7 +219,7 @@ module _ (cells : List ℕ) (h : ℕ) (theme : List ℕ) (way : AnyWay) (b : Boo
     some_heard = omega (arith, t.some, t.many)
 
     pub passed_turns : {mark : Bookmark} → mark ≡ among (range_as way) (take q numbers) b
-        → {page answer : Page} {columns' columns'' : List ℕ} {shifts' : List ℤ}
+        → {page answer : Result Turn Refusal} {columns' columns'' : List ℕ} {shifts' : List ℤ}
         → AlongPages (take k kept) h theme way mark (lent columns shifts) page (lent columns' shifts')
         → InScore page (finished_bookmark (range_as way) (column_at n)) (take q numbers) columns' shifts' answer columns''
         → PlainPages cells h theme way b (lent columns shifts) answer (lent columns'' shifts')
@@ -308,15 +307,15 @@ module _ (cells : List ℕ) (h : ℕ) (theme : List ℕ) (way : Way) (b : Bookma
       judge_clear (λ r. table) (theme_table word_bits theme) (rows_of_quick (join columns_heard) h theme way mark' entries table (lent columns shifts))
       ((quick_clear (join columns_heard) h theme way mark' entries table columns shifts).0 (kept_quick_asks some))
 
-  in_score_quick : {columns' columns'' : List ℕ} {shifts' : List ℤ} {answer : Page} (page : Page) → Pages (leaf candidates mark' (lent columns shifts)) page (lent columns' shifts')
+  in_score_quick : {columns' columns'' : List ℕ} {shifts' : List ℤ} {answer : Result Turn Refusal} (page : Result Turn Refusal) → Pages (leaf candidates mark' (lent columns shifts)) page (lent columns' shifts')
       → InScore page (finished_bookmark (range_as (Moved way)) (column_at (length (score_of cells h)))) (heard_from 1 (score_of cells h)) columns' shifts' answer columns''
       → Pages (quick_page cells h theme way b sets table (lent columns shifts)) answer (lent columns'' shifts')
   unfolding quick_page
-  in_score_quick (Turned u) p i =
+  in_score_quick (Ok u) p i =
       rw i.answers
       (renumbered_pages (length (score_of cells h)) (number_of (score_of cells h)) candidates b mark' same_candidates
       (rows_of_quick cells h theme way b sets table (lent columns shifts)) columns shifts plainly.room plainly.same_room quick_rows p i.renames refl)
-  in_score_quick (Refused r) p i = absurd (turned_refused (sym p.answers))
+  in_score_quick (Err r) p i = absurd (turned_refused (sym p.answers))
 
   -- the entries of the columns that are kept
   kept_entries : {q last : ℕ} {kept numbers into into' : List ℕ} → Took cells h theme plainly.accepted q kept numbers → last ≡ q - 1 → length into ≡ most_columns
@@ -339,7 +338,7 @@ module _ (cells : List ℕ) (h : ℕ) (theme : List ℕ) (way : Way) (b : Bookma
     quick_heard = omega (arith, t.some, t.many)
 
     pub passed_quick_turns : {mark : Bookmark} → mark ≡ among (range_as (Moved way)) (take q numbers) b
-        → {page answer : Page} {table' columns' columns'' : List ℕ} {shifts' : List ℤ}
+        → {page answer : Result Turn Refusal} {table' columns' columns'' : List ℕ} {shifts' : List ℤ}
         → QuickAlongPages (take k kept) h theme way mark (take last into') table (lent columns shifts) page table' (lent columns' shifts')
         → InScore page (finished_bookmark (range_as (Moved way)) (column_at n)) (take q numbers) columns' shifts' answer columns''
         → QuickPages cells h theme way b sets table (lent columns shifts) answer table' (lent columns'' shifts')

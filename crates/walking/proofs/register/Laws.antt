@@ -2,14 +2,13 @@
 -- m - 2 is that of the register that took every entry. One entry more is `reg_from_more` of theory. Then columns that are decided one
 -- after another: no column, one, and those behind; and what the loop keeps that lists candidates. Assumes nothing.
 use mathlib.Core.Path.{◌≡◌, refl, sym, ap, ◌∙◌}
-use mathlib.Core.Bool.{Bool, true, false, cond, ◌&&◌}
+use mathlib.Core.Bool.{Bool, true, false, cond}
 use mathlib.Core.List.{List, [], ◌∷◌, ◌++◌, append-nil}
 use Prim.Native.Nat.{ℕ, ◌+◌, ◌-◌, ◌%◌, ◌≤◌, ◌<◌}
 use native.Mathlib.Nat.{mod-eq_of_lt}
 use native.Mathlib.Omega.{arith}
-use lib.Dec.{eqb, ltb}
+use lib.Dec.{eqb}
 use lib.ListN.{length, set, length-append}
-use borrow.Author.Tests.{ltb-false}
 use Rattle.theory.specs.Lists.{count, over}
 use Rattle.theory.specs.Bits.{bit}
 use Rattle.theory.specs.Register.{step, reg_from}
@@ -34,7 +33,7 @@ warmed_filters table sets m j register notes first e =
     record { start = j - 1; before = omega arith; runs = record { begun = omega arith; taken = rw k at e } }
 
 -- what is asked for at a column is asked for at a later one before the end
-pub lent_on : {sets table : List ℕ} {m j end : ℕ} → Lent sets table m j end → {k : ℕ} → j ≤ k → k < end → Lent sets table m k end
+pub lent_on : {sets : List ℕ} {m j end : ℕ} → Lent sets m j end → {k : ℕ} → j ≤ k → k < end → Lent sets m k end
 lent_on l q r =
     record {
       notes = l.notes;
@@ -43,8 +42,6 @@ lent_on l q r =
       some = r;
       to_last = l.to_last;
       sets_few = l.sets_few;
-      sets_small = l.sets_small;
-      table_long = l.table_long;
     }
 
 -- ---- columns are decided, one after another
@@ -69,7 +66,7 @@ decide_append {table} {sets} {m} {j} {k = k} {k' = k'} p q =
     }
 
 -- one column: the register takes its entry, and its bit m - 2 says whether it is a candidate
-module _ {table sets : List ℕ} {m j end : ℕ} (lent : Lent sets table m j end) {register k : ℕ} (f : Filters table sets m register k) (here : k < end)
+module _ {table sets : List ℕ} {m j end : ℕ} (lent : Lent sets m j end) {register k : ℕ} (f : Filters table sets m register k) (here : k < end)
     {register' : ℕ} (e : register' ≡ step word_bits register (entry_word table sets (k + m - 3)))
     {marked : Bool} (d : marked ≡ eqb (bit register' ((m - 2) % word_bits)) 0) where
   taken : Runs table sets f.start register' (k + m - 3 + 1)
@@ -100,7 +97,7 @@ module _ {table sets : List ℕ} {m j end : ℕ} (lent : Lent sets table m j end
 
 -- ---- a candidate is sought from column j on, and none stands before column k
 
-module _ {table sets : List ℕ} {m j end : ℕ} (lent : Lent sets table m j end) {register k : ℕ} (t : Decides table sets m j end register k []) where
+module _ {table sets : List ℕ} {m j end : ℕ} (lent : Lent sets m j end) {register k : ℕ} (t : Decides table sets m j end register k []) where
   -- the end is reached
   pub seek_end : end ≤ k → Seeks table sets m j end register k false
   seek_end q = record { decides = t; more = omega (arith, lent.some) }
@@ -158,19 +155,14 @@ module _ {table sets : List ℕ} {m j end : ℕ} {list₀ : List ℕ} where
         pick false d a l =
             record { candidates = t.candidates; decides = rw append-nil at d; counted = a ∙ t.counted; listed = l ∙ t.listed }
 
-    -- the end is reached, or as many are listed as are wanted
-    pub list_end : {wanted : ℕ} → j < end → 1 ≤ wanted → (more : Bool) → (more ≡ false → end ≤ k) → (more && ltb at wanted) ≡ false
-        → at ≤ length list₀ → ListsCandidates table sets m j end list₀ register k at list
-    list_end {wanted} some one more none stop few =
+    -- some column is decided: the end is reached, or as many are listed as are wanted
+    pub list_end : j < k → at ≤ length list₀ → ListsCandidates table sets m j end list₀ register k at list
+    list_end some few =
         record {
           candidates = t.candidates;
           decides = t.decides;
-          more = step more refl stop;
+          more = some;
           counted = t.counted;
           few = few;
           listed = t.listed;
         }
-      where
-        step : (b : Bool) → more ≡ b → (b && ltb at wanted) ≡ false → j < k
-        step true e q = omega (arith, list_at, ltb-false at wanted q)
-        step false e q = omega (arith, none e)

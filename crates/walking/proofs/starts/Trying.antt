@@ -7,8 +7,9 @@ use Prim.Native.Nat.{ℕ, suc, ◌+◌, ◌-◌, ◌*◌, ◌≤◌, ◌<◌}
 use native.Mathlib.Nat.{suc-mul, le_trans, le_of_eq, mul-le-mul_right}
 use native.Mathlib.Numerals.{add-one}
 use native.Mathlib.Omega.{arith}
-use lib.ListN.{length, get_or, take, drop, drop_of_length-le}
+use lib.ListN.{length, get_or, take, drop, drop_of_length-le, length-drop}
 use lib.Seq.{drop-cons, drop-drop, get_or-drop}
+use Rattle.std.proofs.lemmas.List.{take_rest}
 use Rattle.score.specs.Score.{pitch, columns_in, score_of}
 use Rattle.score.proofs.Columns.{cut_at}
 use Rattle.ways.specs.declared.way.Way.{Way}
@@ -30,6 +31,17 @@ module _ (cells : List ℕ) (h : ℕ) where
   -- which lie within the score
   pub cells_within : (theme : List ℕ) → Ready cells h theme → (k : ℕ) → k < columns_in cells h → k * h + h ≤ length cells
   cells_within theme r k q = le_trans (le_of_eq (sym (suc-mul k h))) (le_trans (mul-le-mul_right h q) (le_of_eq r.whole))
+
+-- ---- the notes from the second on
+
+pub notes_behind : (theme : List ℕ) → length (take (length theme - 1) (drop 1 theme)) ≡ length theme - 1
+notes_behind theme = ap length (take_rest theme 1) ∙ length-drop 1 theme
+
+pub note_behind : (theme : List ℕ) (i : ℕ) → get_or (take (length theme - 1) (drop 1 theme)) i 0 ≡ get_or theme (i + 1) 0
+note_behind theme i = rw (take_rest theme 1) (get_or-drop 1 theme i 0 ∙ ap (λ (k : ℕ). get_or theme k 0) one_more)
+  where
+    one_more : 1 + i ≡ i + 1
+    one_more = omega arith
 
 pub record Trying (way : Way) (cells : List ℕ) (h : ℕ) (theme : List ℕ) (j code base spent k : ℕ) : Type 0 where
   pub started : 1 ≤ k

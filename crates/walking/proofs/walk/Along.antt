@@ -2,12 +2,12 @@
 -- where the theme has no more room. The same where only some columns are kept. Assumes nothing.
 use mathlib.Core.Path.{◌≡◌, refl, ap, ◌∙◌}
 use mathlib.Core.Bool.{Bool, true, false, cond}
-use mathlib.Core.List.{List, [], ◌∷◌, ◌++◌, map, map-append, append_assoc, Memᴰ as In}
+use mathlib.Core.List.{List, [], ◌∷◌, ◌++◌, map, map-append, append-nil, append_assoc, Memᴰ as In}
 use Prim.Native.Nat.{ℕ, zero, suc, ◌+◌, ◌-◌, ◌*◌, ◌≤◌, ◌<◌, zero-le}
 use native.Mathlib.Nat.{le_trans, suc-mul, mul-le-mul_right}
 use native.Mathlib.Omega.{arith}
 use lib.Dec.{leb, ltb, eqb}
-use lib.ListN.{length, get_or, drop, set, length-drop}
+use lib.ListN.{length, get_or, drop, set, length-drop, drop_of_length-le}
 use lib.Seq.{drop-cons}
 use borrow.Author.Tests.{le-leb, lt-leb, ltb-false, ne_eqb, eq-eqb}
 use Rattle.theory.specs.Lists.{count, over}
@@ -34,6 +34,12 @@ pub record Counted (first : ℕ) (list₀ list : List ℕ) (i : ℕ) : Type 0 wh
 module _ (first : ℕ) (list₀ list : List ℕ) (i : ℕ) (t : Counted first list₀ list i) where
   pub count_long : i ≤ length list₀ → length list ≡ length list₀
   count_long h = ap length t.listed ∙ over_length list₀ (count first i) (omega (arith, count_length first i))
+
+  -- a whole list
+  pub count_whole : i ≡ length list₀ → list ≡ count first i
+  count_whole e =
+      let none : drop (length (count first i)) list₀ ≡ [] = drop_of_length-le list₀ (omega (arith, count_length first i)) in
+      t.listed ∙ rw none (append-nil (count first i))
 
   pub count_turn : i < length list₀ → Counted first list₀ (set list i (first + i)) (i + 1)
   count_turn h =

@@ -1,15 +1,14 @@
 -- What the loop along a list of columns keeps: of the starts of the listed columns those before column i are tried. Laws: start; stands (what
--- trying column i asks for); bound, turn (it is tried); over. Assumes nothing.
+-- trying column i asks for); bound, turn (it is tried); end, full. Assumes nothing.
 use mathlib.Core.Path.{◌≡◌, sym, ap, ◌∙◌}
-use mathlib.Core.Bool.{Bool, true, false, cond, ◌&&◌}
+use mathlib.Core.Bool.{Bool, true, false, cond}
 use mathlib.Core.List.{List, [], ◌∷◌, ◌++◌}
 use Prim.Native.Nat.{ℕ, zero, suc, ◌+◌, ◌-◌, ◌≤◌, ◌<◌, zero-le}
 use native.Mathlib.Omega.{arith}
-use lib.Dec.{ltb, eqb}
+use lib.Dec.{eqb}
 use lib.IntN.{ℤ}
 use lib.ListN.{length, get_or, drop}
 use lib.Seq.{drop-cons, drop-nil}
-use borrow.Author.Tests.{ltb-false}
 use Rattle.theory.specs.Pages.{page_looks}
 use Rattle.score.specs.Score.{column_at}
 use Rattle.ways.specs.declared.way.Way.{Way}
@@ -17,7 +16,7 @@ use Rattle.ways.specs.Way.{span}
 use Rattle.walking.specs.declared.walked.Spot.{Spot}
 use Rattle.walking.specs.Starts.{Place, hit, looks}
 use Rattle.walking.specs.Walk.{Fits, column_starts, at_column, list_starts, Stands, Tries}
-use Rattle.walking.proofs.Taking.{Taking, take_start, take_few, take_part, take_over}
+use Rattle.walking.proofs.Taking.{Taking, take_start, take_few, take_part, take_end, take_full}
 
 drop_none : {A : Type 0} (n : ℕ) (l : List A) → length l ≤ n → drop n l ≡ []
 drop_none n [] h = drop-nil n
@@ -64,10 +63,11 @@ module _ (way : Way) (score : List (List ℕ)) (theme : List ℕ) (spot : Spot) 
         below false = zero-le
 
     -- no column is left, or no room
-    pub along_over : (ltb i (length list) && ltb at (length columns)) ≡ false → Tries way score theme all spot.found columns₀ shifts₀ at spent columns shifts
-    along_over =
-        take_over _ _ _ _ _ _ _ _ _ _ _ _ t (ltb i (length list))
-        (λ e. ap (list_starts way score theme spot.column.0 spot.code) (drop_none i list (ltb-false i (length list) e)))
+    pub along_end : length list ≤ i → Tries way score theme all spot.found columns₀ shifts₀ at spent columns shifts
+    along_end h = take_end _ _ _ _ _ _ _ _ _ _ _ _ t (ap (list_starts way score theme spot.column.0 spot.code) (drop_none i list h))
+
+    pub along_full : length columns ≤ at → Tries way score theme all spot.found columns₀ shifts₀ at spent columns shifts
+    along_full = take_full _ _ _ _ _ _ _ _ _ _ _ _ t
 
     module _ (q : i < length list) (next : Spot) (e : next ≡ at_column spot (column_at (get_or list i 0)) at) where
       -- the column's starts and those of the columns behind it

@@ -1,21 +1,23 @@
 -- What both walks keep: of the page over `whole`, all starts that a walk goes along, those before a spot are tried, and the
 -- starts kept from there on are left. Which columns are kept is any choice. Laws: start; of a turn, in which some columns are
--- listed: asks (what trying them asks for), bound and on (they are tried); over. Then where each walk begins, and what each
+-- listed: asks (what trying them asks for), bound and on (they are tried); end, full. Then where each walk begins, and what each
 -- lists. Assumes nothing.
 use mathlib.Core.Path.{◌≡◌, sym, ap, ◌∙◌, subst}
-use mathlib.Core.Bool.{Bool, true, false, cond, ◌&&◌}
+use mathlib.Core.Bool.{Bool, true, false, cond}
 use mathlib.Core.List.{List, ◌∷◌, ◌++◌}
 use Prim.Native.Nat.{ℕ, zero, suc, ◌+◌, ◌-◌, ◌*◌, ◌^◌, ◌≤◌, ◌<◌, zero-le}
 use native.Mathlib.Nat.{le_refl}
+use Rattle.std.proofs.Common.{min}
+use Rattle.std.proofs.Math.Nat.{min-le_left, min-le_right, le-min}
+use Rattle.std.proofs.lemmas.List.{length-take-le}
 use native.Mathlib.Omega.{arith}
-use lib.Dec.{ltb}
 use lib.IntN.{ℤ}
 use lib.ListN.{length, get_or, take, drop}
 use lib.Seq.{take-append_seam}
-use borrow.Author.Tests.{ltb-false, ne_eqb}
+use borrow.Author.Tests.{ne_eqb}
 use Rattle.theory.specs.Lists.{count, over}
 use Rattle.theory.specs.Pages.{hits, page_looks, from}
-use Rattle.theory.proofs.Lists.{count_length, over_length}
+use Rattle.theory.proofs.Lists.{over_length}
 use Rattle.theory.proofs.Looks.{page_looks_le, sum_hits, sum_from}
 use Rattle.score.specs.Score.{columns_in, score_of}
 use Rattle.score.proofs.Columns.{column_le, score_length}
@@ -33,12 +35,12 @@ use Rattle.walking.specs.Starts.{Place, key, starts, hit, looks}
 use Rattle.filter.specs.Limits.{word_bits}
 use Rattle.walking.specs.Candidates.{candidate, quick_starts}
 use Rattle.walking.specs.Scan.{ListsCandidates}
-use Rattle.walking.specs.Walk.{Ready, end_of, begun, gone_on, list_starts, ListsEvery, Tries, Along, Walks}
+use Rattle.walking.specs.Walk.{Ready, end_of, listed, begun, gone_on, list_starts, Tries, Along, Walks}
 use Rattle.walking.proofs.Answers.{accepted_ready}
 use Rattle.walking.proofs.Order.{starts_rising}
 use Rattle.walking.proofs.LookBound.{most_lt, sum_looks_le}
 use Rattle.walking.proofs.walk.Along.{from_hits, hits_all, kept_from, kept_list, kept_end}
-use Rattle.walking.proofs.Taking.{Taking, take_start, take_few, take_part, take_over, tries_walks}
+use Rattle.walking.proofs.Taking.{Taking, take_start, take_few, take_part, take_end, take_full, tries_walks}
 
 -- the columns listed are among those counted
 hits_within : (keep : ℕ → Bool) (a n i : ℕ) → i < length (hits keep (count a n)) → (a ≤ get_or (hits keep (count a n)) i 0)
@@ -108,15 +110,18 @@ module _ {keep : ℕ → Bool} {way : Way} {cells : List ℕ} {h : ℕ} {theme :
 
   module _ {columns : List ℕ} {shifts : List ℤ} {spot : Spot} {spent : ℕ} where
     -- no column is left, or no room
-    pub walk_over : Walking keep way cells h theme whole columns₀ shifts₀ columns shifts spot spent
-        → {left : ℕ} → left ≡ end_of cells h theme - spot.column.0 → (ltb 0 left && ltb spot.found (length columns)) ≡ false
+    pub walk_end : Walking keep way cells h theme whole columns₀ shifts₀ columns shifts spot spent
+        → {left : ℕ} → left ≡ end_of cells h theme - spot.column.0 → left ≤ 0
         → Walks way (score_of cells h) theme whole columns₀ shifts₀ spot.found spent columns shifts
-    walk_over t {left} e stop =
+    walk_end t {left} e none =
         tries_walks _ _ _ _ _ _ _ _ _ _ t.same_room
-        (take_over _ _ _ _ _ _ _ _ _ _ _ _ t.taking (ltb 0 left)
-        (λ q. kept_end way (score_of cells h) theme keep spot.column.0 spot.code t.first (omega (arith, t.ready.notes))
-        (omega (arith, ltb-false 0 left q, e, score_length cells h, t.ready.notes)))
-        stop)
+        (take_end _ _ _ _ _ _ _ _ _ _ _ _ t.taking
+        (kept_end way (score_of cells h) theme keep spot.column.0 spot.code t.first (omega (arith, t.ready.notes))
+        (omega (arith, none, e, score_length cells h, t.ready.notes))))
+
+    pub walk_full : Walking keep way cells h theme whole columns₀ shifts₀ columns shifts spot spent → length columns ≤ spot.found
+        → Walks way (score_of cells h) theme whole columns₀ shifts₀ spot.found spent columns shifts
+    walk_full t full = tries_walks _ _ _ _ _ _ _ _ _ _ t.same_room (take_full _ _ _ _ _ _ _ _ _ _ _ _ t.taking full)
 
     -- the listed columns are tried
     module _ {j : ℕ} {list : List ℕ} (u : Turn keep way cells h theme whole columns₀ shifts₀ columns shifts spot spent j list) where
@@ -214,25 +219,29 @@ module _ {cells : List ℕ} {h : ℕ} {theme : List ℕ} {way : Way} {b : Bookma
 
 -- ---- what is listed in front: the columns that are kept
 
-listed_front : (list₀ vs list : List ℕ) (k : ℕ) → list ≡ over list₀ vs → k ≡ length vs → take (k - 0) (drop 0 list) ≡ vs
-listed_front list₀ vs list k e n = let z : k - 0 ≡ length vs = omega arith in rw (z, e) (take-append_seam vs (drop (length vs) list₀))
+listed_front : (list₀ vs list : List ℕ) (k : ℕ) → list ≡ over list₀ vs → k ≡ length vs → take k list ≡ vs
+listed_front list₀ vs list k e n = rw (n, e) (take-append_seam vs (drop (length vs) list₀))
 
-module _ {j many : ℕ} {list₀ list : List ℕ} (l : ListsEvery j many list₀ list) where
-  pub every_long : many ≤ length list₀ → length list ≡ length list₀
-  every_long h = ap length l.listed ∙ over_length list₀ (count j many) (omega (arith, count_length j many))
+-- as many columns as are left, or as a list has places
+pub some_of : {many left : ℕ} → many ≡ min left listed → 0 < left → (1 ≤ many) × (many ≤ left) × (many ≤ listed)
+some_of {left = left} e h = rw e (le-min h (omega arith), min-le_left left listed, min-le_right left listed)
 
+pub many_of : (j many : ℕ) (list : List ℕ) {list' : List ℕ} → many ≤ length list → list' ≡ count j (length (take many list)) → list' ≡ count j many
+many_of j many list h e = e ∙ ap (count j) (length-take-le many list h)
+
+module _ {j many : ℕ} {list : List ℕ} (l : list ≡ count j many) where
   pub every_turn : {way : Way} {cells : List ℕ} {h : ℕ} {theme : List ℕ} {whole : List Place} {columns₀ : List ℕ} {shifts₀ : List ℤ}
       {columns : List ℕ} {shifts : List ℤ} {spot : Spot} {spent : ℕ}
       → Walking (λ k. true) way cells h theme whole columns₀ shifts₀ columns shifts spot spent → j ≡ spot.column.0 → 1 ≤ many
       → many ≤ end_of cells h theme - j
-      → Turn (λ k. true) way cells h theme whole columns₀ shifts₀ columns shifts spot spent (j + many) (take (many - 0) (drop 0 list))
+      → Turn (λ k. true) way cells h theme whole columns₀ shifts₀ columns shifts spot spent (j + many) list
   every_turn t e some q =
       let z : j + many - j ≡ many = omega arith in
       record {
         walking = t;
         more = omega (arith, e);
         to_end = omega (arith, q, some);
-        listed = rw (← e, z) (listed_front list₀ (count j many) list many l.listed (sym (count_length j many)) ∙ sym (hits_all (count j many)));
+        listed = rw (← e, z) (l ∙ sym (hits_all (count j many)));
       }
 
 module _ {table sets : List ℕ} {m j end : ℕ} {list₀ : List ℕ} {register j' k : ℕ} {list : List ℕ}
@@ -244,7 +253,7 @@ module _ {table sets : List ℕ} {m j end : ℕ} {list₀ : List ℕ} {register 
       {columns : List ℕ} {shifts : List ℤ} {spot : Spot} {spent : ℕ}
       → Walking (candidate word_bits table sets m) way cells h theme whole columns₀ shifts₀ columns shifts spot spent → j ≡ spot.column.0
       → end ≤ end_of cells h theme
-      → Turn (candidate word_bits table sets m) way cells h theme whole columns₀ shifts₀ columns shifts spot spent j' (take (k - 0) (drop 0 list))
+      → Turn (candidate word_bits table sets m) way cells h theme whole columns₀ shifts₀ columns shifts spot spent j' (take k list)
   candidates_turn t e f =
       record {
         walking = t;

@@ -5,11 +5,19 @@ use Rattle.std.proofs.Common.{arith}
 use Rattle.explaining.proofs.Answering.{answer_zero, answer_short, answer_no_pitch, fit_there, answer_fits}
 use Rattle.explaining.proofs.explainer.explained.Goals as goal
 
-pub at_fit-requires : goal.at_fit-requires
-at_fit-requires c =
+pub invariant_of-sieve : goal.invariant_of-sieve
+invariant_of-sieve c =
     let a = c.args in
-    fit_there a.cells.now a.tracks a.theme.now a.way a.pair a.sets.now c.requires c.sought-numbers.ensures c.fit_by-fit.ensures
-    c.in-Fits.is
+    let there = fit_there a.cells.now a.tracks a.theme.now a.way a.pair a.sets.now c.requires c.sought-numbers.ensures
+    c.fit_by-fit.ensures c.in-Fits.is in
+    record { sets_there = there.1 }
+
+pub invariant_of-placed : goal.invariant_of-placed
+invariant_of-placed c =
+    let a = c.args in
+    let there = fit_there a.cells.now a.tracks a.theme.now a.way a.pair a.sets.now c.requires c.sought-numbers.ensures
+    c.fit_by-fit.ensures c.in-Fits.is in
+    record { columns_there = there.0 }
 
 pub returns-in-Zero : goal.returns-in-Zero
 returns-in-Zero c =
@@ -35,4 +43,4 @@ pub returns-in-Fits : goal.returns-in-Fits
 returns-in-Fits c =
     let a = c.args in
     answer_fits a.cells.now a.tracks a.theme.now a.way a.pair a.sets.now c.requires c.sought-numbers.ensures c.fit_by-fit.ensures
-    c.in-Fits.is (rw (to_z-of_z {w = w16} {z = a.pair.shift} (omega arith)) at c.at_fit.ensures)
+    c.in-Fits.is c.sift.ensures (rw (to_z-of_z {w = w16} {z = a.pair.shift} (omega arith)) at c.at_fit.ensures)

@@ -1,10 +1,9 @@
--- The invariant: each entry from `even` on is right. The measure is the entries left.
+-- The invariant: each entry of the pairs from `half` on is right.
+use Rattle.std.proofs.Common.{◌*◌}
 use Rattle.filter.specs.Limits.{word_bits}
-use Rattle.filter.proofs.table.Downward.{FromEven}
+use Rattle.filter.specs.Table.{word}
+use Rattle.filter.proofs.table.Downward.{RightFrom}
 use Rattle.filter.proofs.table.fill_table.Given as goal
 
-abbrev pub invariant-loop-even : goal.invariant-loop-even
-invariant-loop-even l = FromEven word_bits l.theme l.table l.even
-
-abbrev pub decreases-loop-even : goal.decreases-loop-even
-decreases-loop-even l = l.even
+abbrev pub invariant-loop-half : goal.invariant-loop-half
+invariant-loop-half l = RightFrom (word word_bits l.theme) l.table (2 * l.half)

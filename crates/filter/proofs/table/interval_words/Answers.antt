@@ -1,16 +1,33 @@
 -- `filter::table::interval_words` meets its contract. Assumes nothing.
-use Rattle.std.proofs.Common.{ap, arith}
+use Rattle.std.proofs.Common.{◌≡◌, ℕ, ap, ◌∙◌, ap₂, arith}
+use Rattle.std.specs.Slice.Iter.{windows_size, windows_rest}
 use Rattle.score.specs.declared.quantities.Interval.{Interval}
+use Rattle.score.specs.Score.{pitch}
+use Rattle.score.specs.Sets.{interval}
 use Rattle.filter.specs.Limits.{word_bits}
+use Rattle.filter.proofs.Neighbours.{passed, none_passed, neighbours_start, next_two, neighbours_end}
 use Rattle.filter.proofs.table.IntervalWords.{marked_start, marked_more, marked_all}
 use Rattle.filter.proofs.table.interval_words.Goals as goal
 
-pub loop-i-init : goal.loop-i-init
-loop-i-init c = marked_start word_bits _ (omega arith)
+pub loop-notes-init : goal.loop-notes-init
+loop-notes-init c =
+    let theme = c.args.theme.now in
+    let made = c.into_iter-notes-iterator.ensures.into_iter_gives in
+    let rest : windows_rest c.into_iter-notes-iterator.result ≡ theme = ap windows_rest made ∙ c.windows-notes-items.ensures.rest in
+    let two : windows_size c.into_iter-notes-iterator.result ≡ 2 = ap windows_size made ∙ c.windows-notes-items.ensures.size in
+    let none : passed theme c.into_iter-notes-iterator.result ≡ 0 = none_passed theme c.into_iter-notes-iterator.result rest in
+    record { neighbours = neighbours_start theme c.into_iter-notes-iterator.result two rest; marked = rw none (marked_start word_bits theme (omega arith)) }
 
-pub loop-i-preserved : goal.loop-i-preserved
-loop-i-preserved c =
-    marked_more _ c.loop-i.invariant (omega arith) (ap (λ (d : Interval). d.0) c.interval_of-d.ensures)
+pub loop-notes-preserved : goal.loop-notes-preserved
+loop-notes-preserved c =
+    let t = next_two c.args.theme.now _ _ c.loop-notes.invariant.neighbours c.in-Some.is c.next.ensures.steps in
+    record {
+      neighbours = t.neighbours;
+      marked = rw t.more
+          (marked_more _ c.loop-notes.invariant.marked t.inside
+          (ap (λ (d : Interval). d.0) c.interval_of-d.ensures
+          ∙ ap₂ (λ (a b : ℕ). (interval (pitch a) (pitch b)).0) t.here t.next));
+    }
 
 pub returns : goal.returns
-returns c = marked_all c.loop-i.invariant (omega arith)
+returns c = marked_all c.loop-notes.invariant.marked (neighbours_end _ _ _ c.loop-notes.invariant.neighbours c.in-None.is c.next.ensures.steps)

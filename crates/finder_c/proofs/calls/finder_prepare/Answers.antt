@@ -4,4 +4,4 @@ use Rattle.finder_c.proofs.Through.{prepares_small}
 use Rattle.finder_c.proofs.calls.finder_prepare.Goals as goal
 
 pub told_single-requires-clause-small_single : goal.told_single-requires-clause-small_single
-told_single-requires-clause-small_single c = prepares_small c.prepare-p.ensures c.of_preparation.ensures
+told_single-requires-clause-small_single c = prepares_small c.prepare-p.ensures c.of_summary.ensures

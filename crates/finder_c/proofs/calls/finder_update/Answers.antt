@@ -4,4 +4,4 @@ use Rattle.finder_c.proofs.Through.{updates_small}
 use Rattle.finder_c.proofs.calls.finder_update.Goals as goal
 
 pub told_single-requires-clause-small_single : goal.told_single-requires-clause-small_single
-told_single-requires-clause-small_single c = updates_small c.update-c.ensures c.of_change.ensures
+told_single-requires-clause-small_single c = updates_small c.update-c.ensures c.of_summary.ensures

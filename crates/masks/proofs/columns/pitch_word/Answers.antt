@@ -5,15 +5,15 @@ use Rattle.masks.proofs.Gathering.{gather_start, gather_rest, gather_pitch, gath
 use Rattle.masks.proofs.columns.pitch_word.Goals as goal
 use Rattle.masks.proofs.columns.pitch_word.Goals.{then-cell-lt64, else-cell-lt64+then-cell-lt128, else-cell-lt64+else-cell-lt128}
 
-pub loop-i-init : goal.loop-i-init
-loop-i-init c = (rw (value_few 0) (gather_start _), halves_none)
+pub loop-cell-init : goal.loop-cell-init
+loop-cell-init c = (rw (value_few 0) (gather_start _), halves_none)
 
-pub loop-i-preserved : goal.loop-i-preserved
-loop-i-preserved c =
+pub loop-cell-preserved : goal.loop-cell-preserved
+loop-cell-preserved c =
     let b = c.bit_of-bit.ensures in
-    let t = c.loop-i-test.true in
-    let g = c.loop-i.invariant.0 in
-    let h = c.loop-i.invariant.1 in
+    let t = c.loop-cell-test.true in
+    let g = c.loop-cell.invariant.0 in
+    let h = c.loop-cell.invariant.1 in
     elim c.if-cell-lt64.branch [
       | then-cell-lt64 w ↦ (
         rw (w.low-is, w.high-is, b, put_lower _ _ _ h w.if-cell-lt64.true) (gather_pitch _ g t (omega arith)),
@@ -27,4 +27,4 @@ loop-i-preserved c =
     ]
 
 pub returns : goal.returns
-returns c = gather_end _ c.loop-i.invariant.0 c.loop-i-test.false
+returns c = gather_end _ c.loop-cell.invariant.0 c.loop-cell-test.false

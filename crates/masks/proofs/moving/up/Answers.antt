@@ -3,17 +3,17 @@ use native.Mathlib.Omega.{arith}
 use Rattle.masks.proofs.Shifting.{up_far, up_near, up_out}
 use Rattle.masks.proofs.moving.up.Goals as goal
 
-pub returns-then-d-ge128 : goal.returns-then-d-ge128
-returns-then-d-ge128 c =
+pub returns-else-d-lt128 : goal.returns-else-d-lt128
+returns-else-d-lt128 c =
     let s = c.args in
     up_out s.w.low s.w.high s.distance.0 (record { lower = omega arith; upper = omega arith }) (omega arith)
 
-pub returns-then-d-ge64 : goal.returns-then-d-ge64
-returns-then-d-ge64 c =
+pub returns-then-d-lt128 : goal.returns-then-d-lt128
+returns-then-d-lt128 c =
     let s = c.args in
     up_far s.w.low s.w.high s.distance.0 (record { lower = omega arith; upper = omega arith }) (omega arith) (omega arith)
 
-pub returns : goal.returns
-returns c =
+pub returns-then-d-lt64 : goal.returns-then-d-lt64
+returns-then-d-lt64 c =
     let s = c.args in
     up_near s.w.low s.w.high s.distance.0 (record { lower = omega arith; upper = omega arith }) (omega arith)

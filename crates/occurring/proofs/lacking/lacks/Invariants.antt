@@ -1,11 +1,10 @@
--- The invariant and the measure.
-use Prim.Native.Nat.{◌-◌}
-use lib.ListN.{length}
+-- The invariant: the flag says whether an interval passed is lacking.
+use Rattle.filter.proofs.Neighbours.{Neighbours, passed}
 use Rattle.occurring.proofs.Looking.{Looked}
 use Rattle.occurring.proofs.lacking.lacks.Given as goal
 
-abbrev pub invariant-loop-i : goal.invariant-loop-i
-invariant-loop-i l = Looked l.theme l.summary.0 l.i l.lacks
-
-abbrev pub decreases-loop-i : goal.decreases-loop-i
-decreases-loop-i l = length l.theme - l.i
+abbrev pub invariant-loop-notes : goal.invariant-loop-notes
+invariant-loop-notes l = record {
+  neighbours : Neighbours l.theme l.notes-iterator;
+  looked : Looked l.theme l.summary.0 (passed l.theme l.notes-iterator) l.lacks;
+}

@@ -1,7 +1,13 @@
--- `passing::numbers::rename` meets its contract: the next column stands under its other number at its place.
-use Rattle.passing.proofs.Numbering.{both_below, renamed_more}
+-- `passing::numbers::rename` meets its contract: the next column stands under its other number, and the columns behind those that
+-- were found stay.
+use native.Mathlib.Omega.{arith}
+use Rattle.passing.proofs.Numbering.{renamed_more, renamed_all, renamed_end}
 use Rattle.passing.proofs.numbers.rename.Goals as goal
 
-pub loop-i-preserved : goal.loop-i-preserved
-loop-i-preserved c =
-    renamed_more _ _ c.args.numbers.now _ c.loop-i.invariant (both_below _ _ _ c.loop-i-test.true) c.entry_at.ensures
+pub loop-column-preserved : goal.loop-column-preserved
+loop-column-preserved c = renamed_more c.args.numbers.now _ _ c.loop-column.invariant (omega arith) c.entry_at.ensures
+
+pub returns : goal.returns
+returns c =
+    renamed_end c.args.columns.now c.args.many c.args.numbers.now c.min-found.ensures
+    (renamed_all c.args.numbers.now _ c.loop-column.invariant (omega arith))

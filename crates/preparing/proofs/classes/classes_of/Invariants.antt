@@ -1,11 +1,6 @@
--- The invariant: the mask has the classes of the cells passed. The measure is the cells left.
-use Prim.Native.Nat.{◌-◌}
-use lib.ListN.{length}
+-- The invariant: the mask has the classes of the cells passed.
 use Rattle.preparing.proofs.ClassSets.{Gathered}
 use Rattle.preparing.proofs.classes.classes_of.Given as goal
 
-abbrev pub invariant-loop-i : goal.invariant-loop-i
-invariant-loop-i l = Gathered l.column l.i l.mask
-
-abbrev pub decreases-loop-i : goal.decreases-loop-i
-decreases-loop-i l = length l.column - l.i
+abbrev pub invariant-loop-cell : goal.invariant-loop-cell
+invariant-loop-cell l = Gathered l.column l.cell-index l.mask

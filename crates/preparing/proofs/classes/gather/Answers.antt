@@ -4,4 +4,4 @@ use Rattle.preparing.proofs.Filling.{gathering_end}
 use Rattle.preparing.proofs.classes.gather.Goals as goal
 
 pub returns : goal.returns
-returns c = gathering_end _ _ _ c.loop-k.invariant (omega arith) c.class_set-2.ensures
+returns c = gathering_end _ _ _ c.loop-other.invariant (omega arith) c.split_at.ensures.front c.class_set-2.ensures

@@ -4,8 +4,8 @@ use Prim.Native.Nat.{◌-◌}
 use Rattle.reading.proofs.Filling.{Filling}
 use Rattle.reading.proofs.lines.fields.Given as goal
 
-abbrev pub invariant-loop-at : goal.invariant-loop-at
-invariant-loop-at l = Filling l.text l.from l.rests l.limit l.base l.initial.into l.into l.at l.count
+abbrev pub invariant-loop-b : goal.invariant-loop-b
+invariant-loop-b l = Filling l.text l.from l.rests l.limit l.base l.initial.into l.into l.at l.count
 
-abbrev pub decreases-loop-at : goal.decreases-loop-at
-decreases-loop-at l = l.limit - l.count
+abbrev pub decreases-loop-b : goal.decreases-loop-b
+decreases-loop-b l = l.limit - l.count

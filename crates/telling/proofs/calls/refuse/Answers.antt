@@ -1,4 +1,5 @@
 -- `telling::calls::refuse` meets its contract: the line has room in every buffer that is not too short.
+use borrow.Author.Rules.{rules}
 use native.Mathlib.Omega.{arith}
 use Rattle.telling.proofs.Widths.{refused_le}
 use Rattle.telling.proofs.Tellings.{tells_short, tells_told}
@@ -11,4 +12,7 @@ pub refused_line-requires : goal.refused_line-requires
 refused_line-requires c = let few = refused_le c.args.line (omega arith) in omega arith
 
 pub returns : goal.returns
-returns c = let few = refused_le c.args.line (omega arith) in tells_told _ _ (omega arith) (omega arith) c.refused_line.ensures
+returns c =
+    let few = refused_le c.args.line (omega arith) in
+    let p = c.refused_line.ensures in
+    tells_told _ _ (omega arith) (omega arith) (search rules)

@@ -1,8 +1,5 @@
 -- Where every start is asked for and there is room for every hit, what follows is the page.
-use borrow.Author.Tests.{eqb-true}
-use mathlib.Core.Path.{◌≡◌}
 use Rattle.masks.proofs.Halves.{Halves, value_ones}
-use Rattle.theory.proofs.Either.{both_left}
 use native.Mathlib.Omega.{arith}
 use Rattle.walking.proofs.alive.AtOnce.{at_once}
 use Rattle.walking.proofs.alive.try_all.Goals as goal
@@ -11,9 +8,9 @@ pub returns-then-hits-columns : goal.returns-then-hits-columns
 returns-then-hits-columns c =
     let w = c.follow-a.result.word in
     let halves : Halves w.low w.high = record { lower = omega arith; upper = omega arith } in
-    let z : c.args.spot.code ≡ 0 = eqb-true _ _ (both_left _ _ c.if-spot-h.true) in
     let room = rw (value_ones _ _ halves) at c.if-hits-columns.true in
     let s = c.requires.stands in (
-      rw z (at_once _ _ _ _ _ _ c.follow-a.ensures.0 (c.requires.ready.sung 0) _ _ _ s.same_room s.room room _ _ _ c.put_hits.ensures),
+      rw c.if-spot-eq0.true
+          (at_once _ _ _ _ _ _ c.follow-a.ensures.0 (c.args.tune.now.ready.sung 0) _ _ _ s.same_room s.room room _ _ _ c.put_hits.ensures),
       c.follow-a.ensures.1,
     )

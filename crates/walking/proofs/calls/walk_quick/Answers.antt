@@ -5,6 +5,7 @@ use Prim.Native.Nat.{ℕ}
 use native.Mathlib.Omega.{arith}
 use lib.IntN.{ℤ}
 use lib.ListN.{length}
+use Rattle.std.proofs.lemmas.Result.{err_from_is_err_and}
 use Rattle.ways.specs.declared.way.Way.{Way}
 use Rattle.ways.specs.declared.bookmark.Bookmark.{Bookmark}
 use Rattle.asking.specs.Asking.{QuickAsks}
@@ -20,22 +21,23 @@ filled : {cells : List ℕ} {h : ℕ} {theme : List ℕ} {way : Way} {b : Bookma
     → QuickAsks cells h theme way b sets table columns shifts → table_after word_bits theme table ≡ theme_table word_bits theme
 filled {theme = theme} {table = table} a = after_filled word_bits theme table (λ z. omega (arith, a.plain.accepted.notes_some)) a.table_long
 
-pub returns-in-Refused : goal.returns-in-Refused
-returns-in-Refused c =
+pub returns-in_err-check_quick : goal.returns-in_err-check_quick
+returns-in_err-check_quick c =
     let a = c.args in
-    record {
-      finds = finds_away _ _ _ _ _ _ _ _ c.check_quick.ensures c.in-Refused.is;
+    let p = err_from_is_err_and c.from_residual.result c.from_residual.ensures.1 in
+    rw (p.1, p.2) (record {
+      finds = finds_away _ _ _ _ _ _ _ _ c.check_quick.ensures c.in_err-check_quick.was;
       fills_table =
           table_kept a.cells.now a.tracks a.theme.now a.way a.bookmark a.sets.now a.table.now a.columns.now
-          a.shifts.now c.check_quick.ensures c.in-Refused.is;
-    }
+          a.shifts.now c.check_quick.ensures c.in_err-check_quick.was;
+    })
 
 pub walk_candidates-requires : goal.walk_candidates-requires
 walk_candidates-requires c =
     let a = c.args in
     let q =
     quick_asks a.cells.now a.tracks a.theme.now a.way a.bookmark a.sets.now a.table.now a.columns.now a.shifts.now
-    c.check_quick.ensures c.in_default.is in
+    c.check_quick.ensures c.in_ok-check_quick.was in
     record {
       plain = q.plain;
       with_sets = q.with_sets;
@@ -47,7 +49,7 @@ returns c =
     let a = c.args in
     let q =
     quick_asks a.cells.now a.tracks a.theme.now a.way a.bookmark a.sets.now a.table.now a.columns.now a.shifts.now
-    c.check_quick.ensures c.in_default.is in
+    c.check_quick.ensures c.in_ok-check_quick.was in
     let z =
     (quick_clear a.cells.now a.tracks a.theme.now a.way a.bookmark a.sets.now a.table.now a.columns.now a.shifts.now).0 q in
     let f = c.fill_table.ensures ∙ filled q in

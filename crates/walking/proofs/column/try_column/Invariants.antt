@@ -5,7 +5,7 @@ use Rattle.walking.proofs.column.Filling.{Filling}
 use Rattle.walking.proofs.column.try_column.Given as goal
 
 abbrev pub invariant-loop-at : goal.invariant-loop-at
-invariant-loop-at l = Filling l.way l.cells l.h l.theme l.spot.column.0 l.initial.code l.initial.at l.initial.columns l.initial.shifts l.columns l.shifts l.code l.at l.looks
+invariant-loop-at l = Filling l.tune.way l.tune.cells.now l.tune.tracks l.tune.theme.now l.spot.column.0 l.initial.code l.initial.at l.initial.columns l.initial.shifts l.columns l.shifts l.code l.at l.looks
 
 abbrev pub decreases-loop-at : goal.decreases-loop-at
-decreases-loop-at l = span l.way - l.code
+decreases-loop-at l = span l.tune.way - l.code

@@ -1,11 +1,7 @@
--- The invariant is `Trying`: the notes passed were there. The measure is the notes left.
-use Prim.Native.Nat.{◌-◌}
-use lib.ListN.{length}
+-- The invariant is `Trying`: the notes passed were there.
+use Prim.Native.Nat.{◌+◌}
 use Rattle.walking.proofs.starts.Trying.{Trying}
 use Rattle.walking.proofs.starts.try_start.Given as goal
 
-abbrev pub invariant-loop-k : goal.invariant-loop-k
-invariant-loop-k l = Trying l.way l.cells l.h l.theme l.j l.code l.base l.looks l.k
-
-abbrev pub decreases-loop-k : goal.decreases-loop-k
-decreases-loop-k l = length l.theme - l.k
+abbrev pub invariant-loop-note : goal.invariant-loop-note
+invariant-loop-note l = Trying l.tune.way l.tune.cells.now l.tune.tracks l.tune.theme.now l.j l.code l.base l.looks (l.note-index + 1)

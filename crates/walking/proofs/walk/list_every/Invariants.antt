@@ -1,10 +1,6 @@
--- The invariant and the measure.
-use Prim.Native.Nat.{◌-◌, ◌≤◌}
+-- The invariant: so many columns are listed in front.
 use Rattle.walking.proofs.walk.Along.{Counted}
 use Rattle.walking.proofs.walk.list_every.Given as goal
 
 abbrev pub invariant-loop-i : goal.invariant-loop-i
-invariant-loop-i l = Counted l.j l.initial.list l.list l.i × (l.i ≤ l.many)
-
-abbrev pub decreases-loop-i : goal.decreases-loop-i
-decreases-loop-i l = l.many - l.i
+invariant-loop-i l = Counted l.first.0 l.initial.list l.list l.i

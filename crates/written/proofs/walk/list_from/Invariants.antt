@@ -1,10 +1,6 @@
--- The invariant is `Along`; the measure is the columns left.
-use Prim.Native.Nat.{◌-◌}
+-- The invariant is `Along`.
 use Rattle.written.proofs.Listing.{Along}
 use Rattle.written.proofs.walk.list_from.Given as goal
 
 abbrev pub invariant-loop-k : goal.invariant-loop-k
 invariant-loop-k l = Along l.cells l.h l.theme l.from l.initial.columns l.initial.shifts l.columns l.shifts l.register l.k l.found
-
-abbrev pub decreases-loop-k : goal.decreases-loop-k
-decreases-loop-k l = l.n - l.k
