@@ -54,6 +54,26 @@ lowest_counted (suc k) set h = step (set % 2) refl (λ q. lowest_counted k (set 
         rw (t, n) (odd_lowest (ih (omega (arith, pow-suc 2 k))) e)
     step (suc (suc b)) e ih = absurd (omega (arith, mod-lt set (zero-lt-suc 1)))
 
+-- `set + 1` ends in as many zeros as `!set`: the two are opposite numbers
+pub zeros_opposite : (k set : ℕ) → set + 1 < 2 ^ k → count_trailing_zeros k (set + 1) ≡ count_trailing_zeros k (2 ^ k - 1 - set)
+unfolding count_trailing_zeros
+zeros_opposite zero set h = absurd (omega arith)
+zeros_opposite (suc k) set h = step (set % 2) refl (λ q. zeros_opposite k (set / 2) q)
+  where
+    step : (b : ℕ) → set % 2 ≡ b → (set / 2 + 1 < 2 ^ k → count_trailing_zeros k (set / 2 + 1) ≡ count_trailing_zeros k (2 ^ k - 1 - set / 2))
+        → count_trailing_zeros (suc k) (set + 1) ≡ count_trailing_zeros (suc k) (2 ^ suc k - 1 - set)
+    step zero e ih =
+        let a : (set + 1) % 2 ≡ 1 = omega (arith, e) in
+        let b : (2 ^ suc k - 1 - set) % 2 ≡ 1 = omega (arith, pow-suc 2 k) in
+        rw (a, b) refl
+    step (suc zero) e ih =
+        let a : (set + 1) % 2 ≡ 0 = omega (arith, e) in
+        let b : (2 ^ suc k - 1 - set) % 2 ≡ 0 = omega (arith, pow-suc 2 k) in
+        let c : (set + 1) / 2 ≡ set / 2 + 1 = omega (arith, e) in
+        let d : (2 ^ suc k - 1 - set) / 2 ≡ 2 ^ k - 1 - set / 2 = omega (arith, pow-suc 2 k) in
+        rw (a, b, c, d) (ap (λ (n : ℕ). suc n) (ih (omega (arith, pow-suc 2 k, e))))
+    step (suc (suc b)) e ih = absurd (omega (arith, mod-lt set (zero-lt-suc 1)))
+
 -- adding 1 turns the lowest 0 into a 1 and the ones below it into zeros; or-ed with the set, that is the set with one 1 more
 pub lowest_without : (d set : ℕ) → LowestInterval set d → bit_or set (set + 1) ≡ bit_or set (2 ^ d)
 lowest_without zero set low =

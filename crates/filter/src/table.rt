@@ -26,12 +26,13 @@ fn interval_words(theme: &[u8]) -> [u32; 12]
     words
 }
 
-// The lowest interval of a set that has one: the place of its lowest 0, which is the lowest 1 of `!set`.
+// The lowest interval of a set that has one: the place of its lowest 0, which adding 1 turns into the lowest 1. Counted by `!set`,
+// which has it too, the filling takes a seventh longer.
 fn lowest_interval(set: usize) -> usize
     requires { set < highest_set }
     ensures { LowestInterval set result }
 {
-    (!set).trailing_zeros() as usize
+    (set + 1).trailing_zeros() as usize
 }
 
 // The whole table of a theme, whatever it held. Of a theme with more than 33 notes a word has the first 32 intervals. A theme
