@@ -13,7 +13,7 @@ fn has_pitch(column: &[u8], p: Pitch) -> bool
     requires { p.0 ≤ 127 }
     ensures { result ≡ some (λ t. eqb t.0 p.0) (pitches column.now) }
 {
-    column.contains(&p.0)
+    column.iter().any(|&cell| cell == p.0)
 }
 
 // Whether the cell is a pitch of this class.
