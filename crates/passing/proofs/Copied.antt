@@ -1,35 +1,53 @@
--- A score without its empty columns, copied column after column (`Taking`), where what is written and what is left make up the whole. Then what the room asks for is what the call tests. Assumes nothing.
+-- A score without its empty columns, copied: a column's cells from a place on (`Copying`), and column after column (`Taking`),
+-- where what is written and what is left make up the whole. Then what the room asks for is what the call tests. Assumes nothing.
 use mathlib.Core.Path.{◌≡◌, refl, sym, ap, ◌∙◌}
 use mathlib.Core.Bool.{Bool, true, false, not, ◌&&◌, ◌||◌}
 use mathlib.Core.List.{List, [], ◌∷◌, ◌++◌, append_assoc, append-nil}
-use Prim.Native.Nat.{ℕ, suc, ◌+◌, ◌-◌, ◌*◌, ◌≤◌, ◌<◌, zero-le}
+use Prim.Native.Nat.{ℕ, suc, ◌+◌, ◌*◌, ◌≤◌, ◌<◌, zero-le}
 use native.Mathlib.Nat.{zero-mul}
 use native.Mathlib.Numerals.{add-one}
 use native.Mathlib.Omega.{arith}
 use lib.Dec.{leb, ltb}
 use lib.ListN.{length, get_or, take, drop, set, length-set, length-append, length-drop, drop_of_length-le}
-use lib.Seq.{drop-cons, drop-drop, sets, sets-eq, length-sets}
-use borrow.Rule.Slice.PartMut.{put_mid}
+use lib.Seq.{take-suc, take_all, length-take-le, drop-cons, drop-drop, sets, length-sets}
 use borrow.Author.Tests.{not-true, not-false, leb-true, leb-false, lt-ltb, le-ltb}
 use Rattle.theory.specs.Lists.{over, join}
 use Rattle.theory.proofs.Either.{both_left, both_right}
-use Rattle.theory.proofs.Lists.{over_more, over_sets}
+use Rattle.theory.proofs.Lists.{sets_more, over_more, over_sets}
 use Rattle.score.specs.Limits.{most_columns}
 use Rattle.score.specs.Score.{columns_in, score_of, heard, heard_of, heard_from}
 use Rattle.score.proofs.Columns.{cut_at, column_length, score_length, next_starts, column_room}
 use Rattle.score.proofs.Heard.{numbers_take, numbers_skip}
 use Rattle.passing.specs.Passing.{has_room, TakesOut}
 
--- ---- a column copied from a place on, as code does it
+-- ---- a column, from a place on
 
-pub pasted : (column kept : List ℕ) (at h : ℕ) {new : List ℕ} → new ≡ column → length column ≡ h → at + h ≤ length kept
-    → put_mid at (at + h - at) kept new ≡ sets kept at column
-pasted column kept at h e n r =
-    let here : at + (at + h - at) ≡ at + length column = omega arith in
-    ap (put_mid at (at + h - at) kept) e
-    ∙ ap (λ (l : List ℕ). take at kept ++ (column ++ l)) (drop-drop (at + h - at) at kept ∙ ap (λ (m : ℕ). drop m kept) here)
-    ∙ sym (append_assoc (take at kept) column (drop (at + length column) kept))
-    ∙ sym (sets-eq column kept at (omega arith))
+pub record Copying (column kept₀ : List ℕ) (at : ℕ) (kept : List ℕ) (i : ℕ) : Type 0 where
+  pub so_far : kept ≡ sets kept₀ at (take i column)
+  pub long : length kept ≡ length kept₀
+  pub within : i ≤ length column
+  pub room : at + length column ≤ length kept₀
+
+pub copying_start : (column kept₀ : List ℕ) (at : ℕ) → at + length column ≤ length kept₀ → Copying column kept₀ at kept₀ 0
+copying_start column kept₀ at r = record { so_far = refl; long = refl; within = zero-le; room = r }
+
+module _ {column kept₀ : List ℕ} {at : ℕ} {kept : List ℕ} {i : ℕ} (c : Copying column kept₀ at kept i) where
+  pub copying_more : i < length column → Copying column kept₀ at (set kept (at + i) (get_or column i 0)) (i + 1)
+  copying_more h =
+      let n : length (take i column) ≡ i = length-take-le i column c.within in
+      let one : take i column ++ (get_or column i 0 ∷ []) ≡ take (i + 1) column = rw add-one (sym (take-suc column i 0 h)) in
+      record {
+        so_far =
+            ap (λ (l : List ℕ). set l (at + i) (get_or column i 0)) c.so_far
+            ∙ sets_more kept₀ at (take i column) (get_or column i 0) (at + i) (omega (arith, n))
+            ∙ ap (sets kept₀ at) one;
+        long = length-set kept (at + i) (get_or column i 0) ∙ c.long;
+        within = omega arith;
+        room = c.room;
+      }
+
+  pub copying_end : length column ≤ i → kept ≡ sets kept₀ at column
+  copying_end h = c.so_far ∙ ap (sets kept₀ at) (take_all i column h)
 
 -- ---- what is left of a score, a column further on
 

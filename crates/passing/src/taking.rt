@@ -33,13 +33,23 @@ fn take_each(cells: &[u8], tracks: usize, n: usize, kept: &mut [u8], numbers: &m
     for k in 0..n {
         let (column, rest) = left.split_at(tracks);
         if !is_empty(column) {
-            let end = at + tracks;
-            kept[at..end].copy_from_slice(column);
+            copy(column, kept, at);
             numbers[q] = (k + 1) as u16;
             q += 1;
-            at = end;
+            at += tracks;
         }
         left = rest;
     }
     q
+}
+
+// Copies a column's cells, from a place on. By cells: the library's `copy_from_slice` would ask `memmove` of whoever links the
+// library, for a few bytes at a time.
+fn copy(column: &[u8], kept: &mut [u8], at: usize)
+    requires { at + length column.now ≤ length kept.old }
+    ensures { kept.new ≡ sets kept.old at column.now }
+{
+    for (i, &cell) in column.iter().enumerate() {
+        kept[at + i] = cell;
+    }
 }

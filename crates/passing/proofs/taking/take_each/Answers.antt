@@ -4,7 +4,7 @@ use mathlib.Core.Bool.{not}
 use Prim.Native.Nat.{◌<◌}
 use native.Mathlib.Omega.{arith}
 use Rattle.score.specs.Score.{columns_in}
-use Rattle.passing.proofs.Copied.{pasted, taking_room, taking_take, taking_skip, taking_end, room_of}
+use Rattle.passing.proofs.Copied.{taking_take, taking_skip, taking_end, room_of}
 use Rattle.passing.proofs.taking.take_each.Goals as goal
 use Rattle.passing.proofs.taking.take_each.Goals.{then-not-is_empty, else-not-is_empty}
 
@@ -15,8 +15,7 @@ loop-k-preserved c =
     let room = room_of _ _ _ _ c.requires.1 in
     elim c.if-not-is_empty.branch [
       | then-not-is_empty w ↦
-          let copied = pasted _ _ _ _ w.copy_from_slice.ensures.after e.front_len (taking_room _ _ c.loop-k.invariant l room) in
-          rw (w.numbers-is, w.q-is, w.at-is) (taking_take _ _ c.loop-k.invariant l e.front e.back c.is_empty.ensures room (ap not w.if-not-is_empty.true) (w.kept-is ∙ copied))
+          rw (w.numbers-is, w.q-is, w.at-is) (taking_take _ _ c.loop-k.invariant l e.front e.back c.is_empty.ensures room (ap not w.if-not-is_empty.true) (w.kept-is ∙ w.copy.ensures))
       | else-not-is_empty w ↦ rw (w.kept-is, w.numbers-is, w.q-is, w.at-is) (taking_skip _ _ c.loop-k.invariant l e.front e.back c.is_empty.ensures (ap not w.if-not-is_empty.false))
     ]
 
