@@ -1,7 +1,8 @@
 -- How the set of a column's tracks is made: cell by cell, each turn adds the cell's own bit at its place (`Added`). Of 16 cells it
--- stays below 2 ^ 16. In exact a cell is asked for one pitch (`exact_pitch`). Assumes nothing.
+-- stays below 2 ^ 16. In exact a cell is asked for one pitch (`exact_pitch`), in octave for one class (`octave_class`). Assumes
+-- nothing.
 use mathlib.Core.Path.{◌≡◌, refl, sym, ap, ◌∙◌}
-use mathlib.Core.Bool.{Bool, true, false, cond}
+use mathlib.Core.Bool.{Bool, true, false, cond, ◌&&◌}
 use mathlib.Core.Logic.{◌⊎◌, inl, inr}
 use mathlib.Core.List.{List, [], ◌∷◌, ◌++◌}
 use Prim.Native.Nat.{ℕ, zero, suc, ◌+◌, ◌-◌, ◌*◌, ◌%◌, ◌^◌, ◌≤◌, ◌<◌, zero-le}
@@ -9,18 +10,18 @@ use native.Mathlib.Nat.{one-le-pow, pow-suc, zero-mul, not-suc-le-zero, le_of_su
 use native.Mathlib.Decide.{dec_le}
 use native.Mathlib.Numerals.{add-one}
 use native.Mathlib.Omega.{arith}
-use lib.Dec.{eqb}
+use lib.Dec.{leb, eqb}
 use lib.ListN.{length, get_or, take, length-take}
 use lib.Seq.{take-suc, take_all}
 use mir.Val.{bool_byte}
-use borrow.Author.Tests.{ne_eqb}
+use borrow.Author.Tests.{ne_eqb, le-leb, lt-leb}
 use Rattle.theory.proofs.Masks.{one_shl}
 use Rattle.score.specs.declared.quantities.Pitch.{Pitch}
 use Rattle.score.specs.Limits.{most_tracks, highest_pitch}
-use Rattle.ways.specs.declared.way.Way.TheVariants.{Exact}
+use Rattle.ways.specs.declared.way.Way.TheVariants.{Exact, Octave}
 use Rattle.ways.proofs.Holding.{eqb_same, holds_below, holds_above}
 use Rattle.seeking.specs.Track.{cell_holds}
-use Rattle.seeking.proofs.Tracks.{cell_rest, cell_exact}
+use Rattle.seeking.proofs.Tracks.{cell_rest, cell_exact, cell_octave}
 use Rattle.routing.specs.TrackSets.{set_of}
 
 pub bit_le : (b : Bool) → cond b 1 0 ≤ 1
@@ -99,7 +100,7 @@ module _ (test : ℕ → Bool) where
     pub added_end : {i set : ℕ} → Added i set → length cells ≤ i → set ≡ set_of test cells
     added_end {i} {set} a h = a.so_far ∙ ap (set_of test) (take_all i cells h)
 
--- ---- the cells that are one pitch
+-- ---- the cells that are one pitch, or of one class
 
 -- two tests that say the same of each cell
 pub set_agree : (f g : ℕ → Bool) (cells : List ℕ) → ((cell : ℕ) → f cell ≡ g cell) → set_of f cells ≡ set_of g cells
@@ -134,3 +135,16 @@ module _ (code : ℕ) (p : Pitch) (column : List ℕ) where
       none : (cell : ℕ) → (p.0 + code < 127) ⊎ ((127 ≤ p.0 + code) × (254 < p.0 + code)) → false ≡ cell_holds Exact code p cell
       none cell (inl below) = holds_below code p (cell ∷ []) below
       none cell (inr above) = holds_above code p (cell ∷ []) above.1
+
+  -- a pitch of the moved note's class, or not
+  class_is : (cell : ℕ) → (leb cell highest_pitch && eqb (cell % 12) ((p.0 + code) % 12)) ≡ cell_holds Octave code p cell
+  class_is cell = pick (dec_le cell highest_pitch)
+    where
+      pick : Dec (cell ≤ highest_pitch) → (leb cell highest_pitch && eqb (cell % 12) ((p.0 + code) % 12)) ≡ cell_holds Octave code p cell
+      pick (yes l) = rw (le-leb cell highest_pitch l) (cell_octave code p cell l)
+      pick (no l) = rw (lt-leb cell highest_pitch (omega (arith, l))) (cell_rest code p cell Octave (omega (arith, l)))
+
+  pub octave_class : {set : ℕ} → set ≡ set_of (λ cell. leb cell highest_pitch && eqb (cell % 12) ((p.0 + code) % 12)) column
+      → set ≡ set_of (cell_holds Octave code p) column
+  octave_class s =
+      s ∙ set_agree (λ cell. leb cell highest_pitch && eqb (cell % 12) ((p.0 + code) % 12)) (cell_holds Octave code p) column class_is

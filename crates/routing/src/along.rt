@@ -18,14 +18,17 @@ pub fn held_behind(tune: &Tune, way: Way, code: u16, passed: usize, sets: &mut [
     ensures { FoundAlong way code tune.now.theme.now (heard_of (drop passed (score_of tune.now.cells.now tune.now.tracks)))
         sets.old result sets.new }
 {
+    // a copy that no write to the sets can reach: through `tune` the fields are read again for each column, and a route along one
+    // track takes half as much time again
+    let own = *tune;
     let mut q: usize = 0;
-    for k in passed..columns_in(tune.cells, tune.tracks) {
-        let Some(&note) = tune.theme.get(q) else {
+    for k in passed..columns_in(own.cells, own.tracks) {
+        let Some(&note) = own.theme.get(q) else {
             return true;
         };
-        let base = k * tune.tracks;
-        let end = base + tune.tracks;
-        let column = &tune.cells[base..end];
+        let base = k * own.tracks;
+        let end = base + own.tracks;
+        let column = &own.cells[base..end];
         let set = holders(column, way, code, Pitch(note));
         if set != 0 {
             sets[q] = set;
@@ -34,5 +37,5 @@ pub fn held_behind(tune: &Tune, way: Way, code: u16, passed: usize, sets: &mut [
             return false;
         }
     }
-    q == tune.theme.len()
+    q == own.theme.len()
 }

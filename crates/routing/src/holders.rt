@@ -7,7 +7,6 @@ ghost use Rattle.seeking.specs.Track.{cell_holds};
 ghost use Rattle.routing.specs.TrackSets.{set_of, holders};
 
 use score::{HIGHEST_PITCH, Pitch};
-use seeking::cell_holds;
 use ways::Way;
 
 // The code of exact's shift 0.
@@ -23,7 +22,7 @@ pub fn holders(column: &[u8], way: Way, code: u16, p: Pitch) -> u32
 {
     match way {
         Way::Exact => exact_set(column, code, p) * 2,
-        Way::Octave => set_of(column, |cell| cell_holds(cell, Way::Octave, code, p)) * 2,
+        Way::Octave => octave_set(column, code, p) * 2,
     }
 }
 
@@ -38,6 +37,19 @@ fn exact_set(column: &[u8], code: u16, p: Pitch) -> u32
     }
     let wanted = (moved - UNMOVED) as u8;
     set_of(column, |cell| cell == wanted)
+}
+
+// In octave each cell is asked for the class of the moved note. It is computed once, and `&` asks without a branch, so that cells
+// are looked at several together; with `cell_holds` as the test they are not, and a route along 16 tracks takes a third more time.
+fn octave_set(column: &[u8], code: u16, p: Pitch) -> u32
+    requires { length column.now ≤ most_tracks }
+    ensures { result ≡ set_of (cell_holds Way.Octave code p) column.now }
+{
+    let class = ((p.0 as u32 + code as u32) % 12) as u8;
+    set_of(
+        column,
+        |cell| (cell <= HIGHEST_PITCH) & (cell % 12 == class),
+    )
 }
 
 // The cells that pass the test, the first cell as bit 0.

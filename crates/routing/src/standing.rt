@@ -19,10 +19,13 @@ pub fn held_at(tune: &Tune, way: AnyWay, pair: Pair, sets: &mut [u32]) -> bool
     ensures { FoundAt (is_listed way (score_of tune.now.cells.now tune.now.tracks) tune.now.theme.now pair) (way_as way)
         (score_of tune.now.cells.now tune.now.tracks) tune.now.theme.now pair sets.old result sets.new }
 {
-    match way {
-        AnyWay::Moved(w) => held_moved(tune, w, pair, sets),
-        AnyWay::Written => pair.shift == 0 && held_moved(tune, Way::Exact, pair, sets),
-    }
+    // one call for both, which is inlined; with a call in each arm it is not, `tune` goes through memory, and a route along one
+    // track takes a third more time
+    let (w, asked) = match way {
+        AnyWay::Moved(w) => (w, true),
+        AnyWay::Written => (Way::Exact, pair.shift == 0),
+    };
+    asked && held_moved(tune, w, pair, sets)
 }
 
 // Whether the score has a column of this number, and this column a pitch.

@@ -1,5 +1,4 @@
 -- `routing::holders::holders` meets its contract, by cases of the way.
-use borrow.Author.Rules.{rules}
 use native.Mathlib.Omega.{arith}
 use Rattle.score.specs.Limits.{most_tracks}
 use Rattle.ways.specs.declared.way.Way.TheVariants.{Exact, Octave}
@@ -15,4 +14,4 @@ overflow_mul-result c =
 pub overflow_mul-result-in-Octave : goal.overflow_mul-result-in-Octave
 overflow_mul-result-in-Octave c =
     let a = c.args in
-    omega (arith, c.set_of.ensures (cell_holds Octave a.code a.p) (λ cell b l k. search rules), set_lt (cell_holds Octave a.code a.p) a.column.now most_tracks c.requires)
+    omega (arith, c.octave_set.ensures, set_lt (cell_holds Octave a.code a.p) a.column.now most_tracks c.requires)
