@@ -22,6 +22,9 @@ fn taken(register: u32, cells: &[u8], h: usize, words: &[u32; BYTES], k: usize) 
 
 // Goes along the columns behind the first `from` and writes, from the front, the number of each at which the theme stands, with
 // the shift 0, until there is no column left or no room. Gives how many it wrote.
+// It stays a function of its own: amid a page's other code its loops are moved by what stands before them, and take up to half
+// as long again where a jump then lies across a border of 32 bytes.
+#[inline(never)]
 pub fn list_from(
     cells: &[u8],
     h: usize,
@@ -40,15 +43,19 @@ pub fn list_from(
     let top = (m - 1) as u32;
     let mut register: u32 = 0xffff_ffff;
     let mut found: usize = 0;
+    // Room is tested here and behind each pair: with a test at each column, one track takes a fifth longer.
+    if columns.is_empty() {
+        return found;
+    }
     for k in from..n {
-        if found == columns.len() {
-            break;
-        }
         register = taken(register, cells, h, words, k);
         if marks(register, top) {
             columns[found] = (k + 2 - m) as u16;
             shifts[found] = 0;
             found += 1;
+            if found == columns.len() {
+                break;
+            }
         }
     }
     found

@@ -23,17 +23,19 @@ pub fn words_of(theme: &[u8]) -> [u32; BYTES]
 // The words of a column's cells, and-ed: all ones where there are only rests. After the first cell it takes two a turn,
 // and then the one that may be left.
 // The index stays: tried as a `fold` over the cells and as `chunks_exact(2)`, both take longer where there are few tracks.
+// The last place is reckoned once, before the loop: with `i + 1` in its test a turn has one sum more.
 pub fn column_word(column: &[u8], words: &[u32; BYTES]) -> u32
     requires { 1 ≤ length column.now }
     ensures { (theme : List ℕ) → Words theme words.now → result ≡ cells_word word_bits theme column.now }
 {
     let mut word = words[column[0] as usize];
+    let last = column.len() - 1;
     let mut i = 1;
-    while i + 1 < column.len() {
+    while i < last {
         word = word & words[column[i] as usize] & words[column[i + 1] as usize];
         i += 2;
     }
-    if i < column.len() {
+    if i == last {
         return word & words[column[i] as usize];
     }
     word

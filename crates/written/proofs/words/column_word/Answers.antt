@@ -12,8 +12,8 @@ loop-i-preserved c =
       omega arith,
     )
 
-pub returns-then-i-column : goal.returns-then-i-column
-returns-then-i-column c =
+pub returns-then-i-last : goal.returns-then-i-last
+returns-then-i-last c =
     let a = c.loop-i in
     λ theme t. looked_last t c.args.column.now a.i (a.invariant.0 theme t) (omega arith) (omega (arith, c.type_inv.column a.i))
 
