@@ -15,9 +15,16 @@ pub fn digit_at(text: &[u8], at: usize) -> Option<u8>
 }
 
 // Whether the word stands at the place.
-#[tactic(auto, using(crate::proofs::Standing::stands_is))]
 pub fn stands(text: &[u8], from: usize, word: &[u8]) -> bool
     ensures { result ≡ begins word.now (drop from text.now) }
 {
-    text.get(from..).unwrap_or(&[]).starts_with(word)
+    // No `starts_with` of what is left: a wrong loop differs from this one in a sign, and so is refused for what it answers.
+    let mut at = from;
+    for &letter in word {
+        match text.get(at) {
+            Some(&b) if b == letter => at += 1,
+            _ => return false,
+        }
+    }
+    true
 }
