@@ -2,7 +2,7 @@
 -- where the input is not right both as they were (`takes_kept`); and what a caller reads off it, of buffers that are long
 -- enough (`took_right`, `took_bad`, `took_short`). Assumes nothing.
 use mathlib.Core.Path.{◌≡◌, refl, sym, ap, ◌∙◌}
-use mathlib.Core.Bool.{Bool, true, false, ◌||◌}
+use mathlib.Core.Bool.{Bool, true, false, ◌||◌, true≢false}
 use mathlib.Core.Logic.{◌⊎◌, inl, inr}
 use mathlib.Core.List.{List, ◌++◌}
 use Prim.Native.Nat.{ℕ, zero, suc, ◌+◌, ◌*◌, ◌≤◌, ◌<◌}
@@ -11,7 +11,7 @@ use native.Mathlib.Omega.{arith}
 use lib.Dec.{ltb}
 use lib.ListN.{length, take, drop}
 use lib.Seq.{take-add, length-take-le}
-use borrow.Author.Tests.{le-ltb, lt-ltb}
+use borrow.Author.Tests.{le-ltb, lt-ltb, ltb-false}
 use Rattle.std.specs.Prelude.{Result, Ok, Err}
 use Rattle.theory.specs.Lists.{over, join}
 use Rattle.asking.specs.Limits.{most_notes}
@@ -56,6 +56,28 @@ short_some theme cells (inr h) = rw (le-ltb (length theme) most_notes h.0, lt-lt
 -- both are not
 long_both : (theme cells : List ℕ) → most_notes ≤ length theme → most_cells ≤ length cells → short theme cells ≡ false
 long_both theme cells h l = rw (le-ltb (length theme) most_notes h, le-ltb (length cells) most_cells l)
+
+pub both_long : (theme cells : List ℕ) → short theme cells ≡ false → (most_notes ≤ length theme) × (most_cells ≤ length cells)
+both_long theme cells = step (ltb (length theme) most_notes) (ltb (length cells) most_cells) refl refl
+  where
+    step : (s t : Bool) → ltb (length theme) most_notes ≡ s → ltb (length cells) most_cells ≡ t → (s || t) ≡ false
+        → (most_notes ≤ length theme) × (most_cells ≤ length cells)
+    step false false p q e = (ltb-false (length theme) most_notes p, ltb-false (length cells) most_cells q)
+    step true t p q e = absurd (true≢false e)
+    step false true p q e = absurd (true≢false e)
+
+-- what was read is no more than there is room for
+pub record Within (r : Reading) : Type 0 where
+  pub notes_few : r.notes ≤ most_notes
+  pub cells_few : r.columns * r.tracks ≤ most_cells
+
+pub held_within : {input : List ℕ} {r : Reading} {notes cells : List ℕ} → Held input (Ok r) notes cells → Within r
+held_within {r = r} w =
+    let h = w.is in
+    record {
+      notes_few = h.notes_few;
+      cells_few = mul-le-mul {n₁ = r.columns} {m₁ = r.tracks} {n₂ = most_columns} {m₂ = most_tracks} h.columns_few h.tracks_few;
+    }
 
 -- the promise by what an input means, of buffers that are long enough
 pub record As (m : Meaning) (theme cells : List ℕ) (answer : Result Reading ReadError) (theme' cells' : List ℕ) : Type 0 where
@@ -108,9 +130,9 @@ module _ (input theme cells : List ℕ) where
         → Takes input theme cells (Ok r) (ns ++ drop r.notes theme) (cs ++ drop (r.columns * r.tracks) cells)
     takes_held {r} {notes₁} {cells₁} w as-notes as-cells t s =
         let h = w.is in
-        let few : r.notes ≤ length notes₁ = omega (arith, as-notes, h.notes_few) in
-        let many : r.columns * r.tracks ≤ length cells₁ =
-        omega (arith, as-cells, mul-le-mul {n₁ = r.columns} {m₁ = r.tracks} {n₂ = most_columns} {m₂ = most_tracks} h.columns_few h.tracks_few) in
+        let fits = held_within w in
+        let few : r.notes ≤ length notes₁ = omega (arith, as-notes, fits.notes_few) in
+        let many : r.columns * r.tracks ≤ length cells₁ = omega (arith, as-cells, fits.cells_few) in
         let one : (0 + 1) * r.tracks ≤ length cells₁ = omega (arith, as-cells, h.tracks_few, one-mul r.tracks) in
         takes_as (long_both theme cells long big) h.is
         (record {
