@@ -34,10 +34,9 @@ fn roomy(score: Score<'_>, j: usize, m: usize) -> bool {
 
 // How many notes stand at column j with shift c, from the first to the one before the first that is missing: the first in
 // column j, each other one in the next column with a pitch. Where it is asked there are enough of them.
-fn standing(case: Case<'_>, a: Ask, j: usize, c: i16) -> usize {
-    let score = score_of(case.cells, a);
+fn standing(score: Score<'_>, theme: &[u8], a: Ask, j: usize, c: i16) -> usize {
     let mut k = j;
-    for (i, &note) in case.theme.iter().take(a.notes).enumerate() {
+    for (i, &note) in theme.iter().take(a.notes).enumerate() {
         if !score.holds(k, note, c, a.way) {
             return i;
         }
@@ -58,11 +57,12 @@ fn looks_of(way: Way, stood: usize, m: usize) -> usize {
 
 // The first pair of column j from a shift on.
 fn in_column(case: Case<'_>, a: Ask, j: usize, from: i16) -> Found {
+    let score = score_of(case.cells, a);
     let mut looks: usize = 0;
     for s in 0..span(a.way) {
         let shift = shift_at(a.way, s);
         if from <= shift {
-            let stood = standing(case, a, j, shift);
+            let stood = standing(score, case.theme, a, j, shift);
             looks = more(looks, looks_of(a.way, stood, a.notes));
             if stood == a.notes {
                 let pair = Some(Pair { column: j, shift });

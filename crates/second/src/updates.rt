@@ -11,7 +11,8 @@ use crate::totals::more;
 pub fn update_right(cells: &[u8], old: &[u16], sets: &[u16], a: Ask, c: u16) -> bool {
     let score = score_of(cells, a);
     let changed = usize::from(c);
-    let nearest = (1..changed).rev().find(|&k| score.heard(k));
+    // all columns before it are gone through
+    let nearest = (1..changed).filter(|&k| score.heard(k)).last();
     sets.iter().zip(old).take(a.sets).enumerate().all(|(i, (&set, &before))| {
         let k = more(i, 1);
         if k == changed || nearest == Some(k) {

@@ -83,5 +83,8 @@ pub fn same(way: Way, z: i32) -> bool
 
 // Whether a way counts looks; written has none. Only a way that counts them has a quick search, which is there to save them.
 pub fn counted(way: Way) -> bool {
-    way != Way::Written
+    match way {
+        Way::Exact | Way::Octave => true,
+        Way::Written => false,
+    }
 }
