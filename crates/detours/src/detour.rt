@@ -40,6 +40,6 @@ pub fn second_route(cells: &[u8], theme: &[u8], a: Ask, method: Method) -> Detou
     let held = tracks_held(cells, theme, a);
     Ok(match method {
         Method::Every => by_every(&held, a.h, a.notes),
-        Method::Ahead => by_ahead(&held, a.notes),
+        Method::Ahead => by_ahead(&held, a.h, a.notes),
     })
 }
