@@ -1,7 +1,7 @@
 // What is turned away: both ends of every range, each refusal alone, and each two together. Every job here is one call on
 // changes to an accepted one: of the three in turn, or, in written, of the plain one.
 
-ghost use Rattle.std.specs.Prelude.{◌/◌, ◌<◌, IsSome, length};
+ghost use Rattle.std.specs.Prelude.{◌≡◌, ◌↔◌, ◌-◌, ◌/◌, ◌<◌, ◌≤◌, IsSome, IfSome, Some, length, slice_get};
 
 use crate::changes::{Change, What, changed, place_of};
 use crate::job::{CALLS, Due, Head, Job, Source};
@@ -104,7 +104,11 @@ pub fn end_in(ends: &[End], k: usize, p: usize) -> Option<Change>
 }
 
 // The fault of a refusal by its number from 1, and by its variant.
-pub fn fault_in(faults: &[[Fault; 3]], number: usize, variant: usize) -> Option<Change> {
+pub fn fault_in(faults: &[[Fault; 3]], number: usize, variant: usize) -> Option<Change>
+    ensures some { IsSome result ↔ ((0 < number) × (number ≤ length faults.now) × (variant < 3)) }
+    ensures fault { IfSome result (λ c. IfSome (slice_get faults.now (number - 1)) (λ row.
+        slice_get row variant ≡ Some (c.what, c.place, c.value))) }
+{
     let row = faults.get(number.checked_sub(1)?)?;
     let &(what, place, value) = row.get(variant)?;
     Some(Change { what, place, value })

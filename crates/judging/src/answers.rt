@@ -1,6 +1,7 @@
 // The library's answers as plain numbers, and its preparation, on the part of the lent buffers that is asked for.
 
 ghost use Rattle.std.specs.Prelude.{◌≡◌, ◌≤◌, ◌↔◌, IfErr, IfOk, IsNone, IsOk, length, take};
+ghost use Rattle.score.specs.Refusals.{number_of};
 
 use preparing::prepare;
 use score::Refusal;
@@ -66,7 +67,8 @@ pub fn number_in(denied: Option<Denied>) -> Option<usize>
 
 // A refusal of the library.
 pub fn away_in(r: Refusal) -> Away
-    ensures { result.place ≡ r.place }
+    ensures number { result.number ≡ number_of r.rule }
+    ensures place { result.place ≡ r.place }
 {
     Away {
         number: r.rule.number(),
@@ -75,6 +77,12 @@ pub fn away_in(r: Refusal) -> Away
 }
 
 impl From<Refusal> for Denied {
+    ghost use Rattle.std.specs.Prelude.{◌≡◌};
+    ghost use Rattle.score.specs.Refusals.{number_of};
+    ghost use Rattle.judging.specs.declared.answers.Denied.TheVariants.{Away};
+
+    ghost from_gives = { λ r denied. denied ≡ Away (record { number = number_of r.rule; place = r.place }) };
+
     fn from(r: Refusal) -> Denied {
         Denied::Away(away_in(r))
     }
