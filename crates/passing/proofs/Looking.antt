@@ -11,8 +11,9 @@ use native.Mathlib.Omega.{arith}
 use lib.Dec.{leb, ltb}
 use lib.ListN.{length, get_or, take, drop, length-drop}
 use lib.Seq.{drop-drop, get_or-drop}
-use borrow.Author.Tests.{le-leb, leb-true, leb-false, lt-ltb, le-ltb, ltb-false}
+use borrow.Author.Tests.{lt-leb, le-leb, leb-true, leb-false, lt-ltb, le-ltb, ltb-false}
 use Rattle.theory.specs.Lists.{some}
+use Rattle.theory.proofs.Scans.{Flagged, flagged_more, flagged_end}
 use Rattle.theory.proofs.Lists.{some_at, some_none, none_some}
 use Rattle.score.specs.Limits.{highest_pitch}
 use Rattle.score.specs.Score.{cut, columns_in, score_of, heard, has_empty}
@@ -35,9 +36,20 @@ no_pitch_not cell = step (is_pitch cell) refl
     step true e = rw (le-ltb highest_pitch cell (leb-true cell highest_pitch e))
     step false e = rw (lt-ltb highest_pitch cell (leb-false cell highest_pitch e))
 
--- a pitch is found
-heard_at : (column : List ℕ) (i : ℕ) → i < length column → get_or column i 0 ≤ highest_pitch → false ≡ not (heard column)
-heard_at column i h p = rw (some_at is_pitch column 0 i h (le-leb _ _ p))
+module _ (column : List ℕ) where
+  -- a pitch is found
+  heard_at : (i : ℕ) → i < length column → get_or column i 0 ≤ highest_pitch → false ≡ not (heard column)
+  heard_at i h p = rw (some_at is_pitch column 0 i h (le-leb _ _ p))
+
+  pub heard_here : {i : ℕ} → Flagged is_pitch column i false → i < length column → get_or column i 0 ≤ highest_pitch → false ≡ not (heard column)
+  heard_here {i} f h p = heard_at i h p
+
+  -- or none
+  pub rest_more : {i : ℕ} → Flagged is_pitch column i false → i < length column → highest_pitch < get_or column i 0 → Flagged is_pitch column (i + 1) false
+  rest_more f h p = flagged_more is_pitch column 0 f h (sym (lt-leb _ _ p))
+
+  pub empty_end : {i : ℕ} → Flagged is_pitch column i false → length column ≤ i → true ≡ not (heard column)
+  empty_end f h = ap not (flagged_end is_pitch column f h)
 
 -- ---- the columns from a place on
 
